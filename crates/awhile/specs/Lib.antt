@@ -1,0 +1,8 @@
+-- The language and its table, in reading order.
+pub mod Language
+pub mod Lists
+pub mod Refusals
+pub mod Nodes
+pub mod Tables
+pub mod Trees
+pub mod Encoding

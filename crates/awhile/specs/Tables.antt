@@ -1,0 +1,179 @@
+-- Reading a table of bytes: its declarations and nodes, or the refusal of the first record that fails.
+-- "The first failing record decides. Within it: 1 (head), 2, 1 (body), 3, 4, 5. Then 6, 7."
+use Prim.Native.Nat.{ℕ, zero, suc, _+_, _*_, _-_, _^_, _<_}
+use mathlib.Core.Bool.{Bool, true, false, cond, _&&_}
+use mathlib.Core.Path.{_≡_}
+use mathlib.Core.List.{List, [], _∷_, _++_, map, flatMap}
+use lib.ListN.{length, getD, take}
+use lib.Dec.{eqb, ltb, leb}
+use Rattle.bytes_le.specs.Numbers.{leAt}
+use Rattle.awhile.specs.Lists.{sum, all, occurrences}
+use Rattle.awhile.specs.Refusals.{Answer, refused, got, check, andThen}
+use Rattle.awhile.specs.Nodes.{sizeOf, sortOf, sameSort, decodeAt, inRange, sorted, childrenOf}
+use Rattle.awhile.specs.declared.Labelling.{Labelling}
+use Rattle.awhile.specs.declared.Sort.the-variants.{Command}
+use Rattle.awhile.specs.declared.Node.{Node}
+use Rattle.awhile.specs.declared.Node.the-variants.{Skip}
+use Rattle.awhile.specs.declared.Decoded.{Decoded}
+use Rattle.awhile.specs.declared.Decoded.the-variants.{Known, Unknown}
+use Rattle.awhile.specs.declared.Refusal.{Refusal}
+use Rattle.awhile.specs.declared.Refusal.the-variants.{Cut, WrongRecord, BeyondLimit, OutOfRange, WrongSort, ExtraBytes}
+
+-- ---- the limits: "V is 0 to 32, A 0 to 16, N 1 to 4,096; a cell count is 1 or more and the counts sum to at most 16,384"
+abbrev pub maxVariables : ℕ
+maxVariables = 32
+
+abbrev pub maxArrays : ℕ
+maxArrays = 16
+
+abbrev pub maxNodes : ℕ
+maxNodes = 4096
+
+abbrev pub maxCells : ℕ
+maxCells = 16384
+
+-- ---- what a table holds
+pub record Header : Type 0 where
+  pub variables : ℕ
+  pub arrays : ℕ
+  pub nodes : ℕ
+
+-- variables declared, the labels record, the arrays' cell counts, the nodes by number
+pub record Table : Type 0 where
+  pub variables : ℕ
+  pub labels : Labelling
+  pub counts : List ℕ
+  pub nodes : List Node
+
+-- ---- where records stand: the header at 0, the labels at 10, the arrays from 20, then the nodes
+abbrev pub headerSize : ℕ
+headerSize = 10
+
+abbrev pub labelsSize : ℕ
+labelsSize = 10
+
+abbrev pub arraySize : ℕ
+arraySize = 6
+
+abbrev pub nodesStart : (arrays : ℕ) → ℕ
+nodesStart a = headerSize + labelsSize + arraySize * a
+
+-- the byte offset of a node's record, and of the first byte after the last one
+unfoldable pub offsetOf : Table → (node : ℕ) → ℕ
+offsetOf t n = nodesStart (length (t .counts)) + sum (map sizeOf (take n (t .nodes)))
+
+-- ---- one record
+-- 1 (head), 2, 1 (body): four bytes remain, the length is the one wanted at this point (0: the kind is not), and so many remain
+unfoldable pub framed : {A : Type 0} → List ℕ → (at wanted : ℕ) → Answer A → Answer A
+framed s at wanted rest =
+    check (leb (at + 4) (length s)) (Cut at)
+    (check (ltb 0 wanted && eqb (leAt 2 s at) wanted) (WrongRecord at)
+    (check (leb (at + wanted) (length s)) (Cut at)
+    rest))
+
+-- the length wanted of a record that must be of one kind
+unfoldable pub lengthOfKind : (kind size : ℕ) → List ℕ → (at : ℕ) → ℕ
+lengthOfKind kind size s at = cond (eqb (leAt 2 s (at + 2)) kind) size 0
+
+-- kind 1: version (1), variables V (1 byte), arrays A (1 byte), nodes N
+unfoldable pub readHeader : List ℕ → Answer Header
+readHeader s =
+    framed s 0 (lengthOfKind 1 headerSize s 0)
+    (check (eqb (leAt 2 s 4) 1 && leb (leAt 1 s 6) maxVariables && leb (leAt 1 s 7) maxArrays && ltb 0 (leAt 2 s 8) && leb (leAt 2 s 8) maxNodes) (BeyondLimit 0)
+    (got (record { variables = leAt 1 s 6; arrays = leAt 1 s 7; nodes = leAt 2 s 8 })))
+
+-- kind 3: variable mask (4 bytes), array mask; "bits from V or A up are 0"
+unfoldable pub readLabels : List ℕ → Header → Answer Labelling
+readLabels s h =
+    framed s 10 (lengthOfKind 3 labelsSize s 10)
+    (check (ltb (leAt 4 s 14) (2 ^ h .variables) && ltb (leAt 2 s 18) (2 ^ h .arrays)) (BeyondLimit 10)
+    (got (record { variables = leAt 4 s 14; arrays = leAt 2 s 18 })))
+
+-- kind 2: cell count, 1 or more; the counts so far, this one included, sum to at most 16,384
+unfoldable pub readCount : List ℕ → (at before : ℕ) → Answer ℕ
+readCount s at before =
+    framed s at (lengthOfKind 2 arraySize s at)
+    (check (ltb 0 (leAt 2 s (at + 4)) && leb (before + leAt 2 s (at + 4)) maxCells) (BeyondLimit at)
+    (got (leAt 2 s (at + 4))))
+
+-- so many array records from an offset, after the counts already read
+unfoldable pub readCounts : (left : ℕ) → List ℕ → (at : ℕ) → List ℕ → Answer (List ℕ)
+readCounts zero s at before = got before
+readCounts (suc left) s at before =
+    elim (readCount s at (sum before)) [
+      | refused r ↦ refused r
+      | got count ↦ readCounts left s (at + arraySize) (before ++ (count ∷ []))
+    ]
+
+-- the record of the next node, after the nodes already read
+unfoldable pub readNode : Header → List ℕ → (at : ℕ) → List Node → Answer Node
+readNode h s at before =
+    elim (decodeAt s at) [
+      | Unknown ↦ framed s at 0 (got Skip)
+      | Known n ↦
+          framed s at (sizeOf n)
+          (check (inRange (h .variables) (h .arrays) (length before) n) (OutOfRange at)
+          (check (sorted before n) (WrongSort at)
+          (got n)))
+    ]
+
+-- so many node records from an offset, after the nodes already read
+unfoldable pub readNodes : (left : ℕ) → Header → List ℕ → (at : ℕ) → List Node → Answer (List Node)
+readNodes zero h s at before = got before
+readNodes (suc left) h s at before =
+    elim (readNode h s at before) [
+      | refused r ↦ refused r
+      | got n ↦ readNodes left h s (at + sizeOf n) (before ++ (n ∷ []))
+    ]
+
+-- all records, each checked by itself: causes 1 to 5
+unfoldable pub readRecords : List ℕ → Answer Table
+readRecords s =
+    andThen (readHeader s) (λ h.
+    andThen (readLabels s h) (λ l.
+    andThen (readCounts (h .arrays) s 20 []) (λ cs.
+    andThen (readNodes (h .nodes) h s (nodesStart (h .arrays)) []) (λ ns.
+    got (record { variables = h .variables; labels = l; counts = cs; nodes = ns })))))
+
+-- ---- the nodes as one tree
+-- how often a node is a child
+unfoldable pub usesOf : List Node → (node : ℕ) → ℕ
+usesOf ns n = occurrences n (flatMap childrenOf ns)
+
+-- 6: a node is in order if it is a child exactly once or, as the last, is a command
+unfoldable pub inOrder : List Node → (node : ℕ) → Bool
+inOrder ns n = cond (eqb (suc n) (length ns)) (sameSort (sortOf (getD ns n Skip)) Command) (eqb (usesOf ns n) 1)
+
+-- the first so many nodes are in order
+unfoldable pub allInOrder : List Node → (count : ℕ) → Bool
+allInOrder ns zero = true
+allInOrder ns (suc n) = inOrder ns n && allInOrder ns n
+
+-- "a node that breaks that rule": what document 01 leaves free is which of these a refusal by 6 names
+pub record BreaksRule (t : Table) (place : ℕ) : Type 0 where
+  pub node : ℕ
+  pub isNode : node < length (t .nodes)
+  pub broken : inOrder (t .nodes) node ≡ false
+  pub isPlace : place ≡ offsetOf t node
+
+-- ---- the whole table
+-- refused by one of 1 to 5 or 7; refused by 6, at the record of any node that breaks the rule; or accepted
+pub data Reading : Type 0 where
+  rejected : Refusal → Reading
+  notATree : Table → Reading
+  accepted : Table → Reading
+
+-- 6, then 7: "bytes after node N-1", at the first extra byte
+unfoldable pub checkWhole : List ℕ → Table → Reading
+checkWhole s t =
+    let end = offsetOf t (length (t .nodes)) in
+    cond (allInOrder (t .nodes) (length (t .nodes)))
+    (cond (leb (length s) end) (accepted t) (rejected (ExtraBytes end)))
+    (notATree t)
+
+unfoldable pub readTable : List ℕ → Reading
+readTable s =
+    elim (readRecords s) [
+      | refused r ↦ rejected r
+      | got t ↦ checkWhole s t
+    ]

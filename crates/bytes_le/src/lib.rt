@@ -1,0 +1,1 @@
+// Little-endian numbers in byte slices.

@@ -1,0 +1,54 @@
+-- The entries that write bytes into a lent buffer: the label sheet and the hardened table.
+use Prim.Native.Nat.{ℕ}
+use mathlib.Core.Bool.{cond}
+use mathlib.Core.List.{List, [], _∷_}
+use lib.ListN.{length}
+use lib.Dec.{leb, ltb}
+use Rattle.awhile.specs.Refusals.{Answer, refused, got, check, andThen, refusalNumber}
+use Rattle.awhile.specs.Tables.{Table, maxVariables}
+use Rattle.awhile.specs.Encoding.{tableBytes}
+use Rattle.awhile.specs.declared.Refusal.{Refusal}
+use Rattle.awhile.specs.declared.Refusal.the-variants.{TooManyNodes, NoFreeVariable, ShortBuffer}
+use Rattle.labels.specs.Sheet.{sheetBytes}
+use Rattle.machine.specs.Memory.{writtenOver}
+use Rattle.masks.specs.Hardening.{hardenedTable}
+use Rattle.flow.specs.Answers.{answered, refusalNumbers, tableIn}
+
+-- the result (the answer's first number), the buffer and the answer slice at exit
+pub record Written : Type 0 where
+  pub result : ℕ
+  pub buffer : List ℕ
+  pub answer : List ℕ
+
+-- "All lent memory is unchanged."
+unfoldable pub notWritten : Refusal → (buffer answer : List ℕ) → Written
+notWritten r buffer answer = record { result = refusalNumber r; buffer = buffer; answer = answered (refusalNumbers r) answer }
+
+-- "An accepted call answers 0, then the byte length of the sheet, table or list it wrote"
+unfoldable pub writtenAll : List ℕ → (buffer answer : List ℕ) → Written
+writtenAll out buffer answer =
+    record { result = 0; buffer = writtenOver out buffer; answer = answered (0 ∷ length out ∷ []) answer }
+
+-- 23: "sheet or hardened table longer than its buffer. Exact length suffices"
+unfoldable pub writing : Answer (List ℕ) → (buffer answer : List ℕ) → Written
+writing (refused r) buffer answer = notWritten r buffer answer
+writing (got out) buffer answer =
+    cond (leb (length out) (length buffer)) (writtenAll out buffer answer) (notWritten ShortBuffer buffer answer)
+
+-- flow_sheet(table, sheet, answer)
+unfoldable pub sheetEntry : (placeOf6 : ℕ) → (table sheet answer : List ℕ) → Written
+sheetEntry place table sheet answer = writing (andThen (tableIn table place) (λ t. got (sheetBytes t))) sheet answer
+
+-- 8: hardening with N above 512; 9: hardening with V = 32
+abbrev pub maxHardened : ℕ
+maxHardened = 512
+
+unfoldable pub hardenedIn : Table → Answer (List ℕ)
+hardenedIn t =
+    check (leb (length (t .nodes)) maxHardened) TooManyNodes
+    (check (ltb (t .variables) maxVariables) NoFreeVariable
+    (got (tableBytes (hardenedTable t))))
+
+-- flow_harden(table, out, answer)
+unfoldable pub hardenEntry : (placeOf6 : ℕ) → (table out answer : List ℕ) → Written
+hardenEntry place table out answer = writing (andThen (tableIn table place) hardenedIn) out answer

@@ -1,0 +1,1 @@
+// The exported entries, and nothing else.

@@ -1,0 +1,1 @@
+// Secret and public labels, followed through a program.

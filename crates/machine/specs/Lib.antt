@@ -1,0 +1,8 @@
+-- The two machines, in reading order.
+pub mod Observations
+pub mod Directives
+pub mod Look
+pub mod Steps
+pub mod Runs
+pub mod Memory
+pub mod Prefixes

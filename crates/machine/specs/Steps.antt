@@ -1,0 +1,73 @@
+-- One step of a machine under a directive (figure 7 of source 004). The plain machine takes every step by the directive `Step`.
+use Prim.Native.Nat.{ℕ, _+_}
+use mathlib.Core.Bool.{Bool, true, cond, _&&_}
+use mathlib.Core.Bool.{not as negated}
+use mathlib.Core.Option.{Option, none, some}
+use mathlib.Core.List.{List}
+use lib.ListN.{getD, set, take}
+use lib.Dec.{ltb}
+use Rattle.awhile.specs.Language.{Com}
+use Rattle.awhile.specs.Lists.{sum}
+use Rattle.machine.specs.declared.Directive.{Directive}
+use Rattle.machine.specs.declared.Directive.the-variants.{Step, Force, Load, Store}
+
+-- what a step starts from and leaves: the pending list, the variables, the cells array after array, and the machine's flag
+pub record State (Note : Type 0) : Type 0 where
+  pub pending : List (Com Note)
+  pub variables : List ℕ
+  pub cells : List ℕ
+  pub flag : Bool
+
+-- an array has a cell of this index; an array that is not declared has none
+unfoldable pub inside : (counts : List ℕ) → (array index : ℕ) → Bool
+inside counts a i = ltb i (getD counts a 0)
+
+-- where a cell stands: "cells (array after array by number)"
+unfoldable pub cellPlace : (counts : List ℕ) → (array index : ℕ) → ℕ
+cellPlace counts a i = sum (take a counts) + i
+
+unfoldable pub onlyIf : {A : Type 0} → Bool → A → Option A
+onlyIf b a = cond b (some a) none
+
+module _ {Note : Type 0} (counts : List ℕ) (s : State Note) where
+  -- a silent step
+  unfoldable pub quietly : List (Com Note) → List ℕ → State Note
+  quietly rest vs = record { pending = rest; variables = vs; cells = s .cells; flag = s .flag }
+
+  -- a branch goes on with one of its sides, with the flag as given
+  unfoldable pub turned : List (Com Note) → (flag : Bool) → State Note
+  turned rest f = record { pending = rest; variables = s .variables; cells = s .cells; flag = f }
+
+  -- a read that takes the cell of this array and index
+  unfoldable pub loaded : (variable array index : ℕ) → List (Com Note) → State Note
+  loaded x a i rest =
+      record { pending = rest; variables = set (s .variables) x (getD (s .cells) (cellPlace counts a i) 0); cells = s .cells; flag = s .flag }
+
+  -- a write to the cell of this array and index
+  unfoldable pub stored : (array index value : ℕ) → List (Com Note) → State Note
+  stored a i v rest =
+      record { pending = rest; variables = s .variables; cells = set (s .cells) (cellPlace counts a i) v; flag = s .flag }
+
+  -- "only if the flag is set and the program's own index is not below the cell count, use the named cell, which must exist"
+  unfoldable pub redirected : (array index namedArray namedIndex : ℕ) → Bool
+  redirected a i b j = s .flag && (negated (inside counts a i) && inside counts b j)
+
+  -- the state after a shown step under a directive, or none where index or directive does not fit.
+  -- "73 force, at a branch, goes the other way and sets the flag"; "In bounds only 72 fits."
+  unfoldable pub atFork : (value : Bool) → (onTrue onFalse : List (Com Note)) → Directive → Option (State Note)
+  atFork v onTrue onFalse Step = some (turned (cond v onTrue onFalse) (s .flag))
+  atFork v onTrue onFalse Force = some (turned (cond v onFalse onTrue) true)
+  atFork v onTrue onFalse (Load b j) = none
+  atFork v onTrue onFalse (Store b j) = none
+
+  unfoldable pub atGet : (variable array index : ℕ) → List (Com Note) → Directive → Option (State Note)
+  atGet x a i rest Step = onlyIf (inside counts a i) (loaded x a i rest)
+  atGet x a i rest Force = none
+  atGet x a i rest (Load b j) = onlyIf (redirected a i b j) (loaded x b j rest)
+  atGet x a i rest (Store b j) = none
+
+  unfoldable pub atPut : (array index value : ℕ) → List (Com Note) → Directive → Option (State Note)
+  atPut a i v rest Step = onlyIf (inside counts a i) (stored a i v rest)
+  atPut a i v rest Force = none
+  atPut a i v rest (Load b j) = none
+  atPut a i v rest (Store b j) = onlyIf (redirected a i b j) (stored b j v rest)

@@ -1,0 +1,18 @@
+// The plain and the guessing machine.
+
+// What the attacker picks for one shown step.
+pub enum Directive {
+    Step,
+    Force,
+    Load { array: usize, index: u32 },
+    Store { array: usize, index: u32 },
+}
+
+// Why a run is over.
+pub enum End {
+    Finished,
+    Spent,
+    OutOfDirectives,
+    Stuck,
+    Full,
+}

@@ -1,0 +1,3 @@
+-- Decisions, masks and the hardened program, in reading order.
+pub mod Decisions
+pub mod Hardening

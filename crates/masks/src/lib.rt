@@ -1,0 +1,1 @@
+// The hardened program: what needs masking is masked.
