@@ -4,3 +4,4 @@ pub mod Labellings
 pub mod Analysis
 pub mod Annotation
 pub mod Sheet
+pub mod Rules

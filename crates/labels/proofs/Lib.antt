@@ -1,0 +1,3 @@
+-- Laws of labels and of the analysis, in reading order.
+pub mod Booleans
+pub mod Values
