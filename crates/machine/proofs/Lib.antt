@@ -1,0 +1,3 @@
+-- Laws of the machines.
+pub mod Prefixes
+pub mod Traces
