@@ -1,0 +1,2 @@
+-- Laws of the hardened program, in reading order.
+pub mod Locked
