@@ -1,6 +1,6 @@
--- Labels as truths: what a join of two labels says of each of them.
-use mathlib.Core.Bool.{Bool, true, false, _||_}
-use mathlib.Core.Path.{_≡_, refl}
+-- Labels as truths: a label is below another (`le` of mathlib.Core.Bool) if the second is secret where the first is.
+use mathlib.Core.Bool.{Bool, true, false, le, _&&_, _||_, true≢false}
+use mathlib.Core.Path.{_≡_, refl, sym, _∙_}
 
 -- a public join has a public first part
 pub or-false-left : (a b : Bool) → (a || b) ≡ false → a ≡ false
@@ -9,5 +9,38 @@ or-false-left false b e = refl
 
 -- a public join has a public second part
 pub or-false-right : (a b : Bool) → (a || b) ≡ false → b ≡ false
-or-false-right true b e = absurd (mathlib.Core.Bool.true≢false e)
+or-false-right true b e = absurd (true≢false e)
 or-false-right false b e = e
+
+-- each part of a join is below it
+pub or-left : (a b : Bool) → le a (a || b)
+or-left true b e = refl
+or-left false b e = absurd (true≢false (sym e))
+
+pub or-right : (a b : Bool) → le b (a || b)
+or-right true b e = refl
+or-right false b e = e
+
+-- a join is below what both parts are below
+pub or-least : {a b c : Bool} → le a c → le b c → le (a || b) c
+or-least {a = true} h k = h
+or-least {a = false} h k = k
+
+-- joins of larger labels are larger
+pub or-mono : {a b c d : Bool} → le a c → le b d → le (a || b) (c || d)
+or-mono {a} {b} {c} {d} h k = or-least (λ e. or-left c d (h e)) (λ e. or-right c d (k e))
+
+-- labels below each other are equal
+pub le-antisym : {a b : Bool} → le a b → le b a → a ≡ b
+le-antisym {a = true} h k = sym (h refl)
+le-antisym {a = false} {b = true} h k = k refl
+le-antisym {a = false} {b = false} h k = refl
+
+-- both parts of a true conjunction are true
+pub and-left : (a b : Bool) → (a && b) ≡ true → a ≡ true
+and-left true b e = refl
+and-left false b e = e
+
+pub and-right : (a b : Bool) → (a && b) ≡ true → b ≡ true
+and-right true b e = e
+and-right false b e = absurd (true≢false (sym e))

@@ -1,3 +1,5 @@
 -- Laws of labels and of the analysis, in reading order.
 pub mod Booleans
 pub mod Values
+pub mod Masks
+pub mod Order

@@ -29,6 +29,7 @@ join l m = record { variables = bitOr (l .variables) (m .variables); arrays = bi
 unfoldable pub same : Labelling → Labelling → Bool
 same l m = eqb (l .variables) (m .variables) && eqb (l .arrays) (m .arrays)
 
+infix 4 _⊑_
 -- every mark that is secret in the first is secret in the second
 pub record _⊑_ (l m : Labelling) : Type 0 where
   pub at : (k : Mark) → labelOf l k ≡ true → labelOf m k ≡ true
