@@ -1,3 +1,4 @@
 -- Laws of the machines.
 pub mod Prefixes
 pub mod Traces
+pub mod Cells

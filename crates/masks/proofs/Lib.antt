@@ -1,2 +1,5 @@
 -- Laws of the hardened program, in reading order.
 pub mod Locked
+pub mod Agreement
+pub mod PlainRuns
+pub mod OneStep

@@ -1,0 +1,68 @@
+-- Two plain runs that are related stay related step by step, and show the same first observation.
+use Prim.Native.Nat.{ℕ, zero, suc}
+use mathlib.Core.Bool.{Bool, true, cond}
+use mathlib.Core.List.{List, [], _∷_, _++_, append-nil}
+use mathlib.Core.Path.{_≡_, refl, sym, ap, subst, subst₂, _∙_}
+use Rattle.awhile.specs.Language.{Com}
+use lib.ListN.{getD, set}
+use Rattle.machine.specs.Observations.{Observation, branch, readAt, writeAt}
+use Rattle.machine.specs.Look.{Look, quiet, fork, get, put, look}
+use Rattle.machine.specs.Steps.{State, inside, cellPlace, onlyIf, quietly, turned, loaded, stored, atFork, atGet, atPut}
+use Rattle.machine.specs.Runs.{Guide, plain}
+use Rattle.machine.specs.Prefixes.{OneBegins}
+use Rattle.machine.proofs.Prefixes.{one-begins-cons}
+use Rattle.machine.proofs.Traces.{turns, turnOf, shownTurn, turnIf, turnFrom, turn, trace-turns}
+use Rattle.masks.specs.Hardening.{Origin}
+use Rattle.masks.proofs.Locked.{PlainRelated, stateOf}
+
+-- lists with a common front are related where what follows is
+related-behind : (os : List Observation) {xs ys : List Observation} → OneBegins (os ++ xs) (os ++ ys) → OneBegins xs ys
+related-behind [] h = h
+related-behind (o ∷ os) h = related-behind os (one-begins-cons h .1)
+
+module _ (counts : List ℕ) (s t : State Origin) (h : PlainRelated counts s t) where
+  pub plain-after : (os : List Observation) (s′ t′ : State Origin)
+      → turn counts s plain ≡ turns os s′ plain → turn counts t plain ≡ turns os t′ plain → PlainRelated counts s′ t′
+  plain-after os s′ t′ p q =
+      record {
+          at = λ n m.
+            related-behind os
+            (subst₂ OneBegins (trace-turns counts n s plain os s′ plain p) (trace-turns counts m t plain os t′ plain q) (h .at (suc n) (suc m)))
+      }
+
+  pub plain-shows : (o u : Observation) (s′ t′ : State Origin)
+      → turn counts s plain ≡ turns (o ∷ []) s′ plain → turn counts t plain ≡ turns (u ∷ []) t′ plain → o ≡ u
+  plain-shows o u s′ t′ p q =
+      one-begins-cons
+      (subst₂ OneBegins (trace-turns counts zero s plain (o ∷ []) s′ plain p) (trace-turns counts zero t plain (u ∷ []) t′ plain q) (h .at 1 1))
+      .0
+
+-- the turn of a configuration is that of its look
+pub turn-by-look : (counts : List ℕ) (c : Com Origin) (rest : List (Com Origin)) (vs cs : List ℕ) (b : Bool) (g : Guide) (l : Look Origin)
+    → look c rest vs ≡ l → turn counts (stateOf (c ∷ rest) vs cs b) g ≡ turnOf counts (stateOf (c ∷ rest) vs cs b) g l
+unfolding turn turnFrom
+turn-by-look counts c rest vs cs b g l e = ap (turnOf counts (stateOf (c ∷ rest) vs cs b) g) e
+
+pub turn-quiet : (counts : List ℕ) (c : Com Origin) (rest p : List (Com Origin)) (vs vs′ cs : List ℕ) (b : Bool) (g : Guide)
+    → look c rest vs ≡ quiet p vs′ → turn counts (stateOf (c ∷ rest) vs cs b) g ≡ turns [] (stateOf p vs′ cs b) g
+unfolding turnOf quietly
+turn-quiet counts c rest p vs vs′ cs b g e = turn-by-look counts c rest vs cs b g (quiet p vs′) e
+
+-- a plain turn at a branch goes the right way; at a read or write in bounds it uses the own cell
+module _ (counts : List ℕ) (c : Com Origin) (rest next : List (Com Origin)) (vs cs : List ℕ) (b : Bool) where
+  pub turn-fork : (v : Bool) (onTrue onFalse : List (Com Origin)) → look c rest vs ≡ fork v onTrue onFalse
+      → turn counts (stateOf (c ∷ rest) vs cs b) plain ≡ turns (branch v ∷ []) (stateOf (cond v onTrue onFalse) vs cs b) plain
+  unfolding turnOf shownTurn turnIf atFork turned
+  turn-fork v onTrue onFalse e = turn-by-look counts c rest vs cs b plain (fork v onTrue onFalse) e
+
+  pub turn-get : (x a i : ℕ) → look c rest vs ≡ get x a i next → inside counts a i ≡ true
+      → turn counts (stateOf (c ∷ rest) vs cs b) plain
+        ≡ turns (readAt a i ∷ []) (stateOf next (set vs x (getD cs (cellPlace counts a i) 0)) cs b) plain
+  unfolding turnOf shownTurn turnIf atGet onlyIf loaded
+  turn-get x a i e h = turn-by-look counts c rest vs cs b plain (get x a i next) e ∙ rw h
+
+  pub turn-put : (a i v : ℕ) → look c rest vs ≡ put a i v next → inside counts a i ≡ true
+      → turn counts (stateOf (c ∷ rest) vs cs b) plain
+        ≡ turns (writeAt a i ∷ []) (stateOf next vs (set cs (cellPlace counts a i) v) b) plain
+  unfolding turnOf shownTurn turnIf atPut onlyIf stored
+  turn-put a i v e h = turn-by-look counts c rest vs cs b plain (put a i v next) e ∙ rw h
