@@ -3,3 +3,4 @@ pub mod Booleans
 pub mod Values
 pub mod Masks
 pub mod Order
+pub mod Passes
