@@ -4,3 +4,5 @@ pub mod Values
 pub mod Masks
 pub mod Order
 pub mod Passes
+pub mod Analysis
+pub mod Rules

@@ -11,7 +11,7 @@ use Rattle.awhile.specs.declared.Labelling.{Labelling}
 use Rattle.labels.specs.Labellings.{Mark, labelOf, join, same, _⊑_}
 use Rattle.labels.specs.Analysis.{settle}
 use Rattle.labels.specs.Rules.{Settled, passed, publicAmong}
-use Rattle.labels.proofs.Order.{⊑-refl, ⊑-trans, ⊑-antisym, join-left, join-right, join-least, join-mono, same-iff, label-join, mark-discrete}
+use Rattle.labels.proofs.Order.{⊑-refl, ⊑-trans, ⊑-antisym, join-left, join-right, join-least, join-mono, join-absorbs, same-iff, label-join-same, mark-discrete}
 
 -- a mark stands in a list or it does not
 pub member : (k : Mark) (ks : List Mark) → Dec (List·Memᴰ k ks)
@@ -59,6 +59,10 @@ module _ {l m : Labelling} (p : l ⊑ m) where
       public-same i (omega arith)
 
 module _ (pass : Labelling → Labelling) where
+  -- there is one settled labelling
+  pub settled-unique : {l s t : Labelling} → Settled pass l s → Settled pass l t → s ≡ t
+  settled-unique {l} {s} {t} p q = ⊑-antisym (p .least t (q .above) (q .closed)) (q .least s (p .above) (p .closed))
+
   -- once a pass adds nothing, no later one does
   passed-fixed : (n : ℕ) (l : Labelling) → join l (pass l) ≡ l → passed n pass l ≡ l
   unfolding passed
@@ -66,7 +70,7 @@ module _ (pass : Labelling → Labelling) where
   passed-fixed (suc n) l e = ap (λ (m : Labelling). passed n pass m) e ∙ passed-fixed n l e
 
   closed-stays : (n : ℕ) (l : Labelling) → pass l ⊑ l → pass (passed n pass l) ⊑ passed n pass l
-  closed-stays n l p = rw (passed-fixed n l (⊑-antisym (join-least l (pass l) (⊑-refl l) p) (join-left l (pass l)))) p
+  closed-stays n l p = rw (passed-fixed n l (join-absorbs p)) p
 
   -- stopping at the first pass that adds nothing changes no result
   pub settle-passed : (n : ℕ) (l : Labelling) → settle n pass l ≡ passed n pass l
@@ -77,6 +81,12 @@ module _ (pass : Labelling → Labelling) where
       go : (b : Bool) → same (join l (pass l)) l ≡ b → settle n pass (join l (pass l)) ≡ passed n pass (join l (pass l)) → settle (suc n) pass l ≡ passed n pass (join l (pass l))
       go true e r = rw (e, settle) (sym (ap (λ (m : Labelling). passed n pass m) (same-iff (join l (pass l)) l .0 e) ∙ passed-fixed n l (same-iff (join l (pass l)) l .0 e)))
       go false e r = rw (e, settle) r
+
+  -- passes that keep a label keep it however many they are
+  pub passed-frame : (k : Mark) → ((l : Labelling) → labelOf (pass l) k ≡ labelOf l k) → (n : ℕ) (l : Labelling) → labelOf (passed n pass l) k ≡ labelOf l k
+  unfolding passed
+  passed-frame k h zero l = refl
+  passed-frame k h (suc n) l = passed-frame k h n (join l (pass l)) ∙ label-join-same l (pass l) k (labelOf l k) refl (h l)
 
   -- passes only add
   pub passed-above : (n : ℕ) (l : Labelling) → l ⊑ passed n pass l
@@ -97,10 +107,6 @@ module _ (pass : Labelling → Labelling) (mono : (l m : Labelling) → l ⊑ m 
   unfolding passed
   passed-below zero l m p q = p
   passed-below (suc n) l m p q = passed-below n (join l (pass l)) m (join-least l (pass l) p (⊑-trans (mono l m p) q)) q
-
-  -- there is one settled labelling
-  pub settled-unique : {l s t : Labelling} → Settled pass l s → Settled pass l t → s ≡ t
-  settled-unique {l} {s} {t} p q = ⊑-antisym (p .least t (q .above) (q .closed)) (q .least s (p .above) (p .closed))
 
   module _ (ks : List Mark) (frame : (l : Labelling) (k : Mark) → (List·Memᴰ k ks → ⊥) → labelOf (pass l) k ≡ labelOf l k) where
     -- a pass that leaves as many marks public adds nothing
