@@ -3,3 +3,6 @@ pub mod Booleans
 pub mod Values
 pub mod Masks
 pub mod Order
+pub mod Passes
+pub mod Analysis
+pub mod Rules

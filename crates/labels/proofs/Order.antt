@@ -1,6 +1,6 @@
 -- The order of labellings: a partial order with `join` as the least upper bound; what setting a label does; expressions' labels are monotone.
 use Prim.Native.Nat.{ℕ}
-use mathlib.Core.Bool.{Bool, true, false, le, _&&_, _||_, true≢false}
+use mathlib.Core.Bool.{Bool, true, false, le, _||_, or-self}
 use mathlib.Core.Logic.{_↔_}
 use mathlib.Core.Path.{_≡_, refl, sym, ap, ap₂, _∙_, subst}
 use native.Mathlib.Decide.{ℕ-discrete, map-dec}
@@ -41,6 +41,10 @@ unfolding labelOf join
 label-join l m (variableMark x) = bit-or (l .variables) (m .variables) x
 label-join l m (arrayMark a) = bit-or (l .arrays) (m .arrays) a
 
+-- a mark with one label on both sides has it in the join
+pub label-join-same : (l m : Labelling) (k : Mark) (b : Bool) → labelOf l k ≡ b → labelOf m k ≡ b → labelOf (join l m) k ≡ b
+label-join-same l m k b p q = label-join l m k ∙ ap₂ _||_ p q ∙ or-self b
+
 module _ (l m : Labelling) where
   -- a join is above both of its parts
   pub join-left : l ⊑ join l m
@@ -62,6 +66,10 @@ module _ (l m : Labelling) where
         (eqb-true (l .arrays) (m .arrays) (and-right (eqb (l .variables) (m .variables)) (eqb (l .arrays) (m .arrays)) e))),
     (λ e. rw (eq-eqb (l .variables) (m .variables) (ap (λ (n : Labelling). n .variables) e), eq-eqb (l .arrays) (m .arrays) (ap (λ (n : Labelling). n .arrays) e))),
   )
+
+-- joining in a smaller labelling adds nothing
+pub join-absorbs : {l m : Labelling} → m ⊑ l → join l m ≡ l
+join-absorbs {l} {m} p = ⊑-antisym (join-least l m (⊑-refl l) p) (join-left l m)
 
 -- joins of larger labellings are larger
 pub join-mono : {l m n o : Labelling} → l ⊑ n → m ⊑ o → join l m ⊑ join n o
