@@ -7,19 +7,24 @@ use mathlib.Core.Logic.{_⊎_, inl, inr}
 use mathlib.Core.Option.{some, none}
 use mathlib.Core.Path.{_≡_, refl, sym, ap, subst, subst₂, _∙_}
 use lib.ListN.{length, getD, set, length-set}
-use lib.Seq.{set-getD}
+use lib.Seq.{set-getD, set-set, getD-set-other}
 use Rattle.awhile.specs.Language.{AExp, number, variable, choice, BExp, Com, skip, assign, sequence, if, while, read, write, valueOf, truthOf}
 use Rattle.awhile.specs.declared.Labelling.{Labelling}
 use Rattle.labels.specs.Labellings.{_⊑_, variableMark, arrayMark, labelOf, setLabel, join, labelOfA, labelOfB}
-use Rattle.labels.specs.Analysis.{analyse, readLabel}
+use Rattle.labels.specs.Analysis.{analyse, readLabel, writeLabel}
+use Rattle.labels.proofs.Order.{⊑-refl, ⊑-trans, join-left, join-right}
+use Rattle.labels.proofs.Analysis.{loop-settles}
+use Rattle.labels.proofs.Booleans.{or-false-left, or-false-right}
+use Rattle.labels.proofs.Values.{public-value}
 use Rattle.machine.specs.Observations.{Observation, branch, readAt, writeAt}
 use Rattle.machine.specs.Look.{Look, quiet, fork, get, put, look}
 use Rattle.machine.specs.Steps.{State, inside, cellPlace, quietly, turned, loaded, stored}
 use Rattle.machine.specs.Runs.{plain}
 use Rattle.masks.specs.Decisions.{Decision}
-use Rattle.masks.specs.Covering.{Masked, Covers, covers-skip, covers-assign, covers-sequence, covers-if, covers-while, covers-read, covers-write, AgreeOnArrays}
+use Rattle.masks.specs.Covering.{Masked, ValueMasked, Covers, covers-skip, covers-assign, covers-sequence, covers-if, covers-while, covers-read, covers-write, AgreeOnArrays}
 use Rattle.masks.specs.Hardening.{Origin, harden, maskedCondition, maskedIndex, flagIfTrue, flagIfFalse, maskValueOf}
-use Rattle.masks.proofs.Locked.{Spares, WellLabelled, nothing, item, loop, maskedRead, Flagged, stateOf, PlainRelated, Besides, guessed, straight, Locked, steady, silent}
+use Rattle.masks.proofs.Locked.{Spares, spares-skip, spares-assign, spares-sequence, spares-if, spares-while, spares-read, spares-write, conditionOf, loopOf, readOf}
+use Rattle.masks.proofs.Locked.{WellLabelled, nothing, item, loop, maskedRead, Flagged, stateOf, PlainRelated, Besides, guessed, straight, Locked, steady, silent}
 use Rattle.masks.proofs.Agreement.{public-below, flagged-larger, flagged-set, flagged-flag, same-condition, same-index, condition-unmasked, index-unmasked, zero-guessing, same-straight, arrays-set}
 use Rattle.masks.proofs.PlainRuns.{plain-after, plain-shows, turn-quiet, turn-fork, turn-get, turn-put}
 
@@ -275,3 +280,194 @@ module _ (counts : List ℕ) (f : ℕ) where
         (put-alike a i v w next (λ p. after _ _ guessed) (λ d k p. after _ _ guessed))
     put-locked b e₁ e₂ h eq (straight arrays lengths plainly) after =
         subst₂ (Alike counts f _ _) (sym e₁) (sym e₂) (put-straight e₁ e₂ eq arrays lengths plainly after _ _ refl refl)
+
+  -- ---- a well-labelled list, item by item
+  well-labelled-from : {l m : Labelling} {p : List (Com Origin)} → l ⊑ m → WellLabelled f m p → WellLabelled f l p
+  well-labelled-from h nothing = nothing
+  well-labelled-from h (item c x n g cov sp wl) = item c x n (⊑-trans h g) cov sp wl
+  well-labelled-from h (loop n b c x o g k cov sp cl wl) = loop n b c x o (⊑-trans h g) k cov sp cl wl
+  well-labelled-from h (maskedRead n v a i x o g k ne wl) = maskedRead n v a i x o (⊑-trans h g) k ne wl
+
+  -- a silent step to a well-labelled list
+  quiet-step : {m : Labelling} (b : Bool) (c : Com Origin) (rest p : List (Com Origin)) (vs ws vs′ ws′ cs ds : List ℕ)
+      → look c rest vs ≡ quiet p vs′ → look c rest ws ≡ quiet p ws′ → WellLabelled f m p → Flagged f (cond b 1 0) m vs′ ws′
+      → Besides counts m (stateOf (c ∷ rest) vs cs b) (stateOf (c ∷ rest) ws ds b) b
+      → Alike counts f (stateOf (c ∷ rest) vs cs b) (stateOf (c ∷ rest) ws ds b) (look c rest vs) (look c rest ws)
+  unfolding quietly
+  quiet-step {m} b c rest p vs ws vs′ ws′ cs ds e₁ e₂ wl fl be =
+      subst₂ (Alike counts f _ _) (sym e₁) (sym e₂)
+      (quiet-alike p vs′ ws′ (steady b m p vs′ ws′ cs ds wl fl (besides-quiet c rest p vs ws vs′ ws′ cs ds e₁ e₂ be)))
+
+  -- the next steps of two configurations with this pending list, flag and values are alike
+  Steps : Bool → Labelling → List (Com Origin) → Type 0
+  Steps b m p =
+      (vs ws cs ds : List ℕ) → Flagged f (cond b 1 0) m vs ws → Besides counts m (stateOf p vs cs b) (stateOf p ws ds b) b
+      → OneStep counts f (stateOf p vs cs b) (stateOf p ws ds b)
+
+  -- a covered condition while guessing
+  guessing-condition : {m : Labelling} {vs ws : List ℕ} (n : Decision) (e : BExp) (b : Bool) → Masked (labelOfB m e) (n .maskCondition)
+      → Flagged f (cond b 1 0) m vs ws → b ≡ true → truthOf (conditionOf f n e) vs ≡ truthOf (conditionOf f n e) ws
+  guessing-condition {m} {vs} {ws} n e b h fl p = same-condition (subst (λ (t : Bool). Flagged f (cond t 1 0) m vs ws) p fl) (n .maskCondition) e h
+
+  guessing-index : {m : Labelling} {vs ws : List ℕ} (n : Decision) (i : AExp) (b : Bool) → Masked (labelOfA m i) (n .maskIndex)
+      → Flagged f (cond b 1 0) m vs ws → b ≡ true
+      → valueOf (maskedIndex f (n .maskIndex) i) vs ≡ valueOf (maskedIndex f (n .maskIndex) i) ws
+  guessing-index {m} {vs} {ws} n i b h fl p = same-index (subst (λ (t : Bool). Flagged f (cond t 1 0) m vs ws) p fl) (n .maskIndex) i h
+
+  loop-steps : (b : Bool) {rest : List (Com Origin)} (n : Decision) (e : BExp) (c : Com Decision) (x : Bool) (m : Labelling)
+      → Masked (labelOfB m e) (n .maskCondition) → Covers c (labelOfB m e || x) m → Spares f c → analyse c (labelOfB m e || x) m ⊑ m
+      → WellLabelled f m rest → Steps b m (loopOf f n e c ∷ flagIfFalse f (conditionOf f n e) ∷ rest)
+  unfolding Steps look Side flagIfTrue flagIfFalse
+  loop-steps b {rest} n e c x m k cov sp closed wl vs ws cs ds fl be =
+      next-alike b (loopOf f n e c) (flagIfFalse f (conditionOf f n e) ∷ rest) vs ws cs ds
+      (fork-locked b (loopOf f n e c) (flagIfFalse f (conditionOf f n e) ∷ rest) _ _ (conditionOf f n e) vs ws cs ds refl refl
+      (guessing-condition n e b k fl) be fl
+      (λ b′ p q be′. side-locked b′ _ (harden f c) _ vs ws cs ds p q again fl be′)
+      (λ b′ p q be′. update-locked b′ _ rest vs ws cs ds p q wl fl be′))
+    where
+      again : WellLabelled f m (harden f c ∷ loopOf f n e c ∷ flagIfFalse f (conditionOf f n e) ∷ rest)
+      again = item c (labelOfB m e || x) m (⊑-refl m) cov sp (loop n e c x m closed k cov sp closed wl)
+
+  -- setting a variable's label leaves those of the arrays alone
+  arrays-after-set : (m : Labelling) (x : ℕ) (r : Bool) (a : ℕ) → labelOf (setLabel m (variableMark x) r) (arrayMark a) ≡ false → labelOf m (arrayMark a) ≡ false
+  unfolding labelOf setLabel
+  arrays-after-set m x r a e = e
+
+  -- what a read gives is the same on both sides where its label is public: with the flag clear
+  read-public : (m : Labelling) (x : Bool) (a : ℕ) (i : AExp) → readLabel m x a i ≡ false → labelOf m (arrayMark a) ≡ false
+  unfolding readLabel
+  read-public m x a i e = or-false-left (labelOf m (arrayMark a)) x (or-false-right (labelOfA m i) _ e)
+
+  index-public : (m : Labelling) (x : Bool) (a : ℕ) (i : AExp) → readLabel m x a i ≡ false → labelOfA m i ≡ false
+  unfolding readLabel
+  index-public m x a i e = or-false-left (labelOfA m i) _ e
+
+  -- the value mask: while guessing it clears the variable, else it leaves it
+  module _ (m : Labelling) (rest : List (Com Origin)) (v : ℕ) (r : Bool) (ne : v ≡ f → ⊥) (wl : WellLabelled f (setLabel m (variableMark v) r) rest)
+      (vs ws cs ds : List ℕ) (u w : ℕ) where
+    Cleared : Bool → Type 0
+    Cleared b =
+        Flagged f (cond b 1 0) m vs ws → (b ≡ false → r ≡ false → u ≡ w)
+        → Besides counts m (stateOf (maskValueOf f v ∷ rest) (set vs v u) cs b) (stateOf (maskValueOf f v ∷ rest) (set ws v w) ds b) b
+        → Locked counts f (stateOf (maskValueOf f v ∷ rest) (set vs v u) cs b) (stateOf (maskValueOf f v ∷ rest) (set ws v w) ds b)
+
+    kept-flag : (k y : ℕ) (xs : List ℕ) → getD xs f 0 ≡ k → getD (set xs v y) f 0 ≡ k
+    kept-flag k y xs e = getD-set-other xs v f y 0 (λ p. ne (sym p)) ∙ e
+
+    cleared : (b : Bool) → Cleared b
+    unfolding Cleared look maskValueOf valueOf
+    cleared true fl eq be =
+        silent true (maskValueOf f v) rest rest (set vs v u) (set ws v w) (set vs v 0) (set ws v 0) cs ds (zeroed vs u (fl .left)) (zeroed ws w (fl .right))
+        (steady true (setLabel m (variableMark v) r) rest (set vs v 0) (set ws v 0) cs ds wl (flagged-set fl v 0 0 r ne (λ p. refl)) guessed)
+      where
+        zeroed : (xs : List ℕ) (y : ℕ) → getD xs f 0 ≡ 1 → look (maskValueOf f v) rest (set xs v y) ≡ quiet rest (set xs v 0)
+        zeroed xs y e =
+            ap (λ (z : ℕ). quiet rest (set (set xs v y) v z)) (zero-guessing f (set xs v y) (variable v) (kept-flag 1 y xs e)) ∙ ap (quiet rest) (set-set xs v y 0)
+    cleared false fl eq be =
+        silent false (maskValueOf f v) rest rest (set vs v u) (set ws v w) (set vs v u) (set ws v w) cs ds (left-alone vs u (fl .left)) (left-alone ws w (fl .right))
+        (steady false (setLabel m (variableMark v) r) rest (set vs v u) (set ws v w) cs ds wl (flagged-set fl v u w r ne (eq refl))
+        (besides-larger (arrays-after-set m v r)
+        (besides-quiet (maskValueOf f v) rest rest (set vs v u) (set ws v w) (set vs v u) (set ws v w) cs ds (left-alone vs u (fl .left)) (left-alone ws w (fl .right)) be)))
+      where
+        left-alone : (xs : List ℕ) (y : ℕ) → getD xs f 0 ≡ 0 → look (maskValueOf f v) rest (set xs v y) ≡ quiet rest (set xs v y)
+        left-alone xs y e =
+            ap (λ (z : ℕ). quiet rest (set (set xs v y) v z)) (same-straight f (set xs v y) (variable v) (kept-flag 0 y xs e))
+            ∙ ap (quiet rest) (set-getD (set xs v y) v 0)
+
+  masked-read-steps : (b : Bool) {rest : List (Com Origin)} (n : Decision) (v a : ℕ) (i : AExp) (x : Bool) (m : Labelling)
+      → Masked (labelOfA m i) (n .maskIndex) → (v ≡ f → ⊥) → WellLabelled f (setLabel m (variableMark v) (readLabel m x a i)) rest
+      → Steps b m (readOf f n v a i ∷ maskValueOf f v ∷ rest)
+  unfolding Steps look AfterRead Cleared
+  masked-read-steps b {rest} n v a i x m k ne wl vs ws cs ds fl be =
+      next-alike b (readOf f n v a i) (maskValueOf f v ∷ rest) vs ws cs ds
+      (get-locked (readOf f n v a i) (maskValueOf f v ∷ rest) (maskValueOf f v ∷ rest) v a _ _ vs ws cs ds b refl refl (guessing-index n i b k fl) be
+      (λ u w eq be′.
+        cleared m rest v (readLabel m x a i) ne wl vs ws cs ds u w b fl (λ p q. eq p (read-public m x a i q)) be′))
+
+  -- a read whose value is not masked gives its variable a secret label
+  unmasked-secret : {p q : Bool} → ValueMasked p q false → (p ≡ false → q ≡ false) → p ≡ false → ⊥
+  unmasked-secret h g e = true≢false (sym (h .masked e (g e)))
+
+  read-steps : (b : Bool) {rest : List (Com Origin)} (mask : Bool) (n : Decision) (v a : ℕ) (i : AExp) (x : Bool) (m : Labelling)
+      → Masked (labelOfA m i) (n .maskIndex) → ValueMasked (readLabel m x a i) (labelOfA m i) mask → (v ≡ f → ⊥)
+      → WellLabelled f (setLabel m (variableMark v) (readLabel m x a i)) rest
+      → Steps b m (cond mask (sequence none (readOf f n v a i) (maskValueOf f v)) (readOf f n v a i) ∷ rest)
+  unfolding Steps look AfterRead
+  read-steps b {rest} true n v a i x m k k₁ ne wl vs ws cs ds fl be =
+      next-alike b _ rest vs ws cs ds
+      (quiet-step b _ rest _ vs ws vs ws cs ds refl refl (maskedRead n v a i x m (⊑-refl m) k ne wl) fl be)
+  read-steps b {rest} false n v a i x m k k₁ ne wl vs ws cs ds fl be =
+      next-alike b _ rest vs ws cs ds
+      (get-locked (readOf f n v a i) rest rest v a _ _ vs ws cs ds b refl refl (guessing-index n i b k fl) be
+      (λ u w eq be′.
+        steady b (setLabel m (variableMark v) (readLabel m x a i)) rest (set vs v u) (set ws v w) cs ds wl
+        (flagged-set fl v u w (readLabel m x a i) ne (λ p. absurd (unmasked-secret k₁ (index-public m x a i) p)))
+        (besides-larger (arrays-after-set m v (readLabel m x a i)) be′)))
+
+  write-public : (m : Labelling) (x : Bool) (a : ℕ) (i e : AExp) → writeLabel m x a i e ≡ false → labelOf m (arrayMark a) ≡ false
+  unfolding writeLabel
+  write-public m x a i e p = or-false-left (labelOf m (arrayMark a)) _ p
+
+  value-public : (m : Labelling) (x : Bool) (a : ℕ) (i e : AExp) → writeLabel m x a i e ≡ false → labelOfA m e ≡ false
+  unfolding writeLabel
+  value-public m x a i e p = or-false-left (labelOfA m e) x (or-false-right (labelOfA m i) _ (or-false-right (labelOf m (arrayMark a)) _ p))
+
+  -- a write leaves the labels of the variables alone
+  flagged-array : {k : ℕ} {m : Labelling} {vs ws : List ℕ} (a : ℕ) (r : Bool) → Flagged f k m vs ws → Flagged f k (setLabel m (arrayMark a) r) vs ws
+  unfolding labelOf setLabel
+  flagged-array a r fl =
+      record { agree = record { at = λ x e. fl .agree .at x e }; left = fl .left; right = fl .right; lengths = fl .lengths; declared = fl .declared }
+
+  -- the hardened form of any command that the decisions cover
+  command-steps : (b : Bool) {rest : List (Com Origin)} (c : Com Decision) (x : Bool) (m : Labelling)
+      → Covers c x m → Spares f c → WellLabelled f (analyse c x m) rest → Steps b m (harden f c ∷ rest)
+  unfolding Steps look harden analyse AfterRead AfterWrite Side flagIfTrue flagIfFalse
+  command-steps b {rest} (skip n) x m cov sp wl vs ws cs ds fl be =
+      next-alike b _ rest vs ws cs ds (quiet-step b _ rest rest vs ws vs ws cs ds refl refl wl fl be)
+  command-steps b {rest} (assign n v e) x m cov (spares-assign ne) wl vs ws cs ds fl be =
+      next-alike b _ rest vs ws cs ds
+      (quiet-step b _ rest rest vs ws _ _ cs ds refl refl wl
+      (flagged-set fl v _ _ (labelOfA m e || x) ne (λ p. public-value m vs ws (fl .agree) e (or-false-left (labelOfA m e) x p)))
+      (besides-larger (arrays-after-set m v (labelOfA m e || x)) be))
+  command-steps b {rest} (sequence n c d) x m (covers-sequence k₁ k₂) (spares-sequence s₁ s₂) wl vs ws cs ds fl be =
+      next-alike b _ rest vs ws cs ds
+      (quiet-step b _ rest _ vs ws vs ws cs ds refl refl
+      (item c x m (⊑-refl m) k₁ s₁ (item d x (analyse c x m) (⊑-refl (analyse c x m)) k₂ s₂ wl)) fl be)
+  command-steps b {rest} (if n e c d) x m (covers-if k k₁ k₂) (spares-if s₁ s₂) wl vs ws cs ds fl be =
+      next-alike b _ rest vs ws cs ds
+      (fork-locked b _ rest _ _ (conditionOf f n e) vs ws cs ds refl refl (guessing-condition n e b k fl) be fl
+      (λ b′ p q be′. side-locked b′ _ (harden f c) rest vs ws cs ds p q (first c k₁ s₁ (join-left _ _)) fl be′)
+      (λ b′ p q be′. side-locked b′ _ (harden f d) rest vs ws cs ds p q (first d k₂ s₂ (join-right _ _)) fl be′))
+    where
+      first : (h : Com Decision) → Covers h (labelOfB m e || x) m → Spares f h
+          → analyse h (labelOfB m e || x) m ⊑ join (analyse c (labelOfB m e || x) m) (analyse d (labelOfB m e || x) m)
+          → WellLabelled f m (harden f h ∷ rest)
+      first h k′ s′ below = item h (labelOfB m e || x) m (⊑-refl m) k′ s′ (well-labelled-from below wl)
+  command-steps b {rest} (while n e c) x m (covers-while k k₁) (spares-while s₁) wl vs ws cs ds fl be =
+      next-alike b _ rest vs ws cs ds
+      (quiet-step b _ rest _ vs ws vs ws cs ds refl refl
+      (loop n e c x (analyse (while n e c) x m) (loop-settles n e c x m .above) k k₁ s₁ (loop-settles n e c x m .closed) wl) fl be)
+  command-steps b {rest} (read n v a i) x m (covers-read k k₁) (spares-read ne) wl vs ws cs ds fl be =
+      read-steps b (n .maskValue) n v a i x m k k₁ ne wl vs ws cs ds fl be
+  command-steps b {rest} (write n a i e) x m (covers-write k) spares-write wl vs ws cs ds fl be =
+      next-alike b _ rest vs ws cs ds
+      (put-locked (writeLabel m x a i e) _ rest rest a _ _ _ _ vs ws cs ds (write-public m x a i e) b refl refl (guessing-index n i b k fl)
+      (λ p. public-value m vs ws (fl .agree) e (value-public m x a i e p)) be
+      (λ cs′ ds′ be′. steady b (setLabel m (arrayMark a) (writeLabel m x a i e)) rest vs ws cs′ ds′ wl (flagged-array a (writeLabel m x a i e) fl) be′))
+
+  steady-steps : (b : Bool) (l : Labelling) (p : List (Com Origin)) → WellLabelled f l p → Steps b l p
+  unfolding Steps
+  steady-steps b l p nothing vs ws cs ds fl be = over-alike b vs ws cs ds
+  steady-steps b l p (item c x m g cov sp wl) vs ws cs ds fl be =
+      command-steps b c x m cov sp wl vs ws cs ds (flagged-larger g fl) (besides-larger (λ a. public-below g (arrayMark a)) be)
+  steady-steps b l p (loop n e c x m g k cov sp closed wl) vs ws cs ds fl be =
+      loop-steps b n e c x m k cov sp closed wl vs ws cs ds (flagged-larger g fl) (besides-larger (λ a. public-below g (arrayMark a)) be)
+  steady-steps b l p (maskedRead n v a i x m g k ne wl) vs ws cs ds fl be =
+      masked-read-steps b n v a i x m k ne wl vs ws cs ds (flagged-larger g fl) (besides-larger (λ a. public-below g (arrayMark a)) be)
+
+  -- THE ONE-STEP LEMMA: locked configurations step alike and are locked again
+  pub one-step : {s t : State Origin} → Locked counts f s t → OneStep counts f s t
+  unfolding Steps quietly
+  one-step (steady b l p vs ws cs ds wl fl be) = steady-steps b l p wl vs ws cs ds fl be
+  one-step (silent b c rest p vs ws vs′ ws′ cs ds e₁ e₂ h) =
+      next-alike b c rest vs ws cs ds (subst₂ (Alike counts f _ _) (sym e₁) (sym e₂) (quiet-alike p vs′ ws′ h))
