@@ -3,3 +3,4 @@ pub mod Locked
 pub mod Agreement
 pub mod PlainRuns
 pub mod OneStep
+pub mod LockedRuns
