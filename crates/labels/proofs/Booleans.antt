@@ -12,6 +12,11 @@ pub or-false-right : (a b : Bool) → (a || b) ≡ false → b ≡ false
 or-false-right true b e = absurd (true≢false e)
 or-false-right false b e = e
 
+-- what is below a public label is public
+pub le-false : {a b : Bool} → le a b → b ≡ false → a ≡ false
+le-false {a = true} h e = sym (h refl) ∙ e
+le-false {a = false} h e = refl
+
 -- each part of a join is below it
 pub or-left : (a b : Bool) → le a (a || b)
 or-left true b e = refl

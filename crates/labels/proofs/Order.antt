@@ -1,6 +1,6 @@
 -- The order of labellings: a partial order with `join` as the least upper bound; what setting a label does; expressions' labels are monotone.
 use Prim.Native.Nat.{ℕ}
-use mathlib.Core.Bool.{Bool, true, false, le, _||_, or-self}
+use mathlib.Core.Bool.{Bool, true, le, _||_, or-self}
 use mathlib.Core.Logic.{_↔_}
 use mathlib.Core.Path.{_≡_, refl, sym, ap, ap₂, _∙_, subst}
 use native.Mathlib.Decide.{ℕ-discrete, map-dec}
@@ -11,7 +11,6 @@ use Rattle.awhile.specs.Language.{AExp, number, variable, add, subtract, multip
 use Rattle.awhile.specs.Language.{BExp, constant, equal, less, not, and}
 use Rattle.awhile.specs.declared.Labelling.{Labelling}
 use Rattle.labels.specs.Labellings.{Mark, variableMark, arrayMark, labelOf, setLabel, join, same, _⊑_, labelOfA, labelOfB}
-use Rattle.labels.specs.Masks.{bit, putBit}
 use Rattle.labels.proofs.Booleans.{or-left, or-right, or-least, or-mono, le-antisym, and-left, and-right}
 use Rattle.labels.proofs.Masks.{bit-put, bit-put-other, bit-or, bit-ext}
 
