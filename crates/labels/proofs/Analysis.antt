@@ -28,11 +28,12 @@ mark-below mark (suc n) i h = go (ℕ-discrete i n) (mark-below mark n i)
     go (no e) r = List·Memᴰ·tail (r (omega arith))
 
 module _ {l m : Labelling} {x y : Bool} (h : le x y) (p : l ⊑ m) where
-  -- a larger labelling and context give a read and a write larger labels
+  -- a larger labelling and context give what is read a larger label
   pub readLabel-mono : (a : ℕ) (i : AExp) → le (readLabel l x a i) (readLabel m y a i)
   unfolding readLabel
   readLabel-mono a i = or-mono (labelOfA-mono p i) (or-mono (p .at (arrayMark a)) h)
 
+  -- a larger labelling and context give the array written a larger label
   pub writeLabel-mono : (a : ℕ) (i e : AExp) → le (writeLabel l x a i e) (writeLabel m y a i e)
   unfolding writeLabel
   writeLabel-mono a i e = or-mono (p .at (arrayMark a)) (or-mono (labelOfA-mono p i) (or-mono (labelOfA-mono p e) h))

@@ -24,13 +24,15 @@ unfolding labelOf
 equal-labels l m h =
     equal-masks l m (bit-ext (l .variables) (m .variables) (λ x. h (variableMark x))) (bit-ext (l .arrays) (m .arrays) (λ a. h (arrayMark a)))
 
--- the order of labellings is a partial order
+-- every labelling is below itself
 pub ⊑-refl : (l : Labelling) → l ⊑ l
 ⊑-refl l = record { at = λ k h. h }
 
+-- what is below something is below whatever that is below
 pub ⊑-trans : {l m n : Labelling} → l ⊑ m → m ⊑ n → l ⊑ n
 ⊑-trans p q = record { at = λ k h. q .at k (p .at k h) }
 
+-- labellings below each other are equal
 pub ⊑-antisym : {l m : Labelling} → l ⊑ m → m ⊑ l → l ≡ m
 ⊑-antisym {l} {m} p q = equal-labels l m (λ k. le-antisym (p .at k) (q .at k))
 
@@ -45,10 +47,11 @@ pub label-join-same : (l m : Labelling) (k : Mark) (b : Bool) → labelOf l k �
 label-join-same l m k b p q = label-join l m k ∙ ap₂ _||_ p q ∙ or-self b
 
 module _ (l m : Labelling) where
-  -- a join is above both of its parts
+  -- a join is above its first part
   pub join-left : l ⊑ join l m
   join-left = record { at = λ k h. label-join l m k ∙ or-left (labelOf l k) (labelOf m k) h }
 
+  -- a join is above its second part
   pub join-right : m ⊑ join l m
   join-right = record { at = λ k h. label-join l m k ∙ or-right (labelOf l k) (labelOf m k) h }
 
@@ -107,7 +110,7 @@ module _ {l m : Labelling} (p : l ⊑ m) where
   mutual
     unfolding labelOfA
 
-    -- a larger labelling gives an expression a larger label
+    -- a larger labelling gives a numeric expression a larger label
     pub labelOfA-mono : (e : AExp) → le (labelOfA l e) (labelOfA m e)
     labelOfA-mono (number n) = λ h. h
     labelOfA-mono (variable x) = p .at (variableMark x)
@@ -116,6 +119,7 @@ module _ {l m : Labelling} (p : l ⊑ m) where
     labelOfA-mono (multiply a b) = or-mono (labelOfA-mono a) (labelOfA-mono b)
     labelOfA-mono (choice c a b) = or-mono (labelOfB-mono c) (or-mono (labelOfA-mono a) (labelOfA-mono b))
 
+    -- a larger labelling gives a truth a larger label
     pub labelOfB-mono : (b : BExp) → le (labelOfB l b) (labelOfB m b)
     labelOfB-mono (constant b) = λ h. h
     labelOfB-mono (equal a b) = or-mono (labelOfA-mono a) (labelOfA-mono b)

@@ -71,6 +71,7 @@ pub data Satisfies : Com Entry → (after : Labelling) → Type 0 where
   -- "Assign gives its variable the join of expression and context."
   assign-rule : {e : Entry} {v : ℕ} {a : AExp} {after : Labelling}
       → setLabel (e .labelling) (variableMark v) (labelOfA (e .labelling) a || e .context) ⊑ after → Satisfies (assign e v a) after
+  -- "The labelling of a command is built from its parts": the first part's leads into the second.
   sequence-rule : {e : Entry} {c d : Com Entry} {between after : Labelling}
       → Enters (e .labelling) (e .context) c → Satisfies c between → Enters between (e .context) d → Satisfies d after → Satisfies (sequence e c d) after
   -- "If analyses both sides with the condition joined to the context, then joins the labellings."
