@@ -1,20 +1,21 @@
 -- The analysis is monotone, sets the labels of its targets only, and answers a loop with its settled labelling.
-use Prim.Native.Nat.{ℕ, zero, suc, _<_, _≤_}
-use mathlib.Core.Bool.{Bool, true, le, _||_}
-use mathlib.Core.List.{List, [], _∷_, _++_, List·Memᴰ, List·Memᴰ·head, List·Memᴰ·tail, Memᴰ·append-left, Memᴰ·append-right}
-use mathlib.Core.Path.{_≡_, refl, sym, ap, _∙_, subst}
+use Prim.Native.Nat.{ℕ, zero, suc, _<_}
+use mathlib.Core.Bool.{Bool, le, _||_}
+use mathlib.Core.List.{_∷_, List·Memᴰ, List·Memᴰ·head, List·Memᴰ·tail, Memᴰ·append-left, Memᴰ·append-right}
+use mathlib.Core.Path.{_≡_, refl, sym, ap, _∙_}
 use native.Mathlib.Nat.{le-refl}
 use native.Mathlib.Decide.{ℕ-discrete}
 use native.Mathlib.Omega.{arith}
 use lib.ListN.{length}
 use Rattle.awhile.specs.Language.{AExp, BExp, Com, skip, assign, sequence, if, while, read, write}
 use Rattle.awhile.specs.declared.Labelling.{Labelling}
-use Rattle.labels.specs.Labellings.{Mark, variableMark, arrayMark, labelOf, setLabel, join, _⊑_, labelOfA, labelOfB}
-use Rattle.labels.specs.Analysis.{settle, readLabel, writeLabel, targets, analyse}
-use Rattle.labels.specs.Rules.{Settled, passed, publicAmong, marksBelow, declaredMarks, loopPass, SetsDeclared}
+use Rattle.labels.specs.Labellings.{Mark, variableMark, arrayMark, labelOf, _⊑_, labelOfA, labelOfB}
+use Rattle.labels.specs.Analysis.{readLabel, writeLabel, targets, analyse}
+use Rattle.labels.specs.Rules.{Settled, SettledWithin, publicAmong, marksBelow, declaredMarks, loopPass, SetsDeclared, Within}
 use Rattle.labels.proofs.Booleans.{or-mono}
+use Rattle.labels.proofs.Masks.{bit-above, within-width}
 use Rattle.labels.proofs.Order.{join-absorbs, join-mono, label-join-same, set-mono, label-set-other, labelOfA-mono, labelOfB-mono}
-use Rattle.labels.proofs.Passes.{public-length, settle-passed, passed-mono, passed-frame, passed-settles, settled-unique, member}
+use Rattle.labels.proofs.Passes.{public-length, settle-passed, passed-mono, passed-frame, passed-settles, settled-unique}
 
 -- the marks of the numbers below a count are in their list
 mark-below : (mark : ℕ → Mark) (n i : ℕ) → i < n → List·Memᴰ (mark i) (marksBelow mark n)
@@ -27,11 +28,12 @@ mark-below mark (suc n) i h = go (ℕ-discrete i n) (mark-below mark n i)
     go (no e) r = List·Memᴰ·tail (r (omega arith))
 
 module _ {l m : Labelling} {x y : Bool} (h : le x y) (p : l ⊑ m) where
-  -- a larger labelling and context give a read and a write larger labels
+  -- a larger labelling and context give what is read a larger label
   pub readLabel-mono : (a : ℕ) (i : AExp) → le (readLabel l x a i) (readLabel m y a i)
   unfolding readLabel
   readLabel-mono a i = or-mono (labelOfA-mono p i) (or-mono (p .at (arrayMark a)) h)
 
+  -- a larger labelling and context give the array written a larger label
   pub writeLabel-mono : (a : ℕ) (i e : AExp) → le (writeLabel l x a i e) (writeLabel m y a i e)
   unfolding writeLabel
   writeLabel-mono a i e = or-mono (p .at (arrayMark a)) (or-mono (labelOfA-mono p i) (or-mono (labelOfA-mono p e) h))
@@ -69,6 +71,17 @@ module _ {Note : Type 0} where
   analyse-frame (read n v a i) x l k h = label-set-other l (variableMark v) k (readLabel l x a i) (λ e. h (List·Memᴰ·head (sym e)))
   analyse-frame (write n a i e) x l k h = label-set-other l (arrayMark a) k (writeLabel l x a i e) (λ e. h (List·Memᴰ·head (sym e)))
 
+  -- a command that sets declared marks only leaves the masks within their widths
+  pub analyse-within : (c : Com Note) (x : Bool) (l : Labelling) (v a : ℕ) → SetsDeclared v a c → Within v a l → Within v a (analyse c x l)
+  unfolding labelOf
+  analyse-within c x l v a d h =
+      record {
+        variableMask = within-width v (analyse c x l .variables) (λ k n. analyse-frame c x l (variableMark k) (λ i. absurd (omega (arith, d .variable k i)))
+            ∙ bit-above v (l .variables) k (h .variableMask) n);
+        arrayMask = within-width a (analyse c x l .arrays) (λ k n. analyse-frame c x l (arrayMark k) (λ i. absurd (omega (arith, d .array k i)))
+            ∙ bit-above a (l .arrays) k (h .arrayMask) n);
+      }
+
   -- what a command sets is declared
   targets-declared : (c : Com Note) (v a : ℕ) → SetsDeclared v a c → (k : Mark) → List·Memᴰ k (targets c) → List·Memᴰ k (declaredMarks v a)
   unfolding declaredMarks
@@ -88,12 +101,11 @@ module _ {Note : Type 0} where
         (passed-settles (loopPass b c x) loopPass-mono (targets c) (λ m k i. analyse-frame c (labelOfB m b || x) m k i)
         (length (targets c)) l (public-length (targets c) l))
 
-    -- as many passes as declared marks are public give the settled labelling, and the next pass adds nothing
-    pub loop-settles-within : (variables arrays : ℕ) → SetsDeclared variables arrays c → (l : Labelling)
-        → (analyse (while n b c) x l ≡ passed (publicAmong (declaredMarks variables arrays) l) (loopPass b c x) l)
-        × (join (analyse (while n b c) x l) (loopPass b c x (analyse (while n b c) x l)) ≡ analyse (while n b c) x l)
+    -- a loop that sets declared marks settles within one pass more than there are public ones among them
+    pub loop-settles-within : (v a : ℕ) → SetsDeclared v a c → (l : Labelling) → SettledWithin (declaredMarks v a) (loopPass b c x) l (analyse (while n b c) x l)
     loop-settles-within v a d l =
         let s = loop-settles l in
         let t = passed-settles (loopPass b c x) loopPass-mono (declaredMarks v a)
-        (λ m k i. analyse-frame c (labelOfB m b || x) m k (λ j. i (targets-declared c v a d k j))) (publicAmong (declaredMarks v a) l) l (le-refl (publicAmong (declaredMarks v a) l)) in
-        (settled-unique (loopPass b c x) s t, join-absorbs (s .closed))
+        (λ m k i. analyse-frame c (labelOfB m b || x) m k (λ j. i (targets-declared c v a d k j)))
+        (publicAmong (declaredMarks v a) l) l (le-refl (publicAmong (declaredMarks v a) l)) in
+        record { passes = settled-unique (loopPass b c x) s t; idle = join-absorbs (s .closed) }

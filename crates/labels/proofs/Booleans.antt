@@ -12,11 +12,17 @@ pub or-false-right : (a b : Bool) → (a || b) ≡ false → b ≡ false
 or-false-right true b e = absurd (true≢false e)
 or-false-right false b e = e
 
--- each part of a join is below it
+-- what is below a public label is public
+pub le-false : {a b : Bool} → le a b → b ≡ false → a ≡ false
+le-false {a = true} h e = sym (h refl) ∙ e
+le-false {a = false} h e = refl
+
+-- the first part of a join is below it
 pub or-left : (a b : Bool) → le a (a || b)
 or-left true b e = refl
 or-left false b e = absurd (true≢false (sym e))
 
+-- the second part of a join is below it
 pub or-right : (a b : Bool) → le b (a || b)
 or-right true b e = refl
 or-right false b e = e
@@ -36,11 +42,12 @@ le-antisym {a = true} h k = sym (h refl)
 le-antisym {a = false} {b = true} h k = k refl
 le-antisym {a = false} {b = false} h k = refl
 
--- both parts of a true conjunction are true
+-- the first part of a true conjunction is true
 pub and-left : (a b : Bool) → (a && b) ≡ true → a ≡ true
 and-left true b e = refl
 and-left false b e = e
 
+-- the second part of a true conjunction is true
 pub and-right : (a b : Bool) → (a && b) ≡ true → b ≡ true
 and-right true b e = e
 and-right false b e = absurd (true≢false (sym e))

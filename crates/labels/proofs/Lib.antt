@@ -1,8 +1,8 @@
 -- Laws of labels and of the analysis, in reading order.
 pub mod Booleans
-pub mod Values
 pub mod Masks
 pub mod Order
+pub mod Values
 pub mod Passes
 pub mod Analysis
 pub mod Rules

@@ -1,9 +1,10 @@
 -- Laws of masks of any width: a digit after it is put, the others, the digits of a join, and equal digits make equal masks.
 use Prim.Native.Nat.{ℕ, zero, suc, _+_, _*_, _/_, _%_, _^_, _≤_, _<_, max}
 use mathlib.Core.Bool.{Bool, true, false, cond, _||_}
-use mathlib.Core.Path.{_≡_, refl, ap, _∙_}
+use mathlib.Core.Path.{_≡_, refl, sym, ap, ap₂, _∙_}
+use native.Mathlib.Nat.{div-one, div-div-eq-div-mul}
 use native.Mathlib.Omega.{arith}
-use lib.Bits.{bitOr, or-step}
+use lib.Bits.{bitOr, or-step, or-zero-r}
 use lib.Dec.{eqb}
 use Rattle.labels.specs.Masks.{bit, putBit}
 
@@ -14,7 +15,7 @@ half a r h = omega arith
 last : (a r : ℕ) → r < 2 → (a * 2 + r) % 2 ≡ r
 last a r h = omega arith
 
--- a digit as a number, and back
+-- a digit as a truth, and back
 digit-small : (b : Bool) → cond b 1 0 < 2
 digit-small true = omega arith
 digit-small false = omega arith
@@ -23,23 +24,16 @@ digit-back : (b : Bool) → eqb (cond b 1 0) 1 ≡ b
 digit-back true = refl
 digit-back false = refl
 
-digit-or : (r s : ℕ) → r < 2 → s < 2 → eqb (max r s) 1 ≡ (eqb r 1 || eqb s 1)
-digit-or zero zero h k = refl
-digit-or zero (suc zero) h k = refl
-digit-or zero (suc (suc s)) h k = absurd (omega arith)
-digit-or (suc zero) zero h k = refl
-digit-or (suc zero) (suc zero) h k = refl
-digit-or (suc zero) (suc (suc s)) h k = absurd (omega arith)
-digit-or (suc (suc r)) s h k = absurd (omega arith)
+digit-of : (r : ℕ) → r < 2 → r ≡ cond (eqb r 1) 1 0
+digit-of zero h = refl
+digit-of (suc zero) h = refl
+digit-of (suc (suc r)) h = absurd (omega arith)
 
-digit-same : (r s : ℕ) → r < 2 → s < 2 → eqb r 1 ≡ eqb s 1 → r ≡ s
-digit-same zero zero h k e = refl
-digit-same zero (suc zero) h k e = cc
-digit-same zero (suc (suc s)) h k e = absurd (omega arith)
-digit-same (suc zero) zero h k e = cc
-digit-same (suc zero) (suc zero) h k e = refl
-digit-same (suc zero) (suc (suc s)) h k e = absurd (omega arith)
-digit-same (suc (suc r)) s h k e = absurd (omega arith)
+digit-or : (a b : Bool) → eqb (max (cond a 1 0) (cond b 1 0)) 1 ≡ (a || b)
+digit-or true true = refl
+digit-or true false = refl
+digit-or false true = refl
+digit-or false false = refl
 
 module _ (b : Bool) where
   -- the digit that is put is the one read there
@@ -72,7 +66,8 @@ unfolding bit
 bit-or a b zero =
     ap (λ (m : ℕ). eqb (m % 2) 1) (or-step a b)
     ∙ ap (λ (d : ℕ). eqb d 1) (last (bitOr (a / 2) (b / 2)) (max (a % 2) (b % 2)) (omega arith))
-    ∙ digit-or (a % 2) (b % 2) (omega arith) (omega arith)
+    ∙ ap₂ (λ (r s : ℕ). eqb (max r s) 1) (digit-of (a % 2) (omega arith)) (digit-of (b % 2) (omega arith))
+    ∙ digit-or (eqb (a % 2) 1) (eqb (b % 2) 1)
 bit-or a b (suc n) =
     ap (λ (m : ℕ). bit (m / 2) n) (or-step a b)
     ∙ ap (λ (m : ℕ). bit m n) (half (bitOr (a / 2) (b / 2)) (max (a % 2) (b % 2)) (omega arith))
@@ -87,5 +82,43 @@ bit-ext a b h = go (a + b) a b (omega arith) h
     go zero a b k h = omega arith
     go (suc bound) a b k h =
         let upper : a / 2 ≡ b / 2 = go bound (a / 2) (b / 2) (omega arith) (λ n. h (suc n)) in
-        let lower : a % 2 ≡ b % 2 = digit-same (a % 2) (b % 2) (omega arith) (omega arith) (h zero) in
+        let lower : a % 2 ≡ b % 2 = digit-of (a % 2) (omega arith) ∙ ap (λ (d : Bool). cond d 1 0) (h zero) ∙ sym (digit-of (b % 2) (omega arith)) in
         omega arith
+
+-- no digit of zero is set
+bit-zero : (n : ℕ) → bit 0 n ≡ false
+unfolding bit
+bit-zero zero = refl
+bit-zero (suc n) = bit-zero n
+
+-- a mask within a width has no digit set from the width up
+pub bit-above : (w m n : ℕ) → m < 2 ^ w → w ≤ n → bit m n ≡ false
+unfolding bit
+bit-above zero m n h k = let e : m ≡ 0 = omega arith in rw e (bit-zero n)
+bit-above (suc w) m zero h k = absurd (omega arith)
+bit-above (suc w) m (suc n) h k = bit-above w (m / 2) n (omega arith) (omega arith)
+
+-- a mask with no digit set from a width up is within it
+pub within-width : (w m : ℕ) → ((n : ℕ) → w ≤ n → bit m n ≡ false) → m < 2 ^ w
+unfolding bit
+within-width zero m h = let e : m ≡ 0 = bit-ext m 0 (λ n. h n (omega arith) ∙ sym (bit-zero n)) in omega arith
+within-width (suc w) m h = let k : m / 2 < 2 ^ w = within-width w (m / 2) (λ n q. h (suc n) (omega arith)) in omega arith
+
+-- a digit by shifting: the form that code has
+pub bit-shift : (m n : ℕ) → bit m n ≡ eqb (m / 2 ^ n % 2) 1
+unfolding bit
+bit-shift m zero = rw div-one
+bit-shift m (suc n) = bit-shift (m / 2) n ∙ ap (λ (k : ℕ). eqb (k % 2) 1) (div-div-eq-div-mul m 2 (2 ^ n) ∙ ap (λ (k : ℕ). m / k) (omega arith))
+
+-- setting a digit by a join: the form that code has
+pub put-true : (m n : ℕ) → putBit m n true ≡ bitOr m (2 ^ n)
+unfolding putBit
+put-true m zero =
+    let e : bitOr m 1 ≡ bitOr (m / 2) 0 * 2 + max (m % 2) 1 = or-step m 1 in
+    let z : bitOr (m / 2) 0 ≡ m / 2 = or-zero-r (m / 2) in
+    omega arith
+put-true m (suc n) =
+    let half-power : 2 ^ n ≡ 2 ^ suc n / 2 = omega arith in
+    let upper : putBit (m / 2) n true ≡ bitOr (m / 2) (2 ^ suc n / 2) = put-true (m / 2) n ∙ ap (λ (k : ℕ). bitOr (m / 2) k) half-power in
+    let e = or-step m (2 ^ suc n) in
+    omega arith

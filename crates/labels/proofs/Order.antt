@@ -1,6 +1,6 @@
 -- The order of labellings: a partial order with `join` as the least upper bound; what setting a label does; expressions' labels are monotone.
 use Prim.Native.Nat.{ℕ}
-use mathlib.Core.Bool.{Bool, true, false, le, _||_, or-self}
+use mathlib.Core.Bool.{Bool, true, le, _||_, or-self}
 use mathlib.Core.Logic.{_↔_}
 use mathlib.Core.Path.{_≡_, refl, sym, ap, ap₂, _∙_, subst}
 use native.Mathlib.Decide.{ℕ-discrete, map-dec}
@@ -11,7 +11,6 @@ use Rattle.awhile.specs.Language.{AExp, number, variable, add, subtract, multip
 use Rattle.awhile.specs.Language.{BExp, constant, equal, less, not, and}
 use Rattle.awhile.specs.declared.Labelling.{Labelling}
 use Rattle.labels.specs.Labellings.{Mark, variableMark, arrayMark, labelOf, setLabel, join, same, _⊑_, labelOfA, labelOfB}
-use Rattle.labels.specs.Masks.{bit, putBit}
 use Rattle.labels.proofs.Booleans.{or-left, or-right, or-least, or-mono, le-antisym, and-left, and-right}
 use Rattle.labels.proofs.Masks.{bit-put, bit-put-other, bit-or, bit-ext}
 
@@ -25,13 +24,15 @@ unfolding labelOf
 equal-labels l m h =
     equal-masks l m (bit-ext (l .variables) (m .variables) (λ x. h (variableMark x))) (bit-ext (l .arrays) (m .arrays) (λ a. h (arrayMark a)))
 
--- the order of labellings is a partial order
+-- every labelling is below itself
 pub ⊑-refl : (l : Labelling) → l ⊑ l
 ⊑-refl l = record { at = λ k h. h }
 
+-- what is below something is below whatever that is below
 pub ⊑-trans : {l m n : Labelling} → l ⊑ m → m ⊑ n → l ⊑ n
 ⊑-trans p q = record { at = λ k h. q .at k (p .at k h) }
 
+-- labellings below each other are equal
 pub ⊑-antisym : {l m : Labelling} → l ⊑ m → m ⊑ l → l ≡ m
 ⊑-antisym {l} {m} p q = equal-labels l m (λ k. le-antisym (p .at k) (q .at k))
 
@@ -46,10 +47,11 @@ pub label-join-same : (l m : Labelling) (k : Mark) (b : Bool) → labelOf l k �
 label-join-same l m k b p q = label-join l m k ∙ ap₂ _||_ p q ∙ or-self b
 
 module _ (l m : Labelling) where
-  -- a join is above both of its parts
+  -- a join is above its first part
   pub join-left : l ⊑ join l m
   join-left = record { at = λ k h. label-join l m k ∙ or-left (labelOf l k) (labelOf m k) h }
 
+  -- a join is above its second part
   pub join-right : m ⊑ join l m
   join-right = record { at = λ k h. label-join l m k ∙ or-right (labelOf l k) (labelOf m k) h }
 
@@ -108,7 +110,7 @@ module _ {l m : Labelling} (p : l ⊑ m) where
   mutual
     unfolding labelOfA
 
-    -- a larger labelling gives an expression a larger label
+    -- a larger labelling gives a numeric expression a larger label
     pub labelOfA-mono : (e : AExp) → le (labelOfA l e) (labelOfA m e)
     labelOfA-mono (number n) = λ h. h
     labelOfA-mono (variable x) = p .at (variableMark x)
@@ -117,6 +119,7 @@ module _ {l m : Labelling} (p : l ⊑ m) where
     labelOfA-mono (multiply a b) = or-mono (labelOfA-mono a) (labelOfA-mono b)
     labelOfA-mono (choice c a b) = or-mono (labelOfB-mono c) (or-mono (labelOfA-mono a) (labelOfA-mono b))
 
+    -- a larger labelling gives a truth a larger label
     pub labelOfB-mono : (b : BExp) → le (labelOfB l b) (labelOfB m b)
     labelOfB-mono (constant b) = λ h. h
     labelOfB-mono (equal a b) = or-mono (labelOfA-mono a) (labelOfA-mono b)

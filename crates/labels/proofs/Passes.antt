@@ -1,10 +1,10 @@
 -- Repeated passes over a labelling: they settle once a pass adds no secret, which happens within as many passes as there are public marks.
-use Prim.Native.Nat.{ℕ, zero, suc, _+_, _≤_, _<_}
+use Prim.Native.Nat.{ℕ, zero, suc, _≤_}
 use mathlib.Core.Bool.{Bool, true, false, le, cond, true≢false}
 use mathlib.Core.List.{List, [], _∷_, List·Memᴰ, List·Memᴰ·head, List·Memᴰ·tail, List·Memᴰ·not-nil, List·Memᴰ·cases-cons}
 use mathlib.Core.Logic.{⊎-elim}
 use mathlib.Core.Path.{_≡_, refl, sym, ap, _∙_, subst}
-use native.Mathlib.Decide.{decLe, map-dec}
+use native.Mathlib.Decide.{decLe}
 use native.Mathlib.Omega.{arith}
 use lib.ListN.{length}
 use Rattle.awhile.specs.declared.Labelling.{Labelling}
@@ -107,6 +107,15 @@ module _ (pass : Labelling → Labelling) (mono : (l m : Labelling) → l ⊑ m 
   unfolding passed
   passed-below zero l m p q = p
   passed-below (suc n) l m p q = passed-below n (join l (pass l)) m (join-least l (pass l) p (⊑-trans (mono l m p) q)) q
+
+  module _ {l s m : Labelling} (settled : Settled pass l s) (p : l ⊑ m) (q : m ⊑ s) where
+    -- a pass from between the entering and the settled labelling stays between them
+    pub between-pass : join m (pass m) ⊑ s
+    between-pass = join-least m (pass m) q (⊑-trans (mono m s q) (settled .closed))
+
+    -- where such a pass adds nothing, it started from the settled labelling
+    pub between-settled : pass m ⊑ m → m ≡ s
+    between-settled h = ⊑-antisym q (settled .least m p h)
 
   module _ (ks : List Mark) (frame : (l : Labelling) (k : Mark) → (List·Memᴰ k ks → ⊥) → labelOf (pass l) k ≡ labelOf l k) where
     -- a pass that leaves as many marks public adds nothing

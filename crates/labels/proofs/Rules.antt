@@ -1,17 +1,17 @@
 -- The analysis satisfies the rules for labels, and every annotation that does is above it at every command.
 use Prim.Native.Nat.{ℕ}
 use mathlib.Core.Bool.{Bool, le, _||_}
-use mathlib.Core.Path.{_≡_, refl, sym, ap, ap₂, _∙_, subst}
-use Rattle.awhile.specs.Language.{AExp, BExp, Com, skip, assign, sequence, if, while, read, write, noteOf, mapNotes}
+use mathlib.Core.Path.{_≡_, refl, ap, ap₂, subst}
+use Rattle.awhile.specs.Language.{BExp, Com, skip, assign, sequence, if, while, read, write, noteOf, mapNotes}
 use Rattle.awhile.specs.declared.Labelling.{Labelling}
-use Rattle.labels.specs.Labellings.{variableMark, arrayMark, setLabel, join, _⊑_, labelOfA, labelOfB}
-use Rattle.labels.specs.Analysis.{analyse, readLabel, writeLabel}
+use Rattle.labels.specs.Labellings.{variableMark, arrayMark, _⊑_, labelOfB}
+use Rattle.labels.specs.Analysis.{analyse}
 use Rattle.labels.specs.Annotation.{Entry, entered, annotate}
 use Rattle.labels.specs.Rules.{Settled, loopPass, programOf, Enters, Satisfies, skip-rule, assign-rule, sequence-rule, if-rule, while-rule, read-rule, write-rule}
 use Rattle.labels.specs.Rules.{Annotates, EntryAbove, Above, skip-above, assign-above, sequence-above, if-above, while-above, read-above, write-above}
 use Rattle.labels.proofs.Booleans.{or-mono}
 use Rattle.labels.proofs.Order.{⊑-refl, ⊑-trans, join-left, join-right, join-least, set-mono, labelOfA-mono, labelOfB-mono}
-use Rattle.labels.proofs.Analysis.{readLabel-mono, writeLabel-mono, analyse-mono, loop-settles}
+use Rattle.labels.proofs.Analysis.{readLabel-mono, writeLabel-mono, loop-settles}
 
 -- what satisfies the rules still does with a larger labelling after it
 pub satisfies-weaker : {a : Com Entry} {m n : Labelling} → Satisfies a m → m ⊑ n → Satisfies a n

@@ -1,16 +1,21 @@
 -- Values of public expressions: they are the same wherever the public variables are.
-use Prim.Native.Nat.{ℕ, _+_, _-_, _*_, _%_, _^_}
+use Prim.Native.Nat.{ℕ, zero, suc, _+_, _-_, _*_, _%_, _^_}
 use mathlib.Core.Bool.{Bool, false, cond, _&&_, _||_}
 use mathlib.Core.Bool.{not as negated}
-use mathlib.Core.List.{List}
-use mathlib.Core.Path.{_≡_, refl, ap, ap₂}
+use mathlib.Core.List.{List, [], _∷_}
+use mathlib.Core.Path.{_≡_, refl, sym, ap, ap₂, _∙_}
+use native.Mathlib.Decide.{ℕ-discrete}
+use native.Mathlib.Omega.{arith}
 use lib.Dec.{eqb, ltb}
+use lib.ListN.{length, getD, set}
+use lib.Seq.{getD-set-other}
 use Rattle.awhile.specs.Language.{AExp, number, variable, add, subtract, multiply, choice, valueOf}
 use Rattle.awhile.specs.Language.{BExp, constant, equal, less, not, and, truthOf}
 use Rattle.awhile.specs.declared.Labelling.{Labelling}
-use Rattle.labels.specs.Labellings.{labelOf, labelOfA, labelOfB}
+use Rattle.labels.specs.Labellings.{variableMark, labelOf, setLabel, _⊑_, labelOfA, labelOfB}
 use Rattle.labels.specs.Rules.{AgreeOn}
-use Rattle.labels.proofs.Booleans.{or-false-left, or-false-right}
+use Rattle.labels.proofs.Booleans.{or-false-left, or-false-right, le-false}
+use Rattle.labels.proofs.Order.{label-set, label-set-other}
 
 -- an operation on two parts gives one result where the join of their labels is public and public parts are the same
 by-parts : {A B C : Type 0} {a c : A} {b d : B} (f : A → B → C) (p q : Bool)
@@ -39,3 +44,25 @@ module _ (l : Labelling) (vs ws : List ℕ) (agree : AgreeOn l vs ws) where
     public-truth (less a b) = by-parts ltb (labelOfA l a) (labelOfA l b) (public-value a) (public-value b)
     public-truth (not b) = λ p. ap negated (public-truth b p)
     public-truth (and b c) = by-parts _&&_ (labelOfB l b) (labelOfB l c) (public-truth b) (public-truth c)
+
+-- states that agree on a labelling agree on every larger one
+pub agree-weaker : {l m : Labelling} {vs ws : List ℕ} → l ⊑ m → AgreeOn l vs ws → AgreeOn m vs ws
+agree-weaker p agree = record { at = λ x e. agree .at x (le-false (p .at (variableMark x)) e) }
+
+-- an element stored in lists of one length is the same in both, or in neither
+stored : (vs ws : List ℕ) (x a c : ℕ) → length vs ≡ length ws → a ≡ c → getD (set vs x a) x 0 ≡ getD (set ws x c) x 0
+stored [] [] x a c n e = refl
+stored [] (w ∷ ws) x a c n e = absurd (omega arith)
+stored (v ∷ vs) [] x a c n e = absurd (omega arith)
+stored (v ∷ vs) (w ∷ ws) zero a c n e = e
+stored (v ∷ vs) (w ∷ ws) (suc x) a c n e = stored vs ws x a c (omega arith) e
+
+-- states still agree after a variable is set in both, to one value where its new label is public
+pub agree-set : {l : Labelling} {vs ws : List ℕ} (x : ℕ) (b : Bool) (a c : ℕ) → length vs ≡ length ws → (b ≡ false → a ≡ c)
+    → AgreeOn l vs ws → AgreeOn (setLabel l (variableMark x) b) (set vs x a) (set ws x c)
+agree-set {l} {vs} {ws} x b a c n h agree = record { at = λ y e. go y (ℕ-discrete y x) e }
+  where
+    go : (y : ℕ) → Dec (y ≡ x) → labelOf (setLabel l (variableMark x) b) (variableMark y) ≡ false → getD (set vs x a) y 0 ≡ getD (set ws x c) y 0
+    go y (yes q) = rw q (λ e. stored vs ws x a c n (h (sym (label-set l (variableMark x) b) ∙ e)))
+    go y (no q) =
+        rw (getD-set-other vs x y a 0 q, getD-set-other ws x y c 0 q, label-set-other l (variableMark x) (variableMark y) b (λ e. q (cc))) (agree .at y)

@@ -1,5 +1,5 @@
 -- What the labels promise: the statements of the theorems about labellings, the analysis and annotated programs.
-use Prim.Native.Nat.{ℕ, zero, suc, _+_, _<_}
+use Prim.Native.Nat.{ℕ, zero, suc, _+_, _^_, _<_}
 use mathlib.Core.Bool.{Bool, false, le, cond, _||_}
 use mathlib.Core.List.{List, [], _∷_, _++_, List·Memᴰ}
 use mathlib.Core.Path.{_≡_}
@@ -13,6 +13,11 @@ use Rattle.labels.specs.Annotation.{Entry}
 -- the two lists of values agree on every variable that is public in the labelling
 pub record AgreeOn (l : Labelling) (vs ws : List ℕ) : Type 0 where
   pub at : (x : ℕ) → labelOf l (variableMark x) ≡ false → getD vs x 0 ≡ getD ws x 0
+
+-- "bits from V or A up are 0": the labelling marks variables and arrays below these counts only
+pub record Within (variables arrays : ℕ) (l : Labelling) : Type 0 where
+  pub variableMask : l .variables < 2 ^ variables
+  pub arrayMask : l .arrays < 2 ^ arrays
 
 -- the settled labelling of repeated passes: above the entering labelling, closed under a pass, and below every other such
 pub record Settled (pass : Labelling → Labelling) (entering settled : Labelling) : Type 0 where
@@ -29,6 +34,11 @@ passed (suc n) pass l = passed n pass (join l (pass l))
 unfoldable pub publicAmong : List Mark → Labelling → ℕ
 publicAmong [] l = 0
 publicAmong (k ∷ ks) l = cond (labelOf l k) 0 1 + publicAmong ks l
+
+-- It settles within one pass more than there are public marks: as many passes give the settled labelling, and the next adds nothing.
+pub record SettledWithin (marks : List Mark) (pass : Labelling → Labelling) (entering settled : Labelling) : Type 0 where
+  pub passes : settled ≡ passed (publicAmong marks entering) pass entering
+  pub idle : join settled (pass settled) ≡ settled
 
 -- the marks of the numbers below a count
 unfoldable pub marksBelow : (ℕ → Mark) → ℕ → List Mark
@@ -61,6 +71,7 @@ pub data Satisfies : Com Entry → (after : Labelling) → Type 0 where
   -- "Assign gives its variable the join of expression and context."
   assign-rule : {e : Entry} {v : ℕ} {a : AExp} {after : Labelling}
       → setLabel (e .labelling) (variableMark v) (labelOfA (e .labelling) a || e .context) ⊑ after → Satisfies (assign e v a) after
+  -- "The labelling of a command is built from its parts": the first part's leads into the second.
   sequence-rule : {e : Entry} {c d : Com Entry} {between after : Labelling}
       → Enters (e .labelling) (e .context) c → Satisfies c between → Enters between (e .context) d → Satisfies d after → Satisfies (sequence e c d) after
   -- "If analyses both sides with the condition joined to the context, then joins the labellings."
