@@ -1,0 +1,36 @@
+-- Laws of lists that begin one another.
+use mathlib.Core.Path.{_≡_, refl, sym, ap, _∙_}
+use mathlib.Core.List.{List, [], _∷_, _++_, append-assoc, append-nil}
+use mathlib.Core.Logic.{_⊎_, inl, inr, ⊎-map}
+use Rattle.machine.specs.Prefixes.{Begins, OneBegins}
+
+module _ {A : Type 0} where
+  -- a list begins what it begins
+  pub begins-append : (xs after : List A) → Begins xs (xs ++ after)
+  begins-append xs after = record { after = after; whole = refl }
+
+  -- equal lists begin one another
+  pub begins-equal : {xs ys : List A} → xs ≡ ys → Begins xs ys
+  begins-equal {xs} e = record { after = []; whole = sym e ∙ sym (append-nil xs) }
+
+  pub begins-refl : (xs : List A) → Begins xs xs
+  begins-refl xs = begins-equal refl
+
+  pub begins-trans : {xs ys zs : List A} → Begins xs ys → Begins ys zs → Begins xs zs
+  begins-trans {xs} b c =
+      record { after = b .after ++ c .after; whole = c .whole ∙ (ap (λ l. l ++ c .after) (b .whole) ∙ append-assoc xs (b .after) (c .after)) }
+
+  begins-cons : (x y : A) (xs ys : List A) → x ≡ y → Begins xs ys → Begins (x ∷ xs) (y ∷ ys)
+  begins-cons x y xs ys e b = record { after = b .after; whole = cc (b .whole) }
+
+  append-begins : (xs ys s t : List A) → xs ++ s ≡ ys ++ t → Begins xs ys ⊎ Begins ys xs
+  append-begins [] ys s t e = inl (begins-append [] ys)
+  append-begins (x ∷ xs) [] s t e = inr (begins-append [] (x ∷ xs))
+  append-begins (x ∷ xs) (y ∷ ys) s t e =
+      let same : x ≡ y = cc in
+      let rest : xs ++ s ≡ ys ++ t = cc in
+      ⊎-map (begins-cons x y xs ys same) (begins-cons y x ys xs (sym same)) (append-begins xs ys s t rest)
+
+  -- two lists that begin a common list: one of the two begins the other
+  pub common-begins : {xs ys zs : List A} → Begins xs zs → Begins ys zs → OneBegins xs ys
+  common-begins {xs} {ys} b c = record { either = append-begins xs ys (b .after) (c .after) (sym (b .whole) ∙ c .whole) }
