@@ -7,6 +7,7 @@ use mathlib.Core.Option.{Option, none, some}
 use mathlib.Core.List.{List, [], _∷_, _++_}
 use lib.ListN.{length}
 use lib.Dec.{eqb}
+use borrow.Author.Tests.{eq-eqb}
 use Rattle.awhile.specs.Language.{Com}
 use Rattle.machine.specs.Observations.{Observation, branch, readAt, writeAt, observationBytes, shownBytes}
 use Rattle.machine.specs.Prefixes.{Begins, OneBegins}
@@ -25,25 +26,26 @@ pub data Moves {Note : Type 0} (m : Machine Note) : Next Note → Type 0 where
   ended : {e : End} → (e ≡ Spent → ⊥) → Moves m (over e)
   stepped : (s : State Note) (g : Guide) (u : ℕ) (os : List Observation) → Moves m (goes (moved m s g u os))
 
--- an end of another number is not Spent
-pub not-spent : (e : End) → eqb (endNumber e) 2 ≡ false → e ≡ Spent → ⊥
-unfolding endNumber
-not-spent e h same = let z : _≡_ {A = Bool} true false = ap (λ x. eqb (endNumber x) 2) (sym same) ∙ h in true≢false z
+-- ends of different numbers differ
+pub ends-differ : (e e′ : End) → eqb (endNumber e) (endNumber e′) ≡ false → e ≡ e′ → ⊥
+ends-differ e e′ h same =
+    let equal : eqb (endNumber e) (endNumber e′) ≡ true = eq-eqb (endNumber e) (endNumber e′) (ap endNumber same) in
+    true≢false (sym equal ∙ h)
 
 module _ {Note : Type 0} (m : Machine Note) where
   shownIf-moves : (room : Room) (o : Observation) (g : Guide) (u : ℕ) (s : Option (State Note)) → Moves m (shownIf room m o g u s)
   unfolding shownIf endNumber
-  shownIf-moves room o g u none = ended (not-spent Stuck refl)
+  shownIf-moves room o g u none = ended (ends-differ Stuck Spent refl)
   shownIf-moves room o g u (some s) = go (holds room (length (shownBytes (m .shown)) + length (observationBytes o)))
     where
       go : (b : Bool) → Moves m (cond b (goes (moved m s g u (o ∷ []))) (over Full))
       go true = stepped s g u (o ∷ [])
-      go false = ended (not-spent Full refl)
+      go false = ended (ends-differ Full Spent refl)
 
   shownStep-moves : (room : Room) (o : Observation) (after : Directive → Option (State Note)) (g : Guide) → Moves m (shownStep room m o after g)
   unfolding shownStep endNumber
   shownStep-moves room o after plain = shownIf-moves room o plain 0 (after Step)
-  shownStep-moves room o after (guessing []) = ended (not-spent OutOfDirectives refl)
+  shownStep-moves room o after (guessing []) = ended (ends-differ OutOfDirectives Spent refl)
   shownStep-moves room o after (guessing (d ∷ ds)) = shownIf-moves room o (guessing ds) 1 (after d)
 
   module _ (counts : List ℕ) (room : Room) where
@@ -56,7 +58,7 @@ module _ {Note : Type 0} (m : Machine Note) where
 
     nextOf-moves : (cs : List (Com Note)) → Moves m (nextOf counts room m cs)
     unfolding nextOf endNumber
-    nextOf-moves [] = ended (not-spent Finished refl)
+    nextOf-moves [] = ended (ends-differ Finished Spent refl)
     nextOf-moves (c ∷ rest) = stepOf-moves (look c rest (m .state .variables))
 
     pub next-moves : Moves m (next counts room m)

@@ -1,3 +1,4 @@
 -- Decisions, masks and the hardened program, in reading order.
 pub mod Decisions
 pub mod Hardening
+pub mod SameRun

@@ -1,0 +1,3 @@
+-- Laws of masks, in reading order.
+pub mod SameRunSteps
+pub mod SameRun
