@@ -50,12 +50,12 @@ pub agree-weaker : {l m : Labelling} {vs ws : List ℕ} → l ⊑ m → AgreeOn 
 agree-weaker p agree = record { at = λ x e. agree .at x (le-false (p .at (variableMark x)) e) }
 
 -- an element stored in lists of one length is the same in both, or in neither
-stored : (vs ws : List ℕ) (x a c : ℕ) → length vs ≡ length ws → a ≡ c → getD (set vs x a) x 0 ≡ getD (set ws x c) x 0
-stored [] [] x a c n e = refl
-stored [] (w ∷ ws) x a c n e = absurd (omega arith)
-stored (v ∷ vs) [] x a c n e = absurd (omega arith)
-stored (v ∷ vs) (w ∷ ws) zero a c n e = e
-stored (v ∷ vs) (w ∷ ws) (suc x) a c n e = stored vs ws x a c (omega arith) e
+pub stored-same : (vs ws : List ℕ) (x a c : ℕ) → length vs ≡ length ws → a ≡ c → getD (set vs x a) x 0 ≡ getD (set ws x c) x 0
+stored-same [] [] x a c n e = refl
+stored-same [] (w ∷ ws) x a c n e = absurd (omega arith)
+stored-same (v ∷ vs) [] x a c n e = absurd (omega arith)
+stored-same (v ∷ vs) (w ∷ ws) zero a c n e = e
+stored-same (v ∷ vs) (w ∷ ws) (suc x) a c n e = stored-same vs ws x a c (omega arith) e
 
 -- states still agree after a variable is set in both, to one value where its new label is public
 pub agree-set : {l : Labelling} {vs ws : List ℕ} (x : ℕ) (b : Bool) (a c : ℕ) → length vs ≡ length ws → (b ≡ false → a ≡ c)
@@ -63,6 +63,6 @@ pub agree-set : {l : Labelling} {vs ws : List ℕ} (x : ℕ) (b : Bool) (a c : �
 agree-set {l} {vs} {ws} x b a c n h agree = record { at = λ y e. go y (ℕ-discrete y x) e }
   where
     go : (y : ℕ) → Dec (y ≡ x) → labelOf (setLabel l (variableMark x) b) (variableMark y) ≡ false → getD (set vs x a) y 0 ≡ getD (set ws x c) y 0
-    go y (yes q) = rw q (λ e. stored vs ws x a c n (h (sym (label-set l (variableMark x) b) ∙ e)))
+    go y (yes q) = rw q (λ e. stored-same vs ws x a c n (h (sym (label-set l (variableMark x) b) ∙ e)))
     go y (no q) =
         rw (getD-set-other vs x y a 0 q, getD-set-other ws x y c 0 q, label-set-other l (variableMark x) (variableMark y) b (λ e. q (cc))) (agree .at y)

@@ -1,4 +1,6 @@
--- Laws of the machines.
+-- Laws of the machines, in reading order.
 pub mod Prefixes
+pub mod Runs
+pub mod Notes
 pub mod Traces
 pub mod Cells

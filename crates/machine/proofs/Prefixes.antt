@@ -1,62 +1,65 @@
--- One list begins another: the laws.
-use mathlib.Core.Path.{_≡_, refl, sym, ap, subst, _∙_}
-use mathlib.Core.List.{List, [], _∷_, _++_, append-assoc, append-nil, nil≢cons}
-use mathlib.Core.Logic.{_⊎_, inl, inr}
+-- Laws of lists that begin one another.
+use mathlib.Core.Path.{_≡_, refl, sym, ap, _∙_}
+use mathlib.Core.List.{List, [], _∷_, _++_, append-assoc, append-nil}
+use mathlib.Core.Logic.{_⊎_, inl, inr, ⊎-map, ⊎-elim}
 use Rattle.machine.specs.Prefixes.{Begins, OneBegins}
 
 module _ {A : Type 0} where
+  -- a list begins what it begins
+  pub begins-append : (xs after : List A) → Begins xs (xs ++ after)
+  begins-append xs after = record { after = after; whole = refl }
+
+  -- equal lists begin one another
+  pub begins-equal : {xs ys : List A} → xs ≡ ys → Begins xs ys
+  begins-equal {xs} e = record { after = []; whole = sym e ∙ sym (append-nil xs) }
+
   pub begins-refl : (xs : List A) → Begins xs xs
-  begins-refl xs = record { after = []; whole = sym (append-nil xs) }
-
-  pub nil-begins : (xs : List A) → Begins [] xs
-  nil-begins xs = record { after = xs; whole = refl }
-
-  pub begins-append : (xs ys : List A) → Begins xs (xs ++ ys)
-  begins-append xs ys = record { after = ys; whole = refl }
+  begins-refl xs = begins-equal refl
 
   pub begins-trans : {xs ys zs : List A} → Begins xs ys → Begins ys zs → Begins xs zs
-  begins-trans {xs} {ys} {zs} p q =
-      record { after = p .after ++ q .after; whole = q .whole ∙ (ap (λ (l : List A). l ++ q .after) (p .whole) ∙ append-assoc xs (p .after) (q .after)) }
+  begins-trans {xs} b c =
+      record { after = b .after ++ c .after; whole = c .whole ∙ (ap (λ l. l ++ c .after) (b .whole) ∙ append-assoc xs (b .after) (c .after)) }
+
+  begins-cons : (x y : A) (xs ys : List A) → x ≡ y → Begins xs ys → Begins (x ∷ xs) (y ∷ ys)
+  begins-cons x y xs ys e b = record { after = b .after; whole = cc (b .whole) }
+
+  append-begins : (xs ys s t : List A) → xs ++ s ≡ ys ++ t → Begins xs ys ⊎ Begins ys xs
+  append-begins [] ys s t e = inl (begins-append [] ys)
+  append-begins (x ∷ xs) [] s t e = inr (begins-append [] (x ∷ xs))
+  append-begins (x ∷ xs) (y ∷ ys) s t e =
+      let same : x ≡ y = cc in
+      let rest : xs ++ s ≡ ys ++ t = cc in
+      ⊎-map (begins-cons x y xs ys same) (begins-cons y x ys xs (sym same)) (append-begins xs ys s t rest)
+
+  -- two lists that begin a common list: one of the two begins the other
+  pub common-begins : {xs ys zs : List A} → Begins xs zs → Begins ys zs → OneBegins xs ys
+  common-begins {xs} {ys} b c = record { either = append-begins xs ys (b .after) (c .after) (sym (b .whole) ∙ c .whole) }
+
+  pub nil-begins : (xs : List A) → Begins [] xs
+  nil-begins xs = begins-append [] xs
 
   -- a common front does not matter
   pub begins-front : (os : List A) {xs ys : List A} → Begins xs ys → Begins (os ++ xs) (os ++ ys)
-  begins-front os {xs} p = record { after = p .after; whole = ap (λ (l : List A). os ++ l) (p .whole) ∙ sym (append-assoc os xs (p .after)) }
+  begins-front os {xs} b = record { after = b .after; whole = ap (λ (l : List A). os ++ l) (b .whole) ∙ sym (append-assoc os xs (b .after)) }
 
   pub one-begins-front : (os : List A) {xs ys : List A} → OneBegins xs ys → OneBegins (os ++ xs) (os ++ ys)
-  one-begins-front os h = go (h .either)
-    where
-      go : {xs ys : List A} → Begins xs ys ⊎ Begins ys xs → OneBegins (os ++ xs) (os ++ ys)
-      go (inl p) = record { either = inl (begins-front os p) }
-      go (inr p) = record { either = inr (begins-front os p) }
+  one-begins-front os h = record { either = ⊎-map (begins-front os) (begins-front os) (h .either) }
 
   cons-begins : {x y : A} {xs ys : List A} → Begins (x ∷ xs) (y ∷ ys) → (x ≡ y) × Begins xs ys
-  cons-begins {x} {y} {xs} {ys} p =
-      let e : y ∷ ys ≡ x ∷ (xs ++ p .after) = p .whole in
-      let h : x ≡ y = cc in
-      let t : ys ≡ xs ++ p .after = cc in
-      (h, record { after = p .after; whole = t })
+  cons-begins {x} {y} {xs} {ys} b =
+      let e : y ∷ ys ≡ x ∷ (xs ++ b .after) = b .whole in
+      let same : x ≡ y = cc in
+      let rest : ys ≡ xs ++ b .after = cc in
+      (same, record { after = b .after; whole = rest })
 
-  -- two lists with a first element each: the elements are equal and what follows is related
+  -- two related lists with a first element each: the elements are equal and what follows is related
   pub one-begins-cons : {x y : A} {xs ys : List A} → OneBegins (x ∷ xs) (y ∷ ys) → (x ≡ y) × OneBegins xs ys
   one-begins-cons h = go (h .either)
     where
       go : {x y : A} {xs ys : List A} → Begins (x ∷ xs) (y ∷ ys) ⊎ Begins (y ∷ ys) (x ∷ xs) → (x ≡ y) × OneBegins xs ys
-      go (inl p) = (cons-begins p .0, record { either = inl (cons-begins p .1) })
-      go (inr p) = (sym (cons-begins p .0), record { either = inr (cons-begins p .1) })
+      go (inl b) = (cons-begins b .0, record { either = inl (cons-begins b .1) })
+      go (inr b) = (sym (cons-begins b .0), record { either = inr (cons-begins b .1) })
 
-  -- two beginnings of one list
-  pub both-begin : (xs ys zs : List A) → Begins xs zs → Begins ys zs → OneBegins xs ys
-  both-begin [] ys zs p q = record { either = inl (nil-begins ys) }
-  both-begin (x ∷ xs) [] zs p q = record { either = inr (nil-begins (x ∷ xs)) }
-  both-begin (x ∷ xs) (y ∷ ys) [] p q = absurd (nil≢cons (p .whole))
-  both-begin (x ∷ xs) (y ∷ ys) (z ∷ zs) p q =
-      subst (λ (u : A). OneBegins (x ∷ xs) (u ∷ ys)) (cons-begins p .0 ∙ sym (cons-begins q .0))
-      (one-begins-front (x ∷ []) (both-begin xs ys zs (cons-begins p .1) (cons-begins q .1)))
-
-  -- beginnings of related lists are related
-  pub beginnings-related : (xs ys us vs : List A) → Begins xs us → Begins ys vs → OneBegins us vs → OneBegins xs ys
-  beginnings-related xs ys us vs p q h = go (h .either)
-    where
-      go : Begins us vs ⊎ Begins vs us → OneBegins xs ys
-      go (inl r) = both-begin xs ys vs (begins-trans p r) q
-      go (inr r) = both-begin xs ys us p (begins-trans q r)
+  -- what begins related lists is related
+  pub beginnings-related : {xs ys us vs : List A} → Begins xs us → Begins ys vs → OneBegins us vs → OneBegins xs ys
+  beginnings-related b c h = ⊎-elim (λ d. common-begins (begins-trans b d) c) (λ d. common-begins b (begins-trans c d)) (h .either)

@@ -17,7 +17,8 @@ use Rattle.machine.specs.declared.Directive.{Directive}
 use Rattle.machine.specs.declared.Directive.the-variants.{Step}
 use Rattle.machine.specs.declared.End.{End}
 use Rattle.machine.specs.declared.End.the-variants.{Finished, OutOfDirectives, Stuck, Full}
-use Rattle.machine.proofs.Prefixes.{begins-refl, begins-append, begins-trans, begins-front}
+use Rattle.machine.proofs.Prefixes.{begins-append}
+use Rattle.machine.proofs.Runs.{run-over, run-goes}
 
 -- one step: none is taken, or what it shows, the state after it and what is left of the list
 pub data Turn (Note : Type 0) : Type 0 where
@@ -105,16 +106,6 @@ module _ {Note : Type 0} where
     unfolding turn next
     next-matches counts = pending-matches counts (m .state .pending)
 
-  run-over : (counts : List ℕ) (room : Room) (n : ℕ) (m : Machine Note) (e : End) → next counts room m ≡ over e
-      → run counts room (suc n) m .machine ≡ m
-  unfolding run
-  run-over counts room n m e h = rw (h, run)
-
-  run-goes : (counts : List ℕ) (room : Room) (n : ℕ) (m m′ : Machine Note) → next counts room m ≡ goes m′
-      → run counts room (suc n) m ≡ run counts room n m′
-  unfolding run
-  run-goes counts room n m m′ h = rw (h, run)
-
   -- what one more step of the budget makes of the observations
   Shows : List ℕ → ℕ → Machine Note → Type 0
   Shows counts n m = run counts endless n m .machine .shown ≡ m .shown ++ trace counts n (m .state) (m .guide)
@@ -124,10 +115,10 @@ module _ {Note : Type 0} where
       → ((m′ : Machine Note) → Shows counts n m′) → Shows counts (suc n) m
   unfolding Shows moved
   shows-more counts n m t x p q (ends e) ih =
-      ap (λ (k : Machine Note). k .shown) (run-over counts endless n m e q)
+      ap (λ (o : Outcome Note). o .machine .shown) (run-over counts endless n m q)
       ∙ (sym (append-nil (m .shown)) ∙ ap (λ (l : List Observation). m .shown ++ l) (sym (trace-halts counts n (m .state) (m .guide) p)))
   shows-more counts n m t x p q (steps os s g u) ih =
-      ap (λ (o : Outcome Note). o .machine .shown) (run-goes counts endless n m (moved m s g u os) q)
+      ap (λ (o : Outcome Note). o .machine .shown) (run-goes counts endless n m q)
       ∙ (ih (moved m s g u os)
       ∙ (append-assoc (m .shown) os (trace counts n s g)
       ∙ ap (λ (l : List Observation). m .shown ++ l) (sym (trace-turns counts n (m .state) (m .guide) os s g p))))
@@ -148,12 +139,12 @@ module _ {Note : Type 0} where
       → ((m′ : Machine Note) → ShowsPart counts room n m′) → ShowsPart counts room (suc n) m
   unfolding ShowsPart moved
   shows-part-more counts room n m t x p q (ends e) ih =
-      rw (run-over counts room n m e q) (begins-append (m .shown) (trace counts (suc n) (m .state) (m .guide)))
+      rw (run-over counts room n m q) (begins-append (m .shown) (trace counts (suc n) (m .state) (m .guide)))
   shows-part-more counts room n m t x p q (steps os s g u) ih =
-      rw (run-goes counts room n m (moved m s g u os) q, trace-turns counts n (m .state) (m .guide) os s g p, ← append-assoc (m .shown) os (trace counts n s g))
+      rw (run-goes counts room n m q, trace-turns counts n (m .state) (m .guide) os s g p, ← append-assoc (m .shown) os (trace counts n s g))
       (ih (moved m s g u os))
   shows-part-more counts room n m t x p q (noRoom os s g e h) ih =
-      rw (run-over counts room n m e q) (begins-append (m .shown) (trace counts (suc n) (m .state) (m .guide)))
+      rw (run-over counts room n m q) (begins-append (m .shown) (trace counts (suc n) (m .state) (m .guide)))
 
   -- whatever the room, what a run shows begins that
   pub run-begins : (counts : List ℕ) (room : Room) (n : ℕ) (m : Machine Note)

@@ -5,14 +5,15 @@ use native.Mathlib.Omega.{arith}
 use mathlib.Core.Bool.{Bool, true, false, cond, true≢false}
 use mathlib.Core.List.{List}
 use mathlib.Core.Path.{_≡_, refl, sym, ap, subst, _∙_}
-use lib.ListN.{length, getD, set, length-set, List·getD-eq-default}
-use lib.Seq.{getD-set-same, getD-set-other, set-out}
+use lib.ListN.{length, getD, set, length-set}
+use lib.Seq.{getD-set-same, getD-set-other}
 use Rattle.awhile.specs.Language.{AExp, BExp, valueOf, truthOf}
 use Rattle.awhile.specs.declared.Labelling.{Labelling}
 use Rattle.labels.specs.Labellings.{_⊑_, Mark, variableMark, arrayMark, labelOf, setLabel, labelOfA, labelOfB}
 use Rattle.labels.specs.Rules.{AgreeOn}
 use Rattle.labels.proofs.Order.{label-set, label-set-other}
-use Rattle.labels.proofs.Values.{public-value, public-truth}
+use Rattle.labels.proofs.Booleans.{le-false}
+use Rattle.labels.proofs.Values.{public-value, public-truth, agree-weaker, agree-set, stored-same}
 use Rattle.machine.specs.Steps.{inside, cellPlace}
 use Rattle.machine.proofs.Cells.{cells-apart}
 use Rattle.masks.specs.Covering.{Masked, AgreeOnArrays}
@@ -21,71 +22,36 @@ use Rattle.masks.proofs.Locked.{Flagged}
 
 -- what is public in the larger labelling is public in the smaller
 pub public-below : {l m : Labelling} → l ⊑ m → (k : Mark) → labelOf m k ≡ false → labelOf l k ≡ false
-public-below {l} {m} h k e = go (labelOf l k) refl
-  where
-    go : (b : Bool) → labelOf l k ≡ b → labelOf l k ≡ false
-    go false p = p
-    go true p = absurd (true≢false (sym (h .at k p) ∙ e))
-
-pub agree-larger : {l m : Labelling} {vs ws : List ℕ} → l ⊑ m → AgreeOn l vs ws → AgreeOn m vs ws
-agree-larger h a = record { at = λ x e. a .at x (public-below h (variableMark x) e) }
+public-below h k e = le-false (h .at k) e
 
 pub flagged-larger : {f k : ℕ} {l m : Labelling} {vs ws : List ℕ} → l ⊑ m → Flagged f k l vs ws → Flagged f k m vs ws
 flagged-larger h a =
-    record { agree = agree-larger h (a .agree); left = a .left; right = a .right; lengths = a .lengths; declared = a .declared }
-
--- the same value set at the same place of two lists of one length
-pub same-set : (x v w : ℕ) (vs ws : List ℕ) → length vs ≡ length ws → v ≡ w → getD (set vs x v) x 0 ≡ getD (set ws x w) x 0
-same-set x v w vs ws e h = go (decLt x (length vs))
-  where
-    go : Dec (x < length vs) → getD (set vs x v) x 0 ≡ getD (set ws x w) x 0
-    go (yes p) = getD-set-same vs x v 0 p ∙ (h ∙ sym (getD-set-same ws x w 0 (omega arith)))
-    go (no p) =
-        ap (λ (l : List ℕ). getD l x 0) (set-out vs x v (omega arith))
-        ∙ (List·getD-eq-default vs 0 (omega arith)
-        ∙ (sym (List·getD-eq-default ws 0 (omega arith)) ∙ ap (λ (l : List ℕ). getD l x 0) (sym (set-out ws x w (omega arith)))))
-
-variable-marks : {x y : ℕ} → variableMark x ≡ variableMark y → x ≡ y
-variable-marks e = cc
-
--- an assignment keeps agreement where the value of a public variable is the same on both sides
-pub agree-set : {l : Labelling} {vs ws : List ℕ} (x v w : ℕ) (b : Bool) → length vs ≡ length ws → (b ≡ false → v ≡ w)
-    → AgreeOn l vs ws → AgreeOn (setLabel l (variableMark x) b) (set vs x v) (set ws x w)
-agree-set {l} {vs} {ws} x v w b e h a = record { at = λ y p. go y p (ℕ-discrete y x) }
-  where
-    go : (y : ℕ) → labelOf (setLabel l (variableMark x) b) (variableMark y) ≡ false → Dec (y ≡ x) → getD (set vs x v) y 0 ≡ getD (set ws x w) y 0
-    go y p (yes q) =
-        subst (λ (z : ℕ). getD (set vs x v) z 0 ≡ getD (set ws x w) z 0) (sym q)
-        (same-set x v w vs ws e (h (sym (label-set l (variableMark x) b) ∙ subst (λ (z : ℕ). labelOf (setLabel l (variableMark x) b) (variableMark z) ≡ false) q p)))
-    go y p (no q) =
-        getD-set-other vs x y v 0 q
-        ∙ (a .at y (sym (label-set-other l (variableMark x) (variableMark y) b (λ r. q (sym (variable-marks r)))) ∙ p)
-        ∙ sym (getD-set-other ws x y w 0 q))
+    record { agree = agree-weaker h (a .agree); left = a .left; right = a .right; lengths = a .lengths; declared = a .declared }
 
 module _ {f k : ℕ} {l : Labelling} {vs ws : List ℕ} (a : Flagged f k l vs ws) where
   pub flagged-set : (x v w : ℕ) (b : Bool) → (x ≡ f → ⊥) → (b ≡ false → v ≡ w) → Flagged f k (setLabel l (variableMark x) b) (set vs x v) (set ws x w)
   flagged-set x v w b other h =
       record {
-          agree = agree-set x v w b (a .lengths) h (a .agree);
-          left = getD-set-other vs x f v 0 (λ e. other (sym e)) ∙ a .left;
-          right = getD-set-other ws x f w 0 (λ e. other (sym e)) ∙ a .right;
-          lengths = length-set vs x v ∙ (a .lengths ∙ sym (length-set ws x w));
-          declared = rw length-set (a .declared)
+        agree = agree-set x b v w (a .lengths) h (a .agree);
+        left = getD-set-other vs x f v 0 (λ e. other (sym e)) ∙ a .left;
+        right = getD-set-other ws x f w 0 (λ e. other (sym e)) ∙ a .right;
+        lengths = length-set vs x v ∙ (a .lengths ∙ sym (length-set ws x w));
+        declared = rw length-set (a .declared);
       }
 
   -- the flag variable gets a new value on both sides
   pub flagged-flag : (j : ℕ) → Flagged f j l (set vs f j) (set ws f j)
   flagged-flag j =
       record {
-          agree = record { at = λ y p. go y p (ℕ-discrete y f) };
-          left = getD-set-same vs f j 0 (a .declared);
-          right = getD-set-same ws f j 0 (subst (λ (n : ℕ). f < n) (a .lengths) (a .declared));
-          lengths = length-set vs f j ∙ (a .lengths ∙ sym (length-set ws f j));
-          declared = rw length-set (a .declared)
+        agree = record { at = λ y p. go y p (ℕ-discrete y f) };
+        left = getD-set-same vs f j 0 (a .declared);
+        right = getD-set-same ws f j 0 (subst (λ (n : ℕ). f < n) (a .lengths) (a .declared));
+        lengths = length-set vs f j ∙ (a .lengths ∙ sym (length-set ws f j));
+        declared = rw length-set (a .declared);
       }
     where
       go : (y : ℕ) → labelOf l (variableMark y) ≡ false → Dec (y ≡ f) → getD (set vs f j) y 0 ≡ getD (set ws f j) y 0
-      go y p (yes q) = subst (λ (z : ℕ). getD (set vs f j) z 0 ≡ getD (set ws f j) z 0) (sym q) (same-set f j j vs ws (a .lengths) refl)
+      go y p (yes q) = subst (λ (z : ℕ). getD (set vs f j) z 0 ≡ getD (set ws f j) z 0) (sym q) (stored-same vs ws f j j (a .lengths) refl)
       go y p (no q) = getD-set-other vs f y j 0 q ∙ (a .agree .at y p ∙ sym (getD-set-other ws f y j 0 q))
 
 -- ---- masks, by the value of the flag variable
@@ -147,7 +113,7 @@ module _ {l : Labelling} {counts cs ds : List ℕ} (a i v w : ℕ) (r : Bool) (h
 
   kept-on : v ≡ w → Kept (cellPlace counts a i)
   unfolding Kept
-  kept-on e = same-set (cellPlace counts a i) v w cs ds lengths e
+  kept-on e = stored-same cs ds (cellPlace counts a i) v w lengths e
 
   same-array : (j : ℕ) → r ≡ false → inside counts a j ≡ true → Dec (cellPlace counts a j ≡ cellPlace counts a i) → Kept (cellPlace counts a j)
   same-array j e p (yes q) = subst Kept (sym q) (kept-on (equal e))
@@ -164,6 +130,7 @@ module _ {l : Labelling} {counts cs ds : List ℕ} (a i v w : ℕ) (r : Bool) (h
           order (yes m) o = cells-apart counts b j a i m p e
           order (no m) (yes o) = cells-apart counts a i b j o within (sym e)
           order (no m) (no o) = q (omega arith)
+
       go : (b j : ℕ) → labelOf (setLabel l (arrayMark a) r) (arrayMark b) ≡ false → inside counts b j ≡ true → Dec (b ≡ a) → Kept (cellPlace counts b j)
       go b j e p (yes q) =
           subst (λ (k : ℕ). Kept (cellPlace counts k j)) (sym q)

@@ -1,4 +1,6 @@
 -- Laws of the hardened program, in reading order.
+pub mod SameRunSteps
+pub mod SameRun
 pub mod Locked
 pub mod Agreement
 pub mod PlainRuns

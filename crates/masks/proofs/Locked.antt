@@ -17,17 +17,8 @@ use Rattle.machine.specs.Prefixes.{OneBegins}
 use Rattle.machine.proofs.Traces.{trace}
 use Rattle.masks.specs.Decisions.{Decision}
 use Rattle.masks.specs.Hardening.{Origin, harden, maskedCondition, maskedIndex, flagIfTrue, flagIfFalse, maskValueOf}
+use Rattle.masks.specs.SameRun.{AssignsBelow}
 use Rattle.masks.specs.Covering.{Masked, Covers, AgreeOnArrays}
-
--- no command assigns or reads into the flag variable
-pub data Spares (f : ℕ) : Com Decision → Type 0 where
-  spares-skip : {n : Decision} → Spares f (skip n)
-  spares-assign : {n : Decision} {v : ℕ} {e : AExp} → (v ≡ f → ⊥) → Spares f (assign n v e)
-  spares-sequence : {n : Decision} {c d : Com Decision} → Spares f c → Spares f d → Spares f (sequence n c d)
-  spares-if : {n : Decision} {b : BExp} {c d : Com Decision} → Spares f c → Spares f d → Spares f (if n b c d)
-  spares-while : {n : Decision} {b : BExp} {c : Com Decision} → Spares f c → Spares f (while n b c)
-  spares-read : {n : Decision} {v a : ℕ} {i : AExp} → (v ≡ f → ⊥) → Spares f (read n v a i)
-  spares-write : {n : Decision} {a : ℕ} {i e : AExp} → Spares f (write n a i e)
 
 -- the condition of a command as it is copied
 abbrev pub conditionOf : ℕ → Decision → BExp → BExp
@@ -45,16 +36,16 @@ readOf f n v a i = read (some (n .node)) v a (maskedIndex f (n .maskIndex) i)
 pub data WellLabelled (f : ℕ) : Labelling → List (Com Origin) → Type 0 where
   nothing : {l : Labelling} → WellLabelled f l []
   item : {l : Labelling} {rest : List (Com Origin)} (c : Com Decision) (x : Bool) (m : Labelling)
-      → l ⊑ m → Covers c x m → Spares f c → WellLabelled f (analyse c x m) rest
+      → l ⊑ m → Covers c x m → AssignsBelow f c → WellLabelled f (analyse c x m) rest
       → WellLabelled f l (harden f c ∷ rest)
   -- a loop that is under way: its body is closed at the labelling
   loop : {l : Labelling} {rest : List (Com Origin)} (n : Decision) (b : BExp) (c : Com Decision) (x : Bool) (m : Labelling)
-      → l ⊑ m → Masked (labelOfB m b) (n .maskCondition) → Covers c (labelOfB m b || x) m → Spares f c → analyse c (labelOfB m b || x) m ⊑ m
+      → l ⊑ m → Masked (labelOfB m b) (n .maskCondition) → Covers c (labelOfB m b || x) m → AssignsBelow f c → analyse c (labelOfB m b || x) m ⊑ m
       → WellLabelled f m rest
       → WellLabelled f l (loopOf f n b c ∷ flagIfFalse f (conditionOf f n b) ∷ rest)
   -- a read that is followed by the mask of its value
   maskedRead : {l : Labelling} {rest : List (Com Origin)} (n : Decision) (v a : ℕ) (i : AExp) (x : Bool) (m : Labelling)
-      → l ⊑ m → Masked (labelOfA m i) (n .maskIndex) → (v ≡ f → ⊥) → WellLabelled f (setLabel m (variableMark v) (readLabel m x a i)) rest
+      → l ⊑ m → Masked (labelOfA m i) (n .maskIndex) → v < f → WellLabelled f (setLabel m (variableMark v) (readLabel m x a i)) rest
       → WellLabelled f l (readOf f n v a i ∷ maskValueOf f v ∷ rest)
 
 -- the variables of two configurations: they agree on what is public, and the flag variable has this value in both

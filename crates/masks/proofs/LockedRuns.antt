@@ -50,6 +50,7 @@ module _ (counts : List ℕ) (f : ℕ) where
   module _ (b : Bool) (p q : List (Com Origin)) (vs ws cs ds : List ℕ) where
     s : State Origin
     s = stateOf p vs cs b
+
     t : State Origin
     t = stateOf q ws ds b
 

@@ -1,6 +1,7 @@
 -- The one-step lemma: locked configurations take the same kind of step, show the same and are locked again, at a branch for both
 -- continuations; or, with the flag clear, an index is out of bounds in at least one of the two.
-use Prim.Native.Nat.{ℕ}
+use Prim.Native.Nat.{ℕ, _<_}
+use native.Mathlib.Omega.{arith}
 use mathlib.Core.Bool.{Bool, true, false, cond, _||_, true≢false}
 use mathlib.Core.List.{List, [], _∷_}
 use mathlib.Core.Logic.{_⊎_, inl, inr}
@@ -23,7 +24,8 @@ use Rattle.machine.specs.Runs.{plain}
 use Rattle.masks.specs.Decisions.{Decision}
 use Rattle.masks.specs.Covering.{Masked, ValueMasked, Covers, covers-skip, covers-assign, covers-sequence, covers-if, covers-while, covers-read, covers-write, AgreeOnArrays}
 use Rattle.masks.specs.Hardening.{Origin, harden, maskedCondition, maskedIndex, flagIfTrue, flagIfFalse, maskValueOf}
-use Rattle.masks.proofs.Locked.{Spares, spares-skip, spares-assign, spares-sequence, spares-if, spares-while, spares-read, spares-write, conditionOf, loopOf, readOf}
+use Rattle.masks.specs.SameRun.{AssignsBelow}
+use Rattle.masks.proofs.Locked.{conditionOf, loopOf, readOf}
 use Rattle.masks.proofs.Locked.{WellLabelled, nothing, item, loop, maskedRead, Flagged, stateOf, PlainRelated, Besides, guessed, straight, Locked, steady, silent}
 use Rattle.masks.proofs.Agreement.{public-below, flagged-larger, flagged-set, flagged-flag, same-condition, same-index, condition-unmasked, index-unmasked, zero-guessing, same-straight, arrays-set}
 use Rattle.masks.proofs.PlainRuns.{plain-after, plain-shows, turn-quiet, turn-fork, turn-get, turn-put}
@@ -167,8 +169,10 @@ module _ (counts : List ℕ) (f : ℕ) where
     where
       s : State Origin
       s = stateOf (c ∷ rest) vs cs b
+
       t : State Origin
       t = stateOf (c ∷ rest) ws ds b
+
       go : (v : Bool) → truthOf e vs ≡ v → truthOf e ws ≡ truthOf e vs → Alike counts f s t (look c rest vs) (look c rest ws)
       go true p q =
           let l₁ : look c rest vs ≡ fork true onTrue onFalse = e₁ ∙ ap (λ (x : Bool). fork x onTrue onFalse) p in
@@ -217,6 +221,7 @@ module _ (counts : List ℕ) (f : ℕ) where
             read-index
             (plain-shows counts _ _ plainly (readAt a i) (readAt a j) _ _ (turn-get counts c rest next vs cs false x a i e₁ k₁)
             (turn-get counts c rest next ws ds false x a j e₂ k₂))
+
         related : PlainRelated counts (stateOf next (set vs x (getD cs (cellPlace counts a i) 0)) cs false)
             (stateOf next (set ws x (getD ds (cellPlace counts a i) 0)) ds false)
         related =
@@ -254,10 +259,10 @@ module _ (counts : List ℕ) (f : ℕ) where
         subst (λ (k : ℕ). Alike counts f (stateOf (c ∷ rest) vs cs false) (stateOf (c ∷ rest) ws ds false) (put a i v next) (put a k w next)) same
         (put-alike a i v w next
         (λ h.
-          after _ _
-          (straight (arrays-set a i v w r arrays lengths k₁ before eq)
-          (length-set cs (cellPlace counts a i) v ∙ (lengths ∙ sym (length-set ds (cellPlace counts a i) w)))
-          related))
+        after _ _
+        (straight (arrays-set a i v w r arrays lengths k₁ before eq)
+        (length-set cs (cellPlace counts a i) v ∙ (lengths ∙ sym (length-set ds (cellPlace counts a i) w)))
+        related))
         (λ b k h. absurd (true≢false (sym h))))
       where
         same : i ≡ j
@@ -265,6 +270,7 @@ module _ (counts : List ℕ) (f : ℕ) where
             write-index
             (plain-shows counts _ _ plainly (writeAt a i) (writeAt a j) _ _ (turn-put counts c rest next vs cs false a i v e₁ k₁)
             (turn-put counts c rest next ws ds false a j w e₂ k₂))
+
         related : PlainRelated counts (stateOf next vs (set cs (cellPlace counts a i) v) false) (stateOf next ws (set ds (cellPlace counts a i) w) false)
         related =
             plain-after counts _ _ plainly (writeAt a i ∷ []) _ _ (turn-put counts c rest next vs cs false a i v e₁ k₁)
@@ -286,7 +292,7 @@ module _ (counts : List ℕ) (f : ℕ) where
   well-labelled-from h nothing = nothing
   well-labelled-from h (item c x n g cov sp wl) = item c x n (⊑-trans h g) cov sp wl
   well-labelled-from h (loop n b c x o g k cov sp cl wl) = loop n b c x o (⊑-trans h g) k cov sp cl wl
-  well-labelled-from h (maskedRead n v a i x o g k ne wl) = maskedRead n v a i x o (⊑-trans h g) k ne wl
+  well-labelled-from h (maskedRead n v a i x o g k below wl) = maskedRead n v a i x o (⊑-trans h g) k below wl
 
   -- a silent step to a well-labelled list
   quiet-step : {m : Labelling} (b : Bool) (c : Com Origin) (rest p : List (Com Origin)) (vs ws vs′ ws′ cs ds : List ℕ)
@@ -315,7 +321,7 @@ module _ (counts : List ℕ) (f : ℕ) where
   guessing-index {m} {vs} {ws} n i b h fl p = same-index (subst (λ (t : Bool). Flagged f (cond t 1 0) m vs ws) p fl) (n .maskIndex) i h
 
   loop-steps : (b : Bool) {rest : List (Com Origin)} (n : Decision) (e : BExp) (c : Com Decision) (x : Bool) (m : Labelling)
-      → Masked (labelOfB m e) (n .maskCondition) → Covers c (labelOfB m e || x) m → Spares f c → analyse c (labelOfB m e || x) m ⊑ m
+      → Masked (labelOfB m e) (n .maskCondition) → Covers c (labelOfB m e || x) m → AssignsBelow f c → analyse c (labelOfB m e || x) m ⊑ m
       → WellLabelled f m rest → Steps b m (loopOf f n e c ∷ flagIfFalse f (conditionOf f n e) ∷ rest)
   unfolding Steps look Side flagIfTrue flagIfFalse
   loop-steps b {rest} n e c x m k cov sp closed wl vs ws cs ds fl be =
@@ -343,7 +349,7 @@ module _ (counts : List ℕ) (f : ℕ) where
   index-public m x a i e = or-false-left (labelOfA m i) _ e
 
   -- the value mask: while guessing it clears the variable, else it leaves it
-  module _ (m : Labelling) (rest : List (Com Origin)) (v : ℕ) (r : Bool) (ne : v ≡ f → ⊥) (wl : WellLabelled f (setLabel m (variableMark v) r) rest)
+  module _ (m : Labelling) (rest : List (Com Origin)) (v : ℕ) (r : Bool) (below : v < f) (wl : WellLabelled f (setLabel m (variableMark v) r) rest)
       (vs ws cs ds : List ℕ) (u w : ℕ) where
     Cleared : Bool → Type 0
     Cleared b =
@@ -352,20 +358,20 @@ module _ (counts : List ℕ) (f : ℕ) where
         → Locked counts f (stateOf (maskValueOf f v ∷ rest) (set vs v u) cs b) (stateOf (maskValueOf f v ∷ rest) (set ws v w) ds b)
 
     kept-flag : (k y : ℕ) (xs : List ℕ) → getD xs f 0 ≡ k → getD (set xs v y) f 0 ≡ k
-    kept-flag k y xs e = getD-set-other xs v f y 0 (λ p. ne (sym p)) ∙ e
+    kept-flag k y xs e = getD-set-other xs v f y 0 (omega arith) ∙ e
 
     cleared : (b : Bool) → Cleared b
     unfolding Cleared look maskValueOf valueOf
     cleared true fl eq be =
         silent true (maskValueOf f v) rest rest (set vs v u) (set ws v w) (set vs v 0) (set ws v 0) cs ds (zeroed vs u (fl .left)) (zeroed ws w (fl .right))
-        (steady true (setLabel m (variableMark v) r) rest (set vs v 0) (set ws v 0) cs ds wl (flagged-set fl v 0 0 r ne (λ p. refl)) guessed)
+        (steady true (setLabel m (variableMark v) r) rest (set vs v 0) (set ws v 0) cs ds wl (flagged-set fl v 0 0 r (omega arith) (λ p. refl)) guessed)
       where
         zeroed : (xs : List ℕ) (y : ℕ) → getD xs f 0 ≡ 1 → look (maskValueOf f v) rest (set xs v y) ≡ quiet rest (set xs v 0)
         zeroed xs y e =
             ap (λ (z : ℕ). quiet rest (set (set xs v y) v z)) (zero-guessing f (set xs v y) (variable v) (kept-flag 1 y xs e)) ∙ ap (quiet rest) (set-set xs v y 0)
     cleared false fl eq be =
         silent false (maskValueOf f v) rest rest (set vs v u) (set ws v w) (set vs v u) (set ws v w) cs ds (left-alone vs u (fl .left)) (left-alone ws w (fl .right))
-        (steady false (setLabel m (variableMark v) r) rest (set vs v u) (set ws v w) cs ds wl (flagged-set fl v u w r ne (eq refl))
+        (steady false (setLabel m (variableMark v) r) rest (set vs v u) (set ws v w) cs ds wl (flagged-set fl v u w r (omega arith) (eq refl))
         (besides-larger (arrays-after-set m v r)
         (besides-quiet (maskValueOf f v) rest rest (set vs v u) (set ws v w) (set vs v u) (set ws v w) cs ds (left-alone vs u (fl .left)) (left-alone ws w (fl .right)) be)))
       where
@@ -375,34 +381,34 @@ module _ (counts : List ℕ) (f : ℕ) where
             ∙ ap (quiet rest) (set-getD (set xs v y) v 0)
 
   masked-read-steps : (b : Bool) {rest : List (Com Origin)} (n : Decision) (v a : ℕ) (i : AExp) (x : Bool) (m : Labelling)
-      → Masked (labelOfA m i) (n .maskIndex) → (v ≡ f → ⊥) → WellLabelled f (setLabel m (variableMark v) (readLabel m x a i)) rest
+      → Masked (labelOfA m i) (n .maskIndex) → v < f → WellLabelled f (setLabel m (variableMark v) (readLabel m x a i)) rest
       → Steps b m (readOf f n v a i ∷ maskValueOf f v ∷ rest)
   unfolding Steps look AfterRead Cleared
-  masked-read-steps b {rest} n v a i x m k ne wl vs ws cs ds fl be =
+  masked-read-steps b {rest} n v a i x m k below wl vs ws cs ds fl be =
       next-alike b (readOf f n v a i) (maskValueOf f v ∷ rest) vs ws cs ds
       (get-locked (readOf f n v a i) (maskValueOf f v ∷ rest) (maskValueOf f v ∷ rest) v a _ _ vs ws cs ds b refl refl (guessing-index n i b k fl) be
       (λ u w eq be′.
-        cleared m rest v (readLabel m x a i) ne wl vs ws cs ds u w b fl (λ p q. eq p (read-public m x a i q)) be′))
+      cleared m rest v (readLabel m x a i) below wl vs ws cs ds u w b fl (λ p q. eq p (read-public m x a i q)) be′))
 
   -- a read whose value is not masked gives its variable a secret label
   unmasked-secret : {p q : Bool} → ValueMasked p q false → (p ≡ false → q ≡ false) → p ≡ false → ⊥
   unmasked-secret h g e = true≢false (sym (h .masked e (g e)))
 
   read-steps : (b : Bool) {rest : List (Com Origin)} (mask : Bool) (n : Decision) (v a : ℕ) (i : AExp) (x : Bool) (m : Labelling)
-      → Masked (labelOfA m i) (n .maskIndex) → ValueMasked (readLabel m x a i) (labelOfA m i) mask → (v ≡ f → ⊥)
+      → Masked (labelOfA m i) (n .maskIndex) → ValueMasked (readLabel m x a i) (labelOfA m i) mask → v < f
       → WellLabelled f (setLabel m (variableMark v) (readLabel m x a i)) rest
       → Steps b m (cond mask (sequence none (readOf f n v a i) (maskValueOf f v)) (readOf f n v a i) ∷ rest)
   unfolding Steps look AfterRead
-  read-steps b {rest} true n v a i x m k k₁ ne wl vs ws cs ds fl be =
+  read-steps b {rest} true n v a i x m k k₁ below wl vs ws cs ds fl be =
       next-alike b _ rest vs ws cs ds
-      (quiet-step b _ rest _ vs ws vs ws cs ds refl refl (maskedRead n v a i x m (⊑-refl m) k ne wl) fl be)
-  read-steps b {rest} false n v a i x m k k₁ ne wl vs ws cs ds fl be =
+      (quiet-step b _ rest _ vs ws vs ws cs ds refl refl (maskedRead n v a i x m (⊑-refl m) k below wl) fl be)
+  read-steps b {rest} false n v a i x m k k₁ below wl vs ws cs ds fl be =
       next-alike b _ rest vs ws cs ds
       (get-locked (readOf f n v a i) rest rest v a _ _ vs ws cs ds b refl refl (guessing-index n i b k fl) be
       (λ u w eq be′.
-        steady b (setLabel m (variableMark v) (readLabel m x a i)) rest (set vs v u) (set ws v w) cs ds wl
-        (flagged-set fl v u w (readLabel m x a i) ne (λ p. absurd (unmasked-secret k₁ (index-public m x a i) p)))
-        (besides-larger (arrays-after-set m v (readLabel m x a i)) be′)))
+      steady b (setLabel m (variableMark v) (readLabel m x a i)) rest (set vs v u) (set ws v w) cs ds wl
+      (flagged-set fl v u w (readLabel m x a i) (omega arith) (λ p. absurd (unmasked-secret k₁ (index-public m x a i) p)))
+      (besides-larger (arrays-after-set m v (readLabel m x a i)) be′)))
 
   write-public : (m : Labelling) (x : Bool) (a : ℕ) (i e : AExp) → writeLabel m x a i e ≡ false → labelOf m (arrayMark a) ≡ false
   unfolding writeLabel
@@ -420,36 +426,36 @@ module _ (counts : List ℕ) (f : ℕ) where
 
   -- the hardened form of any command that the decisions cover
   command-steps : (b : Bool) {rest : List (Com Origin)} (c : Com Decision) (x : Bool) (m : Labelling)
-      → Covers c x m → Spares f c → WellLabelled f (analyse c x m) rest → Steps b m (harden f c ∷ rest)
+      → Covers c x m → AssignsBelow f c → WellLabelled f (analyse c x m) rest → Steps b m (harden f c ∷ rest)
   unfolding Steps look harden analyse AfterRead AfterWrite Side flagIfTrue flagIfFalse
   command-steps b {rest} (skip n) x m cov sp wl vs ws cs ds fl be =
       next-alike b _ rest vs ws cs ds (quiet-step b _ rest rest vs ws vs ws cs ds refl refl wl fl be)
-  command-steps b {rest} (assign n v e) x m cov (spares-assign ne) wl vs ws cs ds fl be =
+  command-steps b {rest} (assign n v e) x m cov below wl vs ws cs ds fl be =
       next-alike b _ rest vs ws cs ds
       (quiet-step b _ rest rest vs ws _ _ cs ds refl refl wl
-      (flagged-set fl v _ _ (labelOfA m e || x) ne (λ p. public-value m vs ws (fl .agree) e (or-false-left (labelOfA m e) x p)))
+      (flagged-set fl v _ _ (labelOfA m e || x) (omega arith) (λ p. public-value m vs ws (fl .agree) e (or-false-left (labelOfA m e) x p)))
       (besides-larger (arrays-after-set m v (labelOfA m e || x)) be))
-  command-steps b {rest} (sequence n c d) x m (covers-sequence k₁ k₂) (spares-sequence s₁ s₂) wl vs ws cs ds fl be =
+  command-steps b {rest} (sequence n c d) x m (covers-sequence k₁ k₂) (s₁, s₂) wl vs ws cs ds fl be =
       next-alike b _ rest vs ws cs ds
       (quiet-step b _ rest _ vs ws vs ws cs ds refl refl
       (item c x m (⊑-refl m) k₁ s₁ (item d x (analyse c x m) (⊑-refl (analyse c x m)) k₂ s₂ wl)) fl be)
-  command-steps b {rest} (if n e c d) x m (covers-if k k₁ k₂) (spares-if s₁ s₂) wl vs ws cs ds fl be =
+  command-steps b {rest} (if n e c d) x m (covers-if k k₁ k₂) (s₁, s₂) wl vs ws cs ds fl be =
       next-alike b _ rest vs ws cs ds
       (fork-locked b _ rest _ _ (conditionOf f n e) vs ws cs ds refl refl (guessing-condition n e b k fl) be fl
       (λ b′ p q be′. side-locked b′ _ (harden f c) rest vs ws cs ds p q (first c k₁ s₁ (join-left _ _)) fl be′)
       (λ b′ p q be′. side-locked b′ _ (harden f d) rest vs ws cs ds p q (first d k₂ s₂ (join-right _ _)) fl be′))
     where
-      first : (h : Com Decision) → Covers h (labelOfB m e || x) m → Spares f h
+      first : (h : Com Decision) → Covers h (labelOfB m e || x) m → AssignsBelow f h
           → analyse h (labelOfB m e || x) m ⊑ join (analyse c (labelOfB m e || x) m) (analyse d (labelOfB m e || x) m)
           → WellLabelled f m (harden f h ∷ rest)
       first h k′ s′ below = item h (labelOfB m e || x) m (⊑-refl m) k′ s′ (well-labelled-from below wl)
-  command-steps b {rest} (while n e c) x m (covers-while k k₁) (spares-while s₁) wl vs ws cs ds fl be =
+  command-steps b {rest} (while n e c) x m (covers-while k k₁) s₁ wl vs ws cs ds fl be =
       next-alike b _ rest vs ws cs ds
       (quiet-step b _ rest _ vs ws vs ws cs ds refl refl
       (loop n e c x (analyse (while n e c) x m) (loop-settles n e c x m .above) k k₁ s₁ (loop-settles n e c x m .closed) wl) fl be)
-  command-steps b {rest} (read n v a i) x m (covers-read k k₁) (spares-read ne) wl vs ws cs ds fl be =
-      read-steps b (n .maskValue) n v a i x m k k₁ ne wl vs ws cs ds fl be
-  command-steps b {rest} (write n a i e) x m (covers-write k) spares-write wl vs ws cs ds fl be =
+  command-steps b {rest} (read n v a i) x m (covers-read k k₁) below wl vs ws cs ds fl be =
+      read-steps b (n .maskValue) n v a i x m k k₁ below wl vs ws cs ds fl be
+  command-steps b {rest} (write n a i e) x m (covers-write k) below wl vs ws cs ds fl be =
       next-alike b _ rest vs ws cs ds
       (put-locked (writeLabel m x a i e) _ rest rest a _ _ _ _ vs ws cs ds (write-public m x a i e) b refl refl (guessing-index n i b k fl)
       (λ p. public-value m vs ws (fl .agree) e (value-public m x a i e p)) be
@@ -462,8 +468,8 @@ module _ (counts : List ℕ) (f : ℕ) where
       command-steps b c x m cov sp wl vs ws cs ds (flagged-larger g fl) (besides-larger (λ a. public-below g (arrayMark a)) be)
   steady-steps b l p (loop n e c x m g k cov sp closed wl) vs ws cs ds fl be =
       loop-steps b n e c x m k cov sp closed wl vs ws cs ds (flagged-larger g fl) (besides-larger (λ a. public-below g (arrayMark a)) be)
-  steady-steps b l p (maskedRead n v a i x m g k ne wl) vs ws cs ds fl be =
-      masked-read-steps b n v a i x m k ne wl vs ws cs ds (flagged-larger g fl) (besides-larger (λ a. public-below g (arrayMark a)) be)
+  steady-steps b l p (maskedRead n v a i x m g k below wl) vs ws cs ds fl be =
+      masked-read-steps b n v a i x m k below wl vs ws cs ds (flagged-larger g fl) (besides-larger (λ a. public-below g (arrayMark a)) be)
 
   -- THE ONE-STEP LEMMA: locked configurations step alike and are locked again
   pub one-step : {s t : State Origin} → Locked counts f s t → OneStep counts f s t

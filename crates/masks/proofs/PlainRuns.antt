@@ -25,9 +25,9 @@ module _ (counts : List ℕ) (s t : State Origin) (h : PlainRelated counts s t) 
       → turn counts s plain ≡ turns os s′ plain → turn counts t plain ≡ turns os t′ plain → PlainRelated counts s′ t′
   plain-after os s′ t′ p q =
       record {
-          at = λ n m.
+        at = λ n m.
             related-behind os
-            (subst₂ OneBegins (trace-turns counts n s plain os s′ plain p) (trace-turns counts m t plain os t′ plain q) (h .at (suc n) (suc m)))
+            (subst₂ OneBegins (trace-turns counts n s plain os s′ plain p) (trace-turns counts m t plain os t′ plain q) (h .at (suc n) (suc m)));
       }
 
   pub plain-shows : (o u : Observation) (s′ t′ : State Origin)
@@ -57,12 +57,12 @@ module _ (counts : List ℕ) (c : Com Origin) (rest next : List (Com Origin)) (v
 
   pub turn-get : (x a i : ℕ) → look c rest vs ≡ get x a i next → inside counts a i ≡ true
       → turn counts (stateOf (c ∷ rest) vs cs b) plain
-        ≡ turns (readAt a i ∷ []) (stateOf next (set vs x (getD cs (cellPlace counts a i) 0)) cs b) plain
+      ≡ turns (readAt a i ∷ []) (stateOf next (set vs x (getD cs (cellPlace counts a i) 0)) cs b) plain
   unfolding turnOf shownTurn turnIf atGet onlyIf loaded
   turn-get x a i e h = turn-by-look counts c rest vs cs b plain (get x a i next) e ∙ rw h
 
   pub turn-put : (a i v : ℕ) → look c rest vs ≡ put a i v next → inside counts a i ≡ true
       → turn counts (stateOf (c ∷ rest) vs cs b) plain
-        ≡ turns (writeAt a i ∷ []) (stateOf next vs (set cs (cellPlace counts a i) v) b) plain
+      ≡ turns (writeAt a i ∷ []) (stateOf next vs (set cs (cellPlace counts a i) v) b) plain
   unfolding turnOf shownTurn turnIf atPut onlyIf stored
   turn-put a i v e h = turn-by-look counts c rest vs cs b plain (put a i v next) e ∙ rw h

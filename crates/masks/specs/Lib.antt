@@ -2,3 +2,4 @@
 pub mod Decisions
 pub mod Hardening
 pub mod Covering
+pub mod SameRun

@@ -1,0 +1,215 @@
+-- A run does not depend on the notes that commands carry: it commutes with a change of notes.
+use Prim.Native.Nat.{ℕ, zero, suc, _+_}
+use mathlib.Core.Path.{_≡_, refl, sym, ap, _∙_}
+use mathlib.Core.Bool.{Bool, true, false, cond}
+use mathlib.Core.Option.{Option, none, some, Option·map}
+use mathlib.Core.List.{List, [], _∷_, map}
+use lib.ListN.{length}
+use Rattle.awhile.specs.Language.{Com, skip, assign, sequence, if, while, read, write, noteOf, mapNotes}
+use Rattle.machine.specs.Observations.{Observation, branch, readAt, writeAt, observationBytes, shownBytes}
+use Rattle.machine.specs.Look.{Look, quiet, fork, get, put, look}
+use Rattle.machine.specs.Steps.{State, onlyIf, quietly, turned, loaded, stored, redirected, atFork, atGet, atPut}
+use Rattle.machine.specs.Runs.{Room, holds, Guide, plain, guessing, Machine, Next, over, goes, Outcome}
+use Rattle.machine.specs.Runs.{moved, shownIf, shownStep, stepOf, nextOf, next, endWithout, run, started}
+use Rattle.machine.specs.declared.Directive.{Directive}
+use Rattle.machine.specs.declared.Directive.the-variants.{Step, Force, Load, Store}
+use Rattle.machine.specs.declared.End.the-variants.{Full}
+use Rattle.machine.proofs.Runs.{along-run, run-over, run-goes}
+
+-- the same pending list, look, state, machine, next step and outcome with other notes
+module _ {A B : Type 0} (f : A → B) where
+  unfoldable pub mapPending : List (Com A) → List (Com B)
+  mapPending cs = map (mapNotes f) cs
+
+  unfoldable pub mapLook : Look A → Look B
+  mapLook (quiet rest vs) = quiet (mapPending rest) vs
+  mapLook (fork v onTrue onFalse) = fork v (mapPending onTrue) (mapPending onFalse)
+  mapLook (get x a i rest) = get x a i (mapPending rest)
+  mapLook (put a i v rest) = put a i v (mapPending rest)
+
+  unfoldable pub mapState : State A → State B
+  mapState s = record { pending = mapPending (s .pending); variables = s .variables; cells = s .cells; flag = s .flag }
+
+  unfoldable pub mapMachine : Machine A → Machine B
+  mapMachine m = record { state = mapState (m .state); guide = m .guide; steps = m .steps; used = m .used; shown = m .shown }
+
+  unfoldable pub mapNext : Next A → Next B
+  mapNext (over e) = over e
+  mapNext (goes m) = goes (mapMachine m)
+
+  unfoldable pub mapOutcome : Outcome A → Outcome B
+  mapOutcome o = record { end = o .end; machine = mapMachine (o .machine) }
+
+  pub noteOf-mapped : (c : Com A) → noteOf (mapNotes f c) ≡ f (noteOf c)
+  unfolding noteOf mapNotes
+  noteOf-mapped (skip n) = refl
+  noteOf-mapped (assign n x e) = refl
+  noteOf-mapped (sequence n c d) = refl
+  noteOf-mapped (if n b c d) = refl
+  noteOf-mapped (while n b c) = refl
+  noteOf-mapped (read n x a i) = refl
+  noteOf-mapped (write n a i e) = refl
+
+  -- what a command does next does not depend on its note
+  pub look-mapped : (c : Com A) (rest : List (Com A)) (vs : List ℕ) → look (mapNotes f c) (mapPending rest) vs ≡ mapLook (look c rest vs)
+  unfolding look mapLook mapPending mapNotes
+  look-mapped (skip n) rest vs = refl
+  look-mapped (assign n x e) rest vs = refl
+  look-mapped (sequence n c d) rest vs = refl
+  look-mapped (if n b c d) rest vs = refl
+  look-mapped (while n b c) rest vs = refl
+  look-mapped (read n x a i) rest vs = refl
+  look-mapped (write n a i e) rest vs = refl
+
+  -- a choice between two changed things is the change of the choice
+  cond-mapped : {X Y : Type 0} (g : X → Y) (b : Bool) (x x′ : X) → cond b (g x) (g x′) ≡ g (cond b x x′)
+  cond-mapped g true x x′ = refl
+  cond-mapped g false x x′ = refl
+
+  onlyIf-mapped : (b : Bool) (s : State A) → onlyIf b (mapState s) ≡ Option·map mapState (onlyIf b s)
+  unfolding onlyIf
+  onlyIf-mapped true s = refl
+  onlyIf-mapped false s = refl
+
+  module _ (counts : List ℕ) (s : State A) where
+    atFork-mapped :
+        (v : Bool) (cs ds : List (Com A)) (d : Directive)
+        → atFork counts (mapState s) v (mapPending cs) (mapPending ds) d ≡ Option·map mapState (atFork counts s v cs ds d)
+    unfolding atFork turned mapState
+    atFork-mapped v cs ds Step = rw (cond-mapped mapPending)
+    atFork-mapped v cs ds Force = rw (cond-mapped mapPending)
+    atFork-mapped v cs ds (Load b j) = refl
+    atFork-mapped v cs ds (Store b j) = refl
+
+    atGet-mapped :
+        (x a i : ℕ) (rest : List (Com A)) (d : Directive)
+        → atGet counts (mapState s) x a i (mapPending rest) d ≡ Option·map mapState (atGet counts s x a i rest d)
+    unfolding atGet loaded redirected mapState
+    atGet-mapped x a i rest Step = onlyIf-mapped _ _
+    atGet-mapped x a i rest Force = refl
+    atGet-mapped x a i rest (Load b j) = onlyIf-mapped _ _
+    atGet-mapped x a i rest (Store b j) = refl
+
+    atPut-mapped :
+        (a i v : ℕ) (rest : List (Com A)) (d : Directive)
+        → atPut counts (mapState s) a i v (mapPending rest) d ≡ Option·map mapState (atPut counts s a i v rest d)
+    unfolding atPut stored redirected mapState
+    atPut-mapped a i v rest Step = onlyIf-mapped _ _
+    atPut-mapped a i v rest Force = refl
+    atPut-mapped a i v rest (Load b j) = refl
+    atPut-mapped a i v rest (Store b j) = onlyIf-mapped _ _
+
+  module _ (counts : List ℕ) (room : Room) (m : Machine A) where
+    shownIf-mapped :
+        (o : Observation) (g : Guide) (u : ℕ) (s : Option (State A))
+        → shownIf room (mapMachine m) o g u (Option·map mapState s) ≡ mapNext (shownIf room m o g u s)
+    unfolding shownIf moved mapMachine mapNext
+    shownIf-mapped o g u none = refl
+    shownIf-mapped o g u (some s) =
+        cond-mapped mapNext
+        (holds room (length (shownBytes (m .shown)) + length (observationBytes o)))
+        (goes (moved m s g u (o ∷ [])))
+        (over Full)
+
+    shownStep-mapped :
+        (o : Observation) (after : Directive → Option (State A)) (after′ : Directive → Option (State B)) (g : Guide)
+        → ((d : Directive) → after′ d ≡ Option·map mapState (after d))
+        → shownStep room (mapMachine m) o after′ g ≡ mapNext (shownStep room m o after g)
+    unfolding shownStep mapNext
+    shownStep-mapped o after after′ plain same = rw same (shownIf-mapped o plain 0 (after Step))
+    shownStep-mapped o after after′ (guessing []) same = refl
+    shownStep-mapped o after after′ (guessing (d ∷ ds)) same = rw same (shownIf-mapped o (guessing ds) 1 (after d))
+
+    stepOf-mapped : (l : Look A) → stepOf counts room (mapMachine m) (mapLook l) ≡ mapNext (stepOf counts room m l)
+    unfolding stepOf mapLook mapNext mapMachine moved quietly mapState
+    stepOf-mapped (quiet rest vs) = refl
+    stepOf-mapped (fork v cs ds) = shownStep-mapped (branch v) _ _ (m .guide) (atFork-mapped counts (m .state) v cs ds)
+    stepOf-mapped (get x a i rest) = shownStep-mapped (readAt a i) _ _ (m .guide) (atGet-mapped counts (m .state) x a i rest)
+    stepOf-mapped (put a i v rest) = shownStep-mapped (writeAt a i) _ _ (m .guide) (atPut-mapped counts (m .state) a i v rest)
+
+    nextOf-mapped : (cs : List (Com A)) → nextOf counts room (mapMachine m) (mapPending cs) ≡ mapNext (nextOf counts room m cs)
+    unfolding nextOf mapPending mapNext mapMachine mapState
+    nextOf-mapped [] = refl
+    nextOf-mapped (c ∷ rest) = ap (stepOf counts room (mapMachine m)) (look-mapped c rest (m .state .variables)) ∙ stepOf-mapped (look c rest (m .state .variables))
+
+    -- the next step commutes with a change of notes
+    pub next-mapped : next counts room (mapMachine m) ≡ mapNext (next counts room m)
+    unfolding next mapMachine mapState
+    next-mapped = nextOf-mapped (m .state .pending)
+
+  endWithout-mapped : (cs : List (Com A)) → endWithout (mapPending cs) ≡ endWithout cs
+  unfolding endWithout mapPending
+  endWithout-mapped [] = refl
+  endWithout-mapped (c ∷ rest) = refl
+
+  module _ (counts : List ℕ) (room : Room) where
+    -- a run commutes with a change of notes
+    pub run-mapped : (budget : ℕ) (m : Machine A) → run counts room budget (mapMachine m) ≡ mapOutcome (run counts room budget m)
+    unfolding run mapOutcome mapMachine mapState mapNext
+    run-mapped =
+        along-run
+        counts
+        room
+        (λ n m. run counts room n (mapMachine m) ≡ mapOutcome (run counts room n m))
+        (λ m i. record { end = endWithout-mapped (m .state .pending) i; machine = mapMachine m })
+        (λ n m e eq.
+        run-over counts room n (mapMachine m) (next-mapped counts room m ∙ ap mapNext eq) ∙ ap mapOutcome (sym (run-over counts room n m eq)))
+        (λ n m m′ eq rest.
+        run-goes counts room n (mapMachine m) (next-mapped counts room m ∙ ap mapNext eq)
+        ∙ (rest ∙ ap mapOutcome (sym (run-goes counts room n m eq))))
+
+  -- a start with other notes
+  pub started-mapped : (c : Com A) (vs cs : List ℕ) (g : Guide) → mapMachine (started c vs cs g) ≡ started (mapNotes f c) vs cs g
+  unfolding started mapMachine mapState mapPending
+  started-mapped c vs cs g = refl
+
+-- outcomes that differ in their notes alone
+pub record EqualButNotes {A B : Type 0} (o : Outcome A) (o′ : Outcome B) : Type 0 where
+  pub end : o .end ≡ o′ .end
+  pub steps : o .machine .steps ≡ o′ .machine .steps
+  pub used : o .machine .used ≡ o′ .machine .used
+  pub shown : o .machine .shown ≡ o′ .machine .shown
+  pub variables : o .machine .state .variables ≡ o′ .machine .state .variables
+  pub cells : o .machine .state .cells ≡ o′ .machine .state .cells
+  pub flag : o .machine .state .flag ≡ o′ .machine .state .flag
+  pub guide : o .machine .guide ≡ o′ .machine .guide
+
+-- no note
+unfoldable pub noNote : {A : Type 0} → A → Unit {0}
+noNote n = tt
+
+-- outcomes that are equal without their notes
+pub equal-without : {A B : Type 0} (o : Outcome A) (o′ : Outcome B) → mapOutcome noNote o ≡ mapOutcome noNote o′ → EqualButNotes o o′
+unfolding mapOutcome mapMachine mapState
+equal-without o o′ e =
+    record {
+      end = ap (λ x. x .end) e;
+      steps = ap (λ x. x .machine .steps) e;
+      used = ap (λ x. x .machine .used) e;
+      shown = ap (λ x. x .machine .shown) e;
+      variables = ap (λ x. x .machine .state .variables) e;
+      cells = ap (λ x. x .machine .state .cells) e;
+      flag = ap (λ x. x .machine .state .flag) e;
+      guide = ap (λ x. x .machine .guide) e;
+    }
+
+module _ {A B : Type 0} (counts : List ℕ) (room : Room) (budget : ℕ) where
+  -- machines that are equal without their notes run to outcomes that are equal but for the notes
+  pub run-without-notes :
+      (m : Machine A) (m′ : Machine B) → mapMachine noNote m ≡ mapMachine noNote m′
+      → EqualButNotes (run counts room budget m) (run counts room budget m′)
+  run-without-notes m m′ same =
+      equal-without
+      (run counts room budget m)
+      (run counts room budget m′)
+      (sym (run-mapped noNote counts room budget m) ∙ (ap (run counts room budget) same ∙ run-mapped noNote counts room budget m′))
+
+  -- so do programs that are equal without their notes
+  pub programs-without-notes :
+      (c : Com A) (d : Com B) (vs cs : List ℕ) (g : Guide) → mapNotes noNote c ≡ mapNotes noNote d
+      → EqualButNotes (run counts room budget (started c vs cs g)) (run counts room budget (started d vs cs g))
+  programs-without-notes c d vs cs g same =
+      run-without-notes
+      (started c vs cs g)
+      (started d vs cs g)
+      (started-mapped noNote c vs cs g ∙ (ap (λ p. started p vs cs g) same ∙ sym (started-mapped noNote d vs cs g)))

@@ -1,0 +1,191 @@
+-- One step of a hardened program without guessing, against the step of the original that it copies.
+use Prim.Native.Nat.{ℕ, zero, suc, _+_, _<_}
+use mathlib.Core.Path.{_≡_, refl, sym, ap, ap₂, subst, _∙_}
+use mathlib.Core.Bool.{Bool, true, false, cond}
+use mathlib.Core.Option.{Option, none, some}
+use mathlib.Core.List.{List, [], _∷_, _++_, append-nil}
+use lib.ListN.{length, getD, set, length-set}
+use lib.Seq.{getD-at, set-getD, set-append-left}
+use native.Mathlib.Omega.{arith}
+use Rattle.awhile.specs.Language.{AExp, number, variable, add, subtract, multiply, choice, BExp, constant, equal, less, not, and, valueOf, truthOf}
+use Rattle.awhile.specs.Language.{Com, skip, assign, sequence, if, while, read, write, noteOf}
+use Rattle.machine.specs.Observations.{Observation}
+use Rattle.machine.specs.Look.{Look, quiet, fork, get, put, look}
+use Rattle.masks.specs.Decisions.{Decision}
+use Rattle.masks.specs.Hardening.{Origin, maskedCondition, zeroIfGuessing, maskedIndex, flagIfTrue, flagIfFalse, maskValueOf, harden}
+use Rattle.masks.specs.SameRun.{AssignsBelow}
+
+-- the hardened program's variables where its flag is 0
+abbrev pub withFlag : List ℕ → List ℕ
+withFlag vs = vs ++ (0 ∷ [])
+
+-- A variable that is not there has the value 0, so the flag's 0 at the end changes no value.
+get-withFlag : (vs : List ℕ) (x : ℕ) → getD (withFlag vs) x 0 ≡ getD vs x 0
+get-withFlag [] zero = refl
+get-withFlag [] (suc x) = refl
+get-withFlag (v ∷ vs) zero = refl
+get-withFlag (v ∷ vs) (suc x) = get-withFlag vs x
+
+mutual
+  unfolding valueOf truthOf
+
+  pub value-withFlag : (e : AExp) (vs : List ℕ) → valueOf e (withFlag vs) ≡ valueOf e vs
+  value-withFlag (number n) vs = refl
+  value-withFlag (variable x) vs = get-withFlag vs x
+  value-withFlag (add a b) vs = rw (value-withFlag a vs, value-withFlag b vs)
+  value-withFlag (subtract a b) vs = rw (value-withFlag a vs, value-withFlag b vs)
+  value-withFlag (multiply a b) vs = rw (value-withFlag a vs, value-withFlag b vs)
+  value-withFlag (choice c a b) vs = rw (truth-withFlag c vs, value-withFlag a vs, value-withFlag b vs)
+
+  pub truth-withFlag : (b : BExp) (vs : List ℕ) → truthOf b (withFlag vs) ≡ truthOf b vs
+  truth-withFlag (constant b) vs = refl
+  truth-withFlag (equal a b) vs = rw (value-withFlag a vs, value-withFlag b vs)
+  truth-withFlag (less a b) vs = rw (value-withFlag a vs, value-withFlag b vs)
+  truth-withFlag (not b) vs = rw (truth-withFlag b vs)
+  truth-withFlag (and b c) vs = rw (truth-withFlag b vs, truth-withFlag c vs)
+
+module _ (f : ℕ) (vs : List ℕ) (width : length vs ≡ f) where
+  pub flag-zero : getD (withFlag vs) f 0 ≡ 0
+  flag-zero = getD-at vs 0 [] 0 f width
+
+  -- where the flag is 0, masks change no condition and no index
+  condition-masked : (mask : Bool) (b : BExp) → truthOf (maskedCondition f mask b) (withFlag vs) ≡ truthOf b vs
+  unfolding maskedCondition truthOf valueOf
+  condition-masked true b = rw flag-zero (truth-withFlag b vs)
+  condition-masked false b = truth-withFlag b vs
+
+  index-masked : (mask : Bool) (i : AExp) → valueOf (maskedIndex f mask i) (withFlag vs) ≡ valueOf i vs
+  unfolding maskedIndex zeroIfGuessing truthOf valueOf
+  index-masked true i = rw flag-zero (value-withFlag i vs)
+  index-masked false i = value-withFlag i vs
+
+  -- an assignment below the flag
+  pub set-withFlag : (x v : ℕ) → x < f → set (withFlag vs) x v ≡ withFlag (set vs x v)
+  set-withFlag x v below = set-append-left vs (0 ∷ []) x v (omega arith)
+
+  -- the added commands change nothing where the condition is as it was taken, or the flag is 0
+  module _ (rest : List (Com Origin)) where
+    value-kept : (x : ℕ) → look (maskValueOf f x) rest (withFlag vs) ≡ quiet rest (withFlag vs)
+    unfolding look maskValueOf zeroIfGuessing valueOf truthOf
+    value-kept x = rw flag-zero (ap (quiet rest) (set-getD (withFlag vs) x 0))
+
+    flag-kept-true : (b : BExp) → truthOf b (withFlag vs) ≡ true → look (flagIfTrue f b) rest (withFlag vs) ≡ quiet rest (withFlag vs)
+    unfolding look flagIfTrue valueOf
+    flag-kept-true b e = rw e (ap (quiet rest) (set-getD (withFlag vs) f 0))
+
+    flag-kept-false : (b : BExp) → truthOf b (withFlag vs) ≡ false → look (flagIfFalse f b) rest (withFlag vs) ≡ quiet rest (withFlag vs)
+    unfolding look flagIfFalse valueOf
+    flag-kept-false b e = rw e (ap (quiet rest) (set-getD (withFlag vs) f 0))
+
+-- a few silent steps that change no variable, and then R
+pub data Silently (vs : List ℕ) (R : List (Com Origin) → Type 0) : List (Com Origin) → Type 0 where
+  now : {hs : List (Com Origin)} → R hs → Silently vs R hs
+  soon : {h : Com Origin} {hs hs′ : List (Com Origin)} → look h hs vs ≡ quiet hs′ vs → Silently vs R hs′ → Silently vs R (h ∷ hs)
+
+-- more silent steps after some
+pub silently-then :
+    (vs : List ℕ) (R Q : List (Com Origin) → Type 0) → ((hs : List (Com Origin)) → R hs → Silently vs Q hs)
+    → {hs : List (Com Origin)} → Silently vs R hs → Silently vs Q hs
+silently-then vs R Q more (now {hs} r) = more hs r
+silently-then vs R Q more (soon e s) = soon e (silently-then vs R Q more s)
+
+-- a loop's copy without the flag update after it
+abbrev loopCopy : (f : ℕ) → Decision → BExp → Com Decision → Com Origin
+loopCopy f n b c =
+    let b′ : BExp = maskedCondition f (n .maskCondition) b in
+    while (some (n .node)) b′ (sequence none (flagIfTrue f b′) (harden f c))
+
+-- a hardened pending list: each command hardened, or a loop that is under way with the flag update that comes after it
+pub data Copies (f : ℕ) : List (Com Decision) → List (Com Origin) → Type 0 where
+  done : Copies f [] []
+  whole :
+      {c : Com Decision} {cs : List (Com Decision)} {hs : List (Com Origin)} → AssignsBelow f c → Copies f cs hs
+      → Copies f (c ∷ cs) (harden f c ∷ hs)
+  underway :
+      {n : Decision} {b : BExp} {c : Com Decision} {cs : List (Com Decision)} {hs : List (Com Origin)} → AssignsBelow f c → Copies f cs hs
+      → Copies f (while n b c ∷ cs) (loopCopy f n b c ∷ flagIfFalse f (maskedCondition f (n .maskCondition) b) ∷ hs)
+
+-- the hardened program's next step does what the original's does, and its pending list is then, after added commands, a hardened one
+pub data LookCopied (f : ℕ) (vs : List ℕ) : Look Decision → Look Origin → Type 0 where
+  quiets :
+      {cs : List (Com Decision)} {hs : List (Com Origin)} {ws ws′ : List ℕ} → ws′ ≡ withFlag ws → length ws ≡ f
+      → Silently (withFlag ws) (Copies f cs) hs → LookCopied f vs (quiet cs ws) (quiet hs ws′)
+  forks :
+      {v v′ : Bool} {cs cs′ : List (Com Decision)} {hs hs′ : List (Com Origin)} → v′ ≡ v
+      → Silently (withFlag vs) (Copies f (cond v cs cs′)) (cond v hs hs′) → LookCopied f vs (fork v cs cs′) (fork v′ hs hs′)
+  gets :
+      {x a i i′ : ℕ} {cs : List (Com Decision)} {hs : List (Com Origin)} → i′ ≡ i → x < f
+      → ((v : ℕ) → Silently (withFlag (set vs x v)) (Copies f cs) hs) → LookCopied f vs (get x a i cs) (get x a i′ hs)
+  puts :
+      {a i i′ v v′ : ℕ} {cs : List (Com Decision)} {hs : List (Com Origin)} → i′ ≡ i → v′ ≡ v → Silently (withFlag vs) (Copies f cs) hs
+      → LookCopied f vs (put a i v cs) (put a i′ v′ hs)
+
+-- the hardened program stands right before the copy of the original's next command, or both have nothing pending
+pub data Ready (f : ℕ) (vs : List ℕ) : List (Com Decision) → List (Com Origin) → Type 0 where
+  nothing : Ready f vs [] []
+  copied :
+      {c : Com Decision} {cs : List (Com Decision)} {h : Com Origin} {hs : List (Com Origin)} → noteOf h ≡ some (noteOf c .node)
+      → LookCopied f vs (look c cs vs) (look h hs (withFlag vs)) → Ready f vs (c ∷ cs) (h ∷ hs)
+
+module _ (f : ℕ) (vs : List ℕ) (width : length vs ≡ f) where
+  -- after a branch the added command keeps the flag, since the condition has the value that was shown
+  sides-copied :
+      (b : BExp) (c d : Com Decision) (cs : List (Com Decision)) (hs : List (Com Origin)) → AssignsBelow f c → AssignsBelow f d → Copies f cs hs
+      → (v : Bool) → truthOf b (withFlag vs) ≡ v
+      → Silently
+      (withFlag vs)
+      (Copies f (cond v (c ∷ cs) (d ∷ cs)))
+      (cond v (sequence none (flagIfTrue f b) (harden f c) ∷ hs) (sequence none (flagIfFalse f b) (harden f d) ∷ hs))
+  unfolding look
+  sides-copied b c d cs hs below below′ r true e = soon refl (soon (flag-kept-true f vs width _ b e) (now (whole below r)))
+  sides-copied b c d cs hs below below′ r false e = soon refl (soon (flag-kept-false f vs width _ b e) (now (whole below′ r)))
+
+  loop-copied :
+      (n : Decision) (b : BExp) (c : Com Decision) (cs : List (Com Decision)) (hs : List (Com Origin)) → AssignsBelow f c → Copies f cs hs
+      → (v : Bool) → truthOf (maskedCondition f (n .maskCondition) b) (withFlag vs) ≡ v
+      → Silently
+      (withFlag vs)
+      (Copies f (cond v (c ∷ while n b c ∷ cs) cs))
+      (cond
+      v
+      (sequence none (flagIfTrue f (maskedCondition f (n .maskCondition) b)) (harden f c) ∷ loopCopy f n b c ∷ flagIfFalse f (maskedCondition f (n .maskCondition) b) ∷ hs)
+      (flagIfFalse f (maskedCondition f (n .maskCondition) b) ∷ hs))
+  unfolding look
+  loop-copied n b c cs hs below r true e = soon refl (soon (flag-kept-true f vs width _ _ e) (now (whole below (underway below r))))
+  loop-copied n b c cs hs below r false e = soon (flag-kept-false f vs width _ _ e) (now r)
+
+  loop-ready :
+      (n : Decision) (b : BExp) (c : Com Decision) (cs : List (Com Decision)) (hs : List (Com Origin)) → AssignsBelow f c → Copies f cs hs
+      → Ready f vs (while n b c ∷ cs) (loopCopy f n b c ∷ flagIfFalse f (maskedCondition f (n .maskCondition) b) ∷ hs)
+  unfolding look noteOf
+  loop-ready n b c cs hs below r =
+      copied refl (forks (condition-masked f vs width (n .maskCondition) b) (loop-copied n b c cs hs below r (truthOf b vs) (condition-masked f vs width (n .maskCondition) b)))
+
+  read-ready :
+      (n : Decision) (x a : ℕ) (i : AExp) (cs : List (Com Decision)) (hs : List (Com Origin)) → x < f → Copies f cs hs → (mask : Bool)
+      → Silently
+      (withFlag vs)
+      (Ready f vs (read n x a i ∷ cs))
+      (cond
+      mask
+      (sequence none (read (some (n .node)) x a (maskedIndex f (n .maskIndex) i)) (maskValueOf f x))
+      (read (some (n .node)) x a (maskedIndex f (n .maskIndex) i))
+      ∷ hs)
+  unfolding look noteOf
+  read-ready n x a i cs hs below r true =
+      soon refl (now (copied refl (gets (index-masked f vs width (n .maskIndex) i) below (λ v. soon (value-kept f (set vs x v) (length-set vs x v ∙ width) hs x) (now r)))))
+  read-ready n x a i cs hs below r false =
+      now (copied refl (gets (index-masked f vs width (n .maskIndex) i) below (λ v. now r)))
+
+  -- before the next copy stand added commands that change nothing
+  pub copies-ready : {cs : List (Com Decision)} {hs : List (Com Origin)} → Copies f cs hs → Silently (withFlag vs) (Ready f vs cs) hs
+  unfolding harden look noteOf
+  copies-ready done = now nothing
+  copies-ready (whole {c = skip n} below r) = now (copied refl (quiets refl width (now r)))
+  copies-ready (whole {c = assign n x e} below r) = now (copied refl (quiets (ap (set (withFlag vs) x) (value-withFlag e vs) ∙ set-withFlag f vs width x (valueOf e vs) below) (length-set vs x (valueOf e vs) ∙ width) (now r)))
+  copies-ready (whole {c = sequence n c d} below r) = now (copied refl (quiets refl width (now (whole (below .0) (whole (below .1) r)))))
+  copies-ready (whole {c = if n b c d} {cs} {hs} below r) = now (copied refl (forks (condition-masked f vs width (n .maskCondition) b) (sides-copied (maskedCondition f (n .maskCondition) b) c d cs hs (below .0) (below .1) r (truthOf b vs) (condition-masked f vs width (n .maskCondition) b))))
+  copies-ready (whole {c = while n b c} {cs} {hs} below r) = soon refl (now (loop-ready n b c cs hs below r))
+  copies-ready (whole {c = read n x a i} {cs} {hs} below r) = read-ready n x a i cs hs below r (n .maskValue)
+  copies-ready (whole {c = write n a i e} below r) = now (copied refl (puts (index-masked f vs width (n .maskIndex) i) (value-withFlag e vs) (now r)))
+  copies-ready (underway {n} {b} {c} {cs} {hs} below r) = now (loop-ready n b c cs hs below r)
