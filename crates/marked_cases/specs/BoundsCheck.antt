@@ -10,7 +10,7 @@ use Rattle.awhile.specs.Tables.{Table}
 use Rattle.awhile.specs.Trees.{rootOf}
 use Rattle.machine.specs.Runs.{Guide}
 use Rattle.flow.specs.Answers.{answered}
-use Rattle.flow.specs.Running.{Lent, Ran, running, runEntry, guessEntry}
+use Rattle.flow.specs.Running.{Lent, running, runEntry, guessEntry}
 use Rattle.flow.proofs.Open.{opened}
 use Rattle.marked_cases.specs.Claims.{HardensTo, written}
 
@@ -136,8 +136,8 @@ showsSecret =
     ∷ []
 
 -- observations of the hardened table, i = 4
-abbrev pub showsNothing : List ℕ
-showsNothing =
+abbrev pub showsNoSecret : List ℕ
+showsNoSecret =
     6 ∷ 0 ∷ 64 ∷ 0 ∷ 0 ∷ 0  -- branch 0
     ∷ 10 ∷ 0 ∷ 65 ∷ 0 ∷ 0 ∷ 0 ∷ 4 ∷ 0 ∷ 0 ∷ 0  -- read 0 4
     ∷ 10 ∷ 0 ∷ 65 ∷ 0 ∷ 1 ∷ 0 ∷ 0 ∷ 0 ∷ 0 ∷ 0  -- read 1 0
@@ -172,11 +172,12 @@ unhardened-shows-secret place answer = refl
 pub hardened-shows-no-secret :
     HardensTo boundsCheck boundsCheckHardened
     × Guesses boundsCheckHardened forceLoadStep (lentFrom 42 (4 ∷ 0 ∷ 0 ∷ 0 ∷ [])) 100
-    (numbers 1 10 3 26 1 0) (lentAfter (replicate 42 0) (4 ∷ 0 ∷ 0 ∷ 1 ∷ []) showsNothing 14)
+    (numbers 1 10 3 26 1 0) (lentAfter (replicate 42 0) (4 ∷ 0 ∷ 0 ∷ 1 ∷ []) showsNoSecret 14)
 unfolding opened
 hardened-shows-no-secret = (written boundsCheckHardened, λ place answer. refl)
 
--- P: i = 3 with force, load: the branch shows 1, the else side skips, and the run finishes with one directive used. So for the hardened table
+-- P: i = 3 with force, load: the branch shows 1, the else side skips, and the run finishes with one directive used.
+-- The hardened table's run too
 pub in-bounds-skips :
     Guesses boundsCheck forceLoad (lentFrom 10 (3 ∷ 0 ∷ 0 ∷ [])) 100
     (numbers 1 2 1 6 1 0) (lentAfter (replicate 10 0) (3 ∷ 0 ∷ 0 ∷ []) showsBranch 34)
@@ -194,7 +195,7 @@ pub budget-zero :
 unfolding opened
 budget-zero = (λ place answer. refl, λ place answer. refl)
 
--- the same for every table and every list that is accepted
+-- the same for every table and every directive list that is accepted
 pub budget-zero-anywhere :
     (t : Table) (lent : Lent) (answer : List ℕ) (machine : Guide) →
     running (got t) lent 0 answer machine .answer ≡ answered (numbers 2 0 0 0 0 (noteOf (rootOf t))) answer

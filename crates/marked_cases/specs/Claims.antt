@@ -38,6 +38,7 @@ pub sized : (table : List ℕ) → Sized table (leAt 2 table 8) (length table)
 sized table = record { nodesSaid = refl; bytesHeld = refl }
 
 -- bytes for which there is room are written
-pub written : (bytes : List ℕ) → ℕ → (buffer answer : List ℕ) → length bytes ≤ length buffer → writing (got bytes) buffer answer ≡ writtenAll bytes buffer answer
+pub written :
+    (bytes : List ℕ) (place : ℕ) (buffer answer : List ℕ) → length bytes ≤ length buffer → writing (got bytes) buffer answer ≡ writtenAll bytes buffer answer
 unfolding writing
 written bytes place buffer answer room = rw (le-leb (length bytes) (length buffer) room)

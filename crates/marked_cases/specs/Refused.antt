@@ -4,7 +4,7 @@ use mathlib.Core.Path.{_≡_, refl}
 use mathlib.Core.List.{List, [], _∷_}
 use Rattle.flow.specs.Answers.{answered}
 use Rattle.flow.specs.Writing.{sheetEntry, hardenEntry}
-use Rattle.flow.specs.Running.{Lent, Ran, runEntry, guessEntry}
+use Rattle.flow.specs.Running.{Lent, runEntry, guessEntry}
 use Rattle.flow.proofs.Open.{opened}
 use Rattle.marked_cases.specs.Claims.{HardensTo, Refuses, written}
 
