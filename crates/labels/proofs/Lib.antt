@@ -1,4 +1,6 @@
 -- Laws of labels and of the analysis, in reading order.
+pub mod Open
+pub mod Examples
 pub mod Booleans
 pub mod Masks
 pub mod Order

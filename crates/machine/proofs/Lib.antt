@@ -1,4 +1,6 @@
 -- Laws of the machines, in reading order.
+pub mod Open
+pub mod Examples
 pub mod Prefixes
 pub mod Runs
 pub mod Notes

@@ -1,4 +1,6 @@
 -- Laws of the hardened program, in reading order.
+pub mod Open
+pub mod Examples
 pub mod SameRunSteps
 pub mod SameRun
 pub mod Locked

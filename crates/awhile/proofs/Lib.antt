@@ -1,0 +1,3 @@
+-- Laws and computed theorems of this crate.
+pub mod Open
+pub mod Examples

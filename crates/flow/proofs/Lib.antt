@@ -1,0 +1,2 @@
+-- Laws and computed theorems of this crate.
+pub mod Open
