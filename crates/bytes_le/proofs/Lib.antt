@@ -1,0 +1,4 @@
+-- What the definitions of numbers in bytes promise: a number that fits comes back from its bytes, wherever they stand.
+pub mod Numbers
+pub mod Words
+pub mod Pieces
