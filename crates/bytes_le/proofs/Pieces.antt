@@ -1,8 +1,8 @@
 -- A piece that stands at a place of a list: how a list that was put together is read again.
 use Prim.Native.Nat.{ℕ, _+_, _^_, _≤_, _<_}
 use native.Mathlib.Omega.{arith}
-use mathlib.Core.Path.{_≡_, refl, sym, ap, _∙_}
-use mathlib.Core.List.{List, [], _∷_, _++_, append-nil, append-assoc}
+use mathlib.Core.Path.{_≡_, sym, ap, _∙_}
+use mathlib.Core.List.{List, [], _++_, append-nil, append-assoc}
 use lib.ListN.{length, drop, length-append, length-drop}
 use lib.Seq.{take-at, drop-append-seam, drop-drop}
 use Rattle.bytes_le.specs.Numbers.{le, leAt}
@@ -35,3 +35,16 @@ module _ (s : List ℕ) where
   pub stands-le : (width n at : ℕ) → n < 256 ^ width → Stands (le width n) at s → leAt width s at ≡ n
   unfolding leAt
   stands-le width n at fits h = rw (h .there, take-at (le width n) (h .after) width (length-le width n)) (fromLe-le width n fits)
+
+  -- a number that fits is read where it stands, and what follows stands behind it
+  pub record NumberThere (width n : ℕ) (following : List ℕ) (at next : ℕ) : Type 0 where
+    pub isNumber : leAt width s at ≡ n
+    pub rest : Stands following next s
+
+  pub stands-number : (width n : ℕ) (following : List ℕ) (at next : ℕ) → n < 256 ^ width → at + width ≡ next
+      → Stands (le width n ++ following) at s → NumberThere width n following at next
+  stands-number width n following at next fits e h =
+      record {
+        isNumber = stands-le width n at fits (stands-first (le width n) following at h);
+        rest = stands-second (le width n) following at next (rw length-le e) h;
+      }

@@ -1,0 +1,6 @@
+-- Tables and programs: what is written reads back, and what reads is well-formed and one tree.
+pub mod Lists
+pub mod Records
+pub mod Cases
+pub mod Fitting
+pub mod Reading
