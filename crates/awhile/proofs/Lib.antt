@@ -4,3 +4,5 @@ pub mod Records
 pub mod Cases
 pub mod Fitting
 pub mod Reading
+pub mod Children
+pub mod Trees
