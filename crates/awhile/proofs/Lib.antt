@@ -6,3 +6,5 @@ pub mod Fitting
 pub mod Reading
 pub mod Children
 pub mod Trees
+pub mod PostOrder
+pub mod Orders

@@ -1,9 +1,11 @@
 -- Laws of tests, sums, counts and concatenations.
 use Prim.Native.Nat.{ℕ, _+_}
 use native.Mathlib.Omega.{arith}
-use mathlib.Core.Bool.{Bool, true, false, _&&_}
+use mathlib.Core.Bool.{Bool, true, false, cond, _&&_}
 use mathlib.Core.Path.{_≡_, refl}
 use mathlib.Core.List.{List, [], _∷_, _++_, append-assoc, map, flatMap}
+use lib.Dec.{eqb, ltb}
+use borrow.Author.Tests.{ltb-true, ltb-false, eqb-true, eqb-false, lt-ltb, le-ltb, ne-eqb}
 use lib.ListN.{length, length-append}
 use Rattle.awhile.specs.Lists.{sum, occurrences, all}
 
@@ -55,3 +57,22 @@ module _ {A B : Type 0} where
   unfolding flatMap sum
   length-flatMap f size each [] = refl
   length-flatMap f size each (x ∷ xs) = rw (length-append, each, length-flatMap f size each xs)
+
+-- ---- counting below a bound
+-- 1 for a number below the bound, 0 for another
+unfoldable pub countBelow : (bound n : ℕ) → ℕ
+countBelow bound n = cond (ltb n bound) 1 0
+
+-- the next bound counts one number more
+pub count-next : (bound n : ℕ) → countBelow bound n + cond (eqb n bound) 1 0 ≡ countBelow (bound + 1) n
+unfolding countBelow
+count-next bound n = go (ltb n bound) (eqb n bound) refl refl
+  where
+    go : (less same : Bool) → ltb n bound ≡ less → eqb n bound ≡ same → cond (ltb n bound) 1 0 + cond (eqb n bound) 1 0 ≡ cond (ltb n (bound + 1)) 1 0
+    go true same p q =
+        let apart : eqb n bound ≡ false = ne-eqb n bound (λ e. omega (arith, ltb-true n bound p)) in
+        rw (p, apart, lt-ltb n (bound + 1) (omega (arith, ltb-true n bound p)))
+    go false true p q = rw (p, q, lt-ltb n (bound + 1) (omega (arith, eqb-true n bound q)))
+    go false false p q =
+        let other : ¬ (n ≡ bound) = eqb-false n bound q in
+        rw (p, q, le-ltb n (bound + 1) (omega (arith, ltb-false n bound p)))
