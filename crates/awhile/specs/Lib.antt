@@ -6,3 +6,4 @@ pub mod Nodes
 pub mod Tables
 pub mod Trees
 pub mod Encoding
+pub mod WellFormed

@@ -1,2 +1,5 @@
--- Laws and computed theorems of this crate.
+-- What the definitions of numbers in bytes promise: a number that fits comes back from its bytes, wherever they stand.
 pub mod Open
+pub mod Numbers
+pub mod Words
+pub mod Pieces

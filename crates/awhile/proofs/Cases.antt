@@ -1,0 +1,57 @@
+-- The definitions of reading, one law for each case.
+use Prim.Native.Nat.{ℕ, suc, _+_}
+use mathlib.Core.Path.{_≡_}
+use mathlib.Core.List.{List, [], _∷_, _++_}
+use lib.ListN.{length}
+use Rattle.awhile.specs.Lists.{sum}
+use Rattle.awhile.specs.Refusals.{refused, got, check}
+use Rattle.awhile.specs.Nodes.{sizeOf, decodeAt, inRange, sorted}
+use Rattle.awhile.specs.Tables.{Header, Table, arraySize, framed, readCount, readCounts, readNode, readNodes, readRecords}
+use Rattle.awhile.specs.Tables.{rejected, checkWhole, readTable}
+use Rattle.awhile.specs.declared.Node.{Node}
+use Rattle.awhile.specs.declared.Node.the-variants.{Skip}
+use Rattle.awhile.specs.declared.Decoded.the-variants.{Known, Unknown}
+use Rattle.awhile.specs.declared.Refusal.{Refusal}
+use Rattle.awhile.specs.declared.Refusal.the-variants.{OutOfRange, WrongSort}
+
+module _ (s : List ℕ) (at : ℕ) where
+  -- ---- array records
+  pub counts-next : (left : ℕ) (before : List ℕ) (n : ℕ) → readCount s at (sum before) ≡ got n
+      → readCounts (suc left) s at before ≡ readCounts left s (at + arraySize) (before ++ (n ∷ []))
+  unfolding readCounts
+  counts-next left before n e = rw (e, readCounts)
+
+  pub counts-refused : (left : ℕ) (before : List ℕ) (r : Refusal) → readCount s at (sum before) ≡ refused r → readCounts (suc left) s at before ≡ refused r
+  unfolding readCounts
+  counts-refused left before r e = rw (e, readCounts)
+
+  -- ---- node records
+  module _ (h : Header) (before : List Node) where
+    pub node-known : (n : Node) → decodeAt s at ≡ Known n
+        → readNode h s at before
+        ≡ framed s at (sizeOf n) (check (inRange (h .variables) (h .arrays) (length before) n) (OutOfRange at) (check (sorted before n) (WrongSort at) (got n)))
+    unfolding readNode
+    node-known n e = rw (e, readNode)
+
+    pub node-unknown : decodeAt s at ≡ Unknown → readNode h s at before ≡ framed s at 0 (got Skip)
+    unfolding readNode
+    node-unknown e = rw (e, readNode)
+
+    pub nodes-next : (left : ℕ) (n : Node) → readNode h s at before ≡ got n
+        → readNodes (suc left) h s at before ≡ readNodes left h s (at + sizeOf n) (before ++ (n ∷ []))
+    unfolding readNodes
+    nodes-next left n e = rw (e, readNodes)
+
+    pub nodes-refused : (left : ℕ) (r : Refusal) → readNode h s at before ≡ refused r → readNodes (suc left) h s at before ≡ refused r
+    unfolding readNodes
+    nodes-refused left r e = rw (e, readNodes)
+
+-- ---- the whole table
+module _ (s : List ℕ) where
+  pub table-read : (t : Table) → readRecords s ≡ got t → readTable s ≡ checkWhole s t
+  unfolding readTable
+  table-read t e = rw (e, readTable)
+
+  pub table-refused : (r : Refusal) → readRecords s ≡ refused r → readTable s ≡ rejected r
+  unfolding readTable
+  table-refused r e = rw (e, readTable)
