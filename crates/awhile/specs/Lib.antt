@@ -7,3 +7,4 @@ pub mod Tables
 pub mod Trees
 pub mod Encoding
 pub mod WellFormed
+pub mod Index
