@@ -8,3 +8,4 @@ pub mod Values
 pub mod Passes
 pub mod Analysis
 pub mod Rules
+pub mod Notes

@@ -1,6 +1,7 @@
 -- Laws of the hardened program, in reading order.
 pub mod Open
 pub mod Examples
+pub mod Decisions
 pub mod SameRunSteps
 pub mod SameRun
 pub mod Locked
@@ -8,3 +9,4 @@ pub mod Agreement
 pub mod PlainRuns
 pub mod OneStep
 pub mod LockedRuns
+pub mod Security

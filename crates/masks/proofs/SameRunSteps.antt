@@ -20,7 +20,7 @@ abbrev pub withFlag : List ℕ → List ℕ
 withFlag vs = vs ++ (0 ∷ [])
 
 -- A variable that is not there has the value 0, so the flag's 0 at the end changes no value.
-get-withFlag : (vs : List ℕ) (x : ℕ) → getD (withFlag vs) x 0 ≡ getD vs x 0
+pub get-withFlag : (vs : List ℕ) (x : ℕ) → getD (withFlag vs) x 0 ≡ getD vs x 0
 get-withFlag [] zero = refl
 get-withFlag [] (suc x) = refl
 get-withFlag (v ∷ vs) zero = refl

@@ -3,3 +3,4 @@ pub mod Decisions
 pub mod Hardening
 pub mod Covering
 pub mod SameRun
+pub mod Security
