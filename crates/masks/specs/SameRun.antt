@@ -59,10 +59,12 @@ pub record SameRun (f : ℕ) (original : ℕ → Outcome ℕ) (hardened : ℕ �
   -- one sticks at some budget exactly if the other does, with the same result, and at the copy of the same command
   pub sticks : AtSome (λ o. o .end ≡ Stuck) original ↔ AtSome (λ o. o .end ≡ Stuck) hardened
   pub stuck : (m n : ℕ) → original m .end ≡ Stuck → hardened n .end ≡ Stuck → SameResult (original m) (hardened n)
-  pub stuckAt : (m n : ℕ) → original m .end ≡ Stuck → hardened n .end ≡ Stuck → NextIsCopy (original m .machine .state .pending) (hardened n .machine .state .pending)
+  pub stuckAt :
+      (m n : ℕ) → original m .end ≡ Stuck → hardened n .end ≡ Stuck
+      → NextIsCopy (original m .machine .state .pending) (hardened n .machine .state .pending)
   -- what one has shown at any budget begins what the other shows at some budget
   pub begins : (n : ℕ) → AtSome (λ o. Begins (hardened n .machine .shown) (o .machine .shown)) original
   pub begun : (m : ℕ) → AtSome (λ o. Begins (original m .machine .shown) (o .machine .shown)) hardened
   -- at every budget, the program's flag is 0 and the machine's is not set
-  pub zero : (n : ℕ) → getD (hardened n .machine .state .variables) f 0 ≡ 0
-  pub unset : (n : ℕ) → hardened n .machine .state .flag ≡ false
+  pub variableFlag : (n : ℕ) → getD (hardened n .machine .state .variables) f 0 ≡ 0
+  pub machineFlag : (n : ℕ) → hardened n .machine .state .flag ≡ false
