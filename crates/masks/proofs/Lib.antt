@@ -3,6 +3,7 @@ pub mod Open
 pub mod Examples
 pub mod Decisions
 pub mod SameRunSteps
+pub mod SameRunBudgets
 pub mod SameRun
 pub mod Locked
 pub mod Agreement
