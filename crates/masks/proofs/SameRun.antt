@@ -23,6 +23,7 @@ use Rattle.masks.specs.Decisions.{Decision, decide}
 use Rattle.masks.specs.Hardening.{Origin, harden, hardenedProgram}
 use Rattle.masks.specs.SameRun.{AssignsBelow, plainRun, nextNote, AtSome, SameResult, NextIsCopy, SameRun}
 use Rattle.masks.proofs.SameRunSteps.{withFlag, now, done, whole}
+use Rattle.masks.proofs.Decisions.{program-decided}
 use Rattle.masks.proofs.SameRunBudgets.{numbered, itself, SameEnd, Follows, Leads, Meets, meets-copies, follow, lead}
 
 -- runs that follow and lead one another are the same run, where the original's end in one way
@@ -91,7 +92,8 @@ module _ (f : ℕ) (counts : List ℕ) (d : Com Decision) (vs cells : List ℕ) 
   unfolding numbered plainRun
   original-run n = sym (plainRun-mapped (λ n. n .node) counts d vs cells n)
 
-  same-run-itself :
+  -- the same with the notes that hardening gives
+  pub same-run-itself :
       AssignsBelow f d → length vs ≡ f
       → SameRun f itself (plainRun counts (mapNotes (λ n. n .node) d) vs cells) (plainRun counts (harden f d) (withFlag vs) cells)
   unfolding plainRun
@@ -167,17 +169,6 @@ below-mapped g f (while n b c) below = below-mapped g f c below
 below-mapped g f (read n x a i) below = below
 below-mapped g f (write n a i e) below = below
 
--- the decisions of an annotated program are those of the program: without them it is the program
-pub decided-program : (c : Com ℕ) (x : Bool) (l : Labelling) → mapNotes (λ n. n .node) (decide (annotate c x l)) ≡ c
-unfolding mapNotes decide annotate
-decided-program (skip n) x l = refl
-decided-program (assign n v e) x l = refl
-decided-program (sequence n c d) x l = ap₂ (sequence n) (decided-program c _ _) (decided-program d _ _)
-decided-program (if n b c d) x l = ap₂ (if n b) (decided-program c _ _) (decided-program d _ _)
-decided-program (while n b c) x l = ap (while n b) (decided-program c _ _)
-decided-program (read n v a i) x l = refl
-decided-program (write n a i e) x l = refl
-
 module _ {Note : Type 0} (origin : Note → Origin) (h : Com Note) (vs cells : List ℕ) where
   -- The same for a table's program.
   pub same-run-of-table :
@@ -186,7 +177,7 @@ module _ {Note : Type 0} (origin : Note → Origin) (h : Com Note) (vs cells : L
   unfolding hardenedProgram annotated
   same-run-of-table t hardened below width =
       let d : Com Decision = decide (annotated t) in
-      let program : mapNotes (λ n. n .node) d ≡ rootOf t = decided-program (rootOf t) false (t .labels) in
+      let program : mapNotes (λ n. n .node) d ≡ rootOf t = program-decided (rootOf t) false (t .labels) in
       subst
       (λ p. SameRun (t .variables) origin (plainRun (t .counts) p vs cells) (plainRun (t .counts) h (vs ++ (0 ∷ [])) cells))
       program

@@ -25,7 +25,8 @@ use Rattle.masks.specs.SameRun.{AssignsBelow, SameRun, plainRun}
 use Rattle.masks.specs.Security.{plainlyShown, guessingShown, AgreeingStates, ShowsTheSame}
 use Rattle.masks.proofs.Decisions.{programFor}
 use Rattle.masks.proofs.SameRunSteps.{withFlag, get-withFlag, flag-zero}
-use Rattle.masks.proofs.SameRun.{same-run}
+use Rattle.masks.proofs.SameRunBudgets.{itself}
+use Rattle.masks.proofs.SameRun.{same-run-itself}
 use Rattle.masks.proofs.Locked.{WellLabelled, nothing, item, Flagged, stateOf, PlainRelated, straight, Locked, steady}
 use Rattle.masks.proofs.LockedRuns.{runs-related}
 
@@ -43,10 +44,10 @@ start-flagged t vs cs ws ds a =
 module _ (t : Table) (d : Com Decision) (program : programFor d ≡ rootOf t) (below : AssignsBelow (t .variables) d) where
   -- the original's and the hardened program's runs without guessing
   pub same-from : (vs cs : List ℕ) → length vs ≡ t .variables
-      → SameRun (t .variables) (plainRun (t .counts) (rootOf t) vs cs) (plainRun (t .counts) (harden (t .variables) d) (withFlag vs) cs)
+      → SameRun (t .variables) itself (plainRun (t .counts) (rootOf t) vs cs) (plainRun (t .counts) (harden (t .variables) d) (withFlag vs) cs)
   same-from vs cs width =
-      subst (λ (c : Com ℕ). SameRun (t .variables) (plainRun (t .counts) c vs cs) (plainRun (t .counts) (harden (t .variables) d) (withFlag vs) cs)) program
-      (same-run (t .variables) (t .counts) d vs cs below width)
+      subst (λ (c : Com ℕ). SameRun (t .variables) itself (plainRun (t .counts) c vs cs) (plainRun (t .counts) (harden (t .variables) d) (withFlag vs) cs)) program
+      (same-run-itself (t .variables) (t .counts) d vs cs below width)
 
   module _ (vs cs ws ds : List ℕ) (a : AgreeingStates t vs cs ws ds)
       (plainly : (n m : ℕ) → OneBegins (plainlyShown t vs cs n) (plainlyShown t ws ds m)) where
