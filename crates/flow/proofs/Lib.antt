@@ -1,2 +1,4 @@
 -- Laws and computed theorems of this crate.
 pub mod Open
+pub mod Accepted
+pub mod Security

@@ -2,3 +2,4 @@
 pub mod Answers
 pub mod Writing
 pub mod Running
+pub mod Security
