@@ -8,3 +8,4 @@ pub mod Children
 pub mod Trees
 pub mod PostOrder
 pub mod Orders
+pub mod Writing
