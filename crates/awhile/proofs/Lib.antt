@@ -9,3 +9,4 @@ pub mod Trees
 pub mod PostOrder
 pub mod Orders
 pub mod Writing
+pub mod Accepted
