@@ -13,12 +13,15 @@ pub record Below (bound : ℕ) (ns : List ℕ) : Type 0 where
   pub below : (i : ℕ) → getD ns i 0 < bound
 
 module _ (bound : ℕ) where
+  -- the first element is below
   pub below-head : (n : ℕ) (ns : List ℕ) → Below bound (n ∷ ns) → n < bound
   below-head n ns h = h .below 0
 
+  -- the other elements are below
   pub below-tail : (n : ℕ) (ns : List ℕ) → Below bound (n ∷ ns) → Below bound ns
   below-tail n ns h = record { below = λ i. h .below (suc i) }
 
+  -- a first element and the others are below
   pub below-cons : (n : ℕ) (ns : List ℕ) → n < bound → Below bound ns → Below bound (n ∷ ns)
   below-cons n ns first rest = record { below = go }
     where
@@ -26,16 +29,19 @@ module _ (bound : ℕ) where
       go zero = first
       go (suc i) = rest .below i
 
+  -- the elements of two lists are below
   pub below-append : (ms ns : List ℕ) → Below bound ms → Below bound ns → Below bound (ms ++ ns)
   below-append [] ns first rest = rest
   below-append (m ∷ ms) ns first rest =
       below-cons m (ms ++ ns) (below-head m ms first) (below-append ms ns (below-tail m ms first) rest)
 
+  -- the first elements are below
   pub below-take : (count : ℕ) (ns : List ℕ) → Below bound ns → Below bound (take count ns)
   below-take zero ns h = record { below = λ i. omega (arith, h .below 0) }
   below-take (suc count) [] h = h
   below-take (suc count) (n ∷ ns) h = below-cons n (take count ns) (below-head n ns h) (below-take count ns (below-tail n ns h))
 
+  -- the last elements are below
   pub below-drop : (count : ℕ) (ns : List ℕ) → Below bound ns → Below bound (drop count ns)
   below-drop count ns h = record { below = λ i. rw getD-drop (h .below (count + i)) }
 
