@@ -6,3 +6,4 @@ pub mod Runs
 pub mod Notes
 pub mod Traces
 pub mod Cells
+pub mod Room
