@@ -7,3 +7,4 @@ pub mod Notes
 pub mod Traces
 pub mod Cells
 pub mod Room
+pub mod Numbering

@@ -2,6 +2,7 @@
 pub mod Open
 pub mod Examples
 pub mod Decisions
+pub mod Size
 pub mod SameRunSteps
 pub mod SameRunBudgets
 pub mod SameRun

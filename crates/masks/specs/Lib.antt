@@ -4,3 +4,4 @@ pub mod Hardening
 pub mod Covering
 pub mod SameRun
 pub mod Security
+pub mod Size
