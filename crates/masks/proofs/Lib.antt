@@ -3,6 +3,8 @@ pub mod Open
 pub mod Examples
 pub mod Decisions
 pub mod Size
+pub mod Origins
+pub mod ReadBack
 pub mod SameRunSteps
 pub mod SameRunBudgets
 pub mod SameRun

@@ -5,3 +5,5 @@ pub mod Covering
 pub mod SameRun
 pub mod Security
 pub mod Size
+pub mod ReadBack
+pub mod Demands
