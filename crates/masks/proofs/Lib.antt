@@ -14,3 +14,4 @@ pub mod PlainRuns
 pub mod OneStep
 pub mod LockedRuns
 pub mod Security
+pub mod Demands
