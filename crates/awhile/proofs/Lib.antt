@@ -13,10 +13,7 @@ pub mod OwnFields
 pub mod Orders
 pub mod Writing
 pub mod Accepted
-<<<<<<< HEAD
 pub mod Sums
 pub mod Size
 pub mod Ranges
-=======
 pub mod Index
->>>>>>> d1674694042053b9d1b38c3a95dfd30cc76685fc
