@@ -2,3 +2,4 @@
 pub mod Open
 pub mod Accepted
 pub mod Security
+pub mod Hardened

@@ -1,18 +1,18 @@
 -- A hardened table reads back as the hardened program.
-use Prim.Native.Nat.{ℕ, suc, _+_, _*_, _^_, _≤_, _<_}
+use Prim.Native.Nat.{ℕ, _+_, _*_, _≤_, _<_}
 use native.Mathlib.Numerals.{add-one}
 use native.Mathlib.Omega.{arith}
 use mathlib.Core.Bool.{false}
-use mathlib.Core.Path.{_≡_, refl, sym, ap, subst, _∙_}
+use mathlib.Core.Path.{_≡_, refl, sym, ap, subst}
 use mathlib.Core.List.{List, [], _∷_, map}
 use lib.ListN.{length, take}
 use lib.Seq.{take-length}
 use Rattle.awhile.specs.Language.{Com}
 use Rattle.awhile.specs.Lists.{sum}
 use Rattle.awhile.specs.Nodes.{form, fieldSize, sizeOf}
-use Rattle.awhile.specs.Tables.{Table, maxVariables, maxNodes, accepted, readTable, nodesStart, offsetOf}
+use Rattle.awhile.specs.Tables.{Table, maxVariables, maxNodes, nodesStart, offsetOf}
 use Rattle.awhile.specs.Trees.{rootOf}
-use Rattle.awhile.specs.Encoding.{nodesOf, writeC, numbered, tableBytes}
+use Rattle.awhile.specs.Encoding.{nodesOf, tableBytes}
 use Rattle.awhile.specs.WellFormed.{Declared, WellFormed, Within}
 use Rattle.awhile.specs.declared.Labelling.{Labelling}
 use Rattle.awhile.specs.declared.Node.{Node}
@@ -23,14 +23,15 @@ use Rattle.awhile.proofs.Reading.{length-tableBytes}
 use Rattle.awhile.proofs.Writing.{written-length, written-root, written-well-formed, written-reads-back}
 use Rattle.awhile.proofs.Ranges.{root-within}
 use Rattle.awhile.proofs.Size.{root-size}
-use Rattle.labels.specs.Labellings.{variableMark, labelOf}
+use Rattle.labels.specs.Sheet.{annotated}
+use Rattle.labels.specs.Labellings.{labelOf}
 use Rattle.labels.proofs.Masks.{bit-above}
-use Rattle.masks.specs.Decisions.{Decision}
-use Rattle.masks.specs.Hardening.{Origin, harden, tableOfHardened}
+use Rattle.masks.specs.Decisions.{Decision, decide}
+use Rattle.masks.specs.Hardening.{Origin, harden, hardenedProgram, tableOfHardened, hardenedTable}
 use Rattle.masks.specs.Size.{MasksLargeConditions}
 use Rattle.masks.specs.ReadBack.{ReadsBack}
-use Rattle.masks.proofs.Decisions.{programFor}
-use Rattle.masks.proofs.Size.{hardened-size, hardened-within, nodesOf-mapped}
+use Rattle.masks.proofs.Decisions.{programFor, program-decided}
+use Rattle.masks.proofs.Size.{hardened-size, hardened-within, nodesOf-mapped, decide-large}
 
 -- one more variable, not secret, may be declared where there is one free
 declared-more : (v : ℕ) (l : Labelling) (counts : List ℕ) → v < maxVariables → Declared v l counts → Declared (v + 1) l counts
@@ -123,3 +124,12 @@ module _ (t : Table) (w : WellFormed t) (free : t .variables < maxVariables) (d 
           nodes = refl;
           root = written-root table′ program′ refl;
         }
+
+-- the hardened table by the labels is well-formed
+pub hardened-table-well-formed :
+    (t : Table) → WellFormed t → length (t .nodes) ≤ 512 → t .variables < maxVariables → WellFormed (hardenedTable t)
+unfolding hardenedProgram hardenedTable annotated
+hardened-table-well-formed t w small free =
+    let d : Com Decision = decide (annotated t) in
+    let program : programFor d ≡ rootOf t = program-decided (rootOf t) false (t .labels) in
+    hardened-well-formed t w free d program (omega (arith, eightfold t w free d program (decide-large (annotated t))))
