@@ -4,3 +4,4 @@ pub mod Writing
 pub mod Hardened
 pub mod Running
 pub mod Security
+pub mod Promises
