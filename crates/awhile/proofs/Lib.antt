@@ -9,9 +9,11 @@ pub mod Reading
 pub mod Children
 pub mod Trees
 pub mod PostOrder
+pub mod OwnFields
 pub mod Orders
 pub mod Writing
 pub mod Accepted
 pub mod Sums
 pub mod Size
 pub mod Ranges
+pub mod Index

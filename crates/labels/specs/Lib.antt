@@ -4,4 +4,5 @@ pub mod Labellings
 pub mod Analysis
 pub mod Annotation
 pub mod Sheet
+pub mod Notes
 pub mod Rules

@@ -101,14 +101,14 @@ module _ (t : Table) (w : WellFormed t) (free : t .variables < maxVariables) (d 
   -- as many nodes as the program has
   pub hardened-nodes : length (table′ .nodes) ≡ nodesOf program′
   unfolding tableOfHardened
-  hardened-nodes = written-length table′ program′ refl within′
+  hardened-nodes = written-length table′ program′ refl
 
   module _ (few : nodesOf program′ ≤ maxNodes) where
     -- it is well-formed
     pub hardened-well-formed : WellFormed table′
     unfolding tableOfHardened
     hardened-well-formed =
-        written-well-formed table′ program′ refl within′ (declared-more (t .variables) (t .labels) (t .counts) free (w .declared)) few
+        written-well-formed table′ program′ refl (declared-more (t .variables) (t .labels) (t .counts) free (w .declared)) within′ few
 
     -- its bytes read back as the hardened program
     pub hardened-reads-back : ReadsBack t program′ (tableBytes table′) table′
@@ -116,13 +116,13 @@ module _ (t : Table) (w : WellFormed t) (free : t .variables < maxVariables) (d 
     hardened-reads-back =
         record {
           accepts =
-              written-reads-back table′ program′ refl within′ (declared-more (t .variables) (t .labels) (t .counts) free (w .declared)) few;
+              written-reads-back table′ program′ refl (declared-more (t .variables) (t .labels) (t .counts) free (w .declared)) within′ few;
           variables = refl;
           flagPublic = bit-above (t .variables) (t .labels .variables) (t .variables) (w .declared .variableMaskFits) (omega arith);
           labels = refl;
           counts = refl;
           nodes = refl;
-          root = written-root table′ program′ refl within′;
+          root = written-root table′ program′ refl;
         }
 
 -- the hardened table by the labels is well-formed
