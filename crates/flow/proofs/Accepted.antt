@@ -54,7 +54,7 @@ pub record GuessAccepted (place : ℕ) (table directives : List ℕ) (lent : Len
   pub exit : guessEntry place table directives lent budget answer ≡ ranAll read lent answer (runIn read lent budget (guessing script))
 
 -- a check that is passed
-check-got : {A : Type 0} (b : Bool) (r : Refusal) (a : Answer A) (x : A) → check b r a ≡ got x → (b ≡ true) × (a ≡ got x)
+pub check-got : {A : Type 0} (b : Bool) (r : Refusal) (a : Answer A) (x : A) → check b r a ≡ got x → (b ≡ true) × (a ≡ got x)
 unfolding check
 check-got true r a x e = (refl, e)
 check-got false r a x e = let z : _≡_ {A = ℕ} 0 1 = cc in absurd (omega arith)

@@ -9,38 +9,21 @@ use lib.Seq.{take-at}
 use lib.Dec.{leb, ltb}
 use borrow.Author.Tests.{ltb-true, leb-true, lt-ltb, le-leb}
 use Rattle.bytes_le.proofs.Numbers.{Below}
-use Rattle.awhile.specs.Refusals.{Answer, refused, got, check, andThen, refusalNumber}
+use Rattle.awhile.specs.Refusals.{Answer, refused, got, check, andThen}
 use Rattle.awhile.specs.Tables.{Table, Reading, rejected, notATree, accepted, readTable, maxVariables, nodesStart}
 use Rattle.awhile.specs.Encoding.{tableBytes}
 use Rattle.awhile.specs.declared.Refusal.{Refusal}
-use Rattle.awhile.specs.declared.Refusal.the-variants.{Cut, WrongRecord, BeyondLimit, OutOfRange, WrongSort, NotATree, ExtraBytes}
-use Rattle.awhile.specs.declared.Refusal.the-variants.{TooManyNodes, NoFreeVariable, BadDirectives}
-use Rattle.awhile.specs.declared.Refusal.the-variants.{WrongVariables, WrongCells, ShortPending, ShortBuffer}
+use Rattle.awhile.specs.declared.Refusal.the-variants.{NotATree, TooManyNodes, NoFreeVariable, ShortBuffer}
 use Rattle.machine.specs.Memory.{writtenOver}
 use Rattle.masks.specs.Hardening.{hardenedProgram, hardenedTable}
 use Rattle.masks.specs.Demands.{Demands}
 use Rattle.masks.proofs.Demands.{demands-met}
 use Rattle.flow.specs.Answers.{tableIn}
 use Rattle.flow.specs.Writing.{notWritten, writtenAll, writing, maxHardened, hardenedIn, hardenEntry}
+use Rattle.flow.specs.Security.{CallsShowTheSame}
 use Rattle.flow.specs.Hardened.{HardenedInto}
-
--- no refusal answers 0
-refusal-not-zero : (r : Refusal) → refusalNumber r ≡ 0 → ⊥
-unfolding refusalNumber
-refusal-not-zero (Cut at) e = omega arith
-refusal-not-zero (WrongRecord at) e = omega arith
-refusal-not-zero (BeyondLimit at) e = omega arith
-refusal-not-zero (OutOfRange at) e = omega arith
-refusal-not-zero (WrongSort at) e = omega arith
-refusal-not-zero (NotATree at) e = omega arith
-refusal-not-zero (ExtraBytes at) e = omega arith
-refusal-not-zero TooManyNodes e = omega arith
-refusal-not-zero NoFreeVariable e = omega arith
-refusal-not-zero BadDirectives e = omega arith
-refusal-not-zero WrongVariables e = omega arith
-refusal-not-zero WrongCells e = omega arith
-refusal-not-zero ShortPending e = omega arith
-refusal-not-zero ShortBuffer e = omega arith
+use Rattle.flow.proofs.Accepted.{refusal-not-zero, check-got}
+use Rattle.flow.proofs.Security.{calls-related}
 
 -- an accepted table is the one that an entry is asked about
 table-in : (place : ℕ) (s : List ℕ) (t : Table) → readTable s ≡ accepted t → tableIn s place ≡ got t
@@ -99,24 +82,23 @@ table-got {A} Q place s f x e next = go (readTable s) refl
     go (notATree t) eq = never (NotATree place) (rw (eq, tableIn))
     go (accepted t) eq = next t eq (sym (ap (λ a. andThen a f) (table-in place s t eq)) ∙ e)
 
--- a check that was passed
-passed : {A : Type 0} (Q : Type 0) (b : Bool) (r : Refusal) (a : Answer A) (x : A) → check b r a ≡ got x → (b ≡ true → a ≡ got x → Q) → Q
-unfolding check
-passed Q true r a x e next = next refl e
-passed Q false r a x e next = absurd (let one : _≡_ {A = ℕ} 0 1 = cc in omega arith)
-
 -- the hardened table in the buffer
 written-into : (s : List ℕ) (t : Table) → Below 256 s → readTable s ≡ accepted t → length (t .nodes) ≤ maxHardened → t .variables < maxVariables
     → (buffer answer : List ℕ) → HardenedInto s answer (writtenAll (tableBytes (hardenedTable t)) buffer answer)
 unfolding writtenAll
 written-into s t bytes reads small free buffer answer =
     let out : List ℕ = tableBytes (hardenedTable t) in
+    let demands : Demands t (hardenedProgram t) out = demands-met s t bytes reads small free in
+    let back = demands .readsBack in
     record {
       original = t;
       reads = reads;
       size = length out;
       answers = refl;
-      demands = subst (Demands t (hardenedProgram t)) (sym (front out buffer answer)) (demands-met s t bytes reads small free);
+      demands = subst (Demands t (hardenedProgram t)) (sym (front out buffer answer)) demands;
+      calls =
+          subst (CallsShowTheSame t) (sym (front out buffer answer))
+          (calls-related t (demands .hardened) out (back .accepts) (back .variables) (back .counts) (demands .secure));
     }
 
 -- THE PROMISE of the hardening entry: where it answers 0, the table was accepted and the demands hold of what it wrote
@@ -129,10 +111,8 @@ hardened-into place s buffer answer bytes zero =
     (λ out got-out wrote.
     table-got Q place s hardenedIn out got-out
     (λ t reads hardened.
-    passed Q (leb (length (t .nodes)) maxHardened) TooManyNodes _ out hardened
-    (λ small rest.
-    passed Q (ltb (t .variables) maxVariables) NoFreeVariable _ out rest
-    (λ free last.
-    let same : tableBytes (hardenedTable t) ≡ out = cc in
+    let small = check-got (leb (length (t .nodes)) maxHardened) TooManyNodes _ out hardened in
+    let free = check-got (ltb (t .variables) maxVariables) NoFreeVariable _ out (small .1) in
+    let same : tableBytes (hardenedTable t) ≡ out = cc (free .1) in
     subst (HardenedInto s answer) (ap (λ bs. writtenAll bs buffer answer) same ∙ sym wrote)
-    (written-into s t bytes reads (leb-true (length (t .nodes)) maxHardened small) (ltb-true (t .variables) maxVariables free) buffer answer)))))
+    (written-into s t bytes reads (leb-true (length (t .nodes)) maxHardened (small .0)) (ltb-true (t .variables) maxVariables (free .0)) buffer answer)))

@@ -8,6 +8,7 @@ use Rattle.masks.specs.Hardening.{hardenedProgram}
 use Rattle.masks.specs.Demands.{Demands}
 use Rattle.flow.specs.Answers.{answered}
 use Rattle.flow.specs.Writing.{Written}
+use Rattle.flow.specs.Security.{CallsShowTheSame}
 
 -- of a table's bytes, the answer slice at entry, and what stands at exit
 pub record HardenedInto (table answer : List ℕ) (exit : Written) : Type 0 where
@@ -19,3 +20,5 @@ pub record HardenedInto (table answer : List ℕ) (exit : Written) : Type 0 wher
   pub answers : exit .answer ≡ answered (0 ∷ size ∷ []) answer
   -- so many bytes of the buffer at exit are a table of the hardened program, which runs as the original does and meets demand 3
   pub demands : Demands original (hardenedProgram original) (take size (exit .buffer))
+  -- and demand 3 holds of calls of the guessing entry on them
+  pub calls : CallsShowTheSame original (take size (exit .buffer))
