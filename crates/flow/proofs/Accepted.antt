@@ -23,7 +23,6 @@ use Rattle.flow.specs.Running.{Lent, Ran, notRun, lentFor, ranAll, runIn
 
 -- no refusal has the number 0
 pub refusal-not-zero : (r : Refusal) → refusalNumber r ≡ 0 → ⊥
-unfolding refusalNumber
 refusal-not-zero (Cut at) e = omega arith
 refusal-not-zero (WrongRecord at) e = omega arith
 refusal-not-zero (BeyondLimit at) e = omega arith

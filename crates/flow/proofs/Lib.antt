@@ -3,3 +3,4 @@ pub mod Open
 pub mod Accepted
 pub mod Security
 pub mod Hardened
+pub mod Answers

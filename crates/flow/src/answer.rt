@@ -25,6 +25,27 @@ pub fn answer_two(answer: &mut [u8], first: u64, second: u64)
     put_number(&mut *answer, 8, second);
 }
 
+// The seven numbers of an accepted run: 0 and what it came to.
+pub fn answer_run(
+    answer: &mut [u8],
+    end: u64,
+    steps: u64,
+    used: u64,
+    shown: u64,
+    flag: u64,
+    next: u64,
+)
+    ensures { λ _. ⌜ now (answer .exit) ≡ answered (0 ∷ end ∷ steps ∷ used ∷ shown ∷ flag ∷ next ∷ []) (now (answer .entry)) ⌝ }
+{
+    put_number(&mut *answer, 0, 0);
+    put_number(&mut *answer, 8, end);
+    put_number(&mut *answer, 16, steps);
+    put_number(&mut *answer, 24, used);
+    put_number(&mut *answer, 32, shown);
+    put_number(&mut *answer, 40, flag);
+    put_number(&mut *answer, 48, next);
+}
+
 // Document 01's number of a refusal.
 fn number_of(refusal: Refusal) -> u64
     ensures { λ r. ⌜ r ≡ refusalNumber refusal ⌝ }
