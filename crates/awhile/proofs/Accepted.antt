@@ -145,7 +145,7 @@ module _ (s : List ℕ) where
         nodesFit = leb-true nodes maxNodes (and-second four (leb nodes maxNodes) test);
       })
 
-  header-fits : (h : Header) → readHeader s ≡ got h → HeaderFits h
+  pub header-fits : (h : Header) → readHeader s ≡ got h → HeaderFits h
   unfolding readHeader
   header-fits h e = header-test h (leAt 2 s 4) (leAt 1 s 6) (leAt 1 s 7) (leAt 2 s 8) (framed-rest s 0 (lengthOfKind 1 headerSize s 0) _ h e)
 

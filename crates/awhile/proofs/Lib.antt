@@ -17,3 +17,4 @@ pub mod Sums
 pub mod Size
 pub mod Ranges
 pub mod Index
+pub mod LongInput

@@ -4,3 +4,4 @@ pub mod Accepted
 pub mod Security
 pub mod Hardened
 pub mod Answers
+pub mod Program

@@ -4,21 +4,19 @@ use native.Mathlib.Numerals.{add-one}
 use native.Mathlib.Omega.{arith}
 use mathlib.Core.Bool.{false}
 use mathlib.Core.Path.{_≡_, refl, sym, ap, subst}
-use mathlib.Core.List.{List, [], _∷_, map}
+use mathlib.Core.List.{List, map}
 use lib.ListN.{length, take}
 use lib.Seq.{take-length}
 use Rattle.awhile.specs.Language.{Com}
 use Rattle.awhile.specs.Lists.{sum}
-use Rattle.awhile.specs.Nodes.{form, fieldSize, sizeOf}
+use Rattle.awhile.specs.Nodes.{sizeOf}
 use Rattle.awhile.specs.Tables.{Table, maxVariables, maxNodes, nodesStart, offsetOf}
 use Rattle.awhile.specs.Trees.{rootOf}
 use Rattle.awhile.specs.Encoding.{nodesOf, tableBytes}
 use Rattle.awhile.specs.WellFormed.{Declared, WellFormed, Within}
 use Rattle.awhile.specs.declared.Labelling.{Labelling}
 use Rattle.awhile.specs.declared.Node.{Node}
-use Rattle.awhile.specs.declared.Node.the-variants.{Number, Variable, Add, Subtract, Multiply, Choice}
-use Rattle.awhile.specs.declared.Node.the-variants.{Constant, Equal, Less, Not, And}
-use Rattle.awhile.specs.declared.Node.the-variants.{Skip, Assign, Sequence, If, While, Read, Write}
+use Rattle.awhile.proofs.Records.{sizes-most}
 use Rattle.awhile.proofs.Reading.{length-tableBytes}
 use Rattle.awhile.proofs.Writing.{written-length, written-root, written-well-formed, written-reads-back}
 use Rattle.awhile.proofs.Ranges.{root-within}
@@ -46,39 +44,12 @@ declared-more v l counts free d =
     }
 
 -- ---- bytes
--- a node's record has at most 10 bytes
-record-size : (n : Node) → sizeOf n ≤ 10
-unfolding sizeOf form fieldSize sum
-record-size (Number n) = omega arith
-record-size (Variable x) = omega arith
-record-size (Add a b) = omega arith
-record-size (Subtract a b) = omega arith
-record-size (Multiply a b) = omega arith
-record-size (Choice c a b) = omega arith
-record-size (Constant n) = omega arith
-record-size (Equal a b) = omega arith
-record-size (Less a b) = omega arith
-record-size (Not a) = omega arith
-record-size (And a b) = omega arith
-record-size Skip = omega arith
-record-size (Assign x e) = omega arith
-record-size (Sequence c d) = omega arith
-record-size (If b c d) = omega arith
-record-size (While b c) = omega arith
-record-size (Read x a i) = omega arith
-record-size (Write a i e) = omega arith
-
-records-size : (ns : List Node) → sum (map sizeOf ns) ≤ 10 * length ns
-unfolding sum
-records-size [] = omega arith
-records-size (n ∷ ns) = omega (arith, record-size n, records-size ns)
-
 -- a table of so many nodes has at most so many bytes
 pub table-size : (t : Table) → length (tableBytes t) ≤ nodesStart (length (t .counts)) + 10 * length (t .nodes)
 unfolding offsetOf
 table-size t =
     let all : take (length (t .nodes)) (t .nodes) ≡ t .nodes = take-length (t .nodes) in
-    omega (arith, length-tableBytes t, ap (λ ns. sum (map sizeOf ns)) all, records-size (t .nodes))
+    omega (arith, length-tableBytes t, ap (λ ns. sum (map sizeOf ns)) all, sizes-most (t .nodes))
 
 -- ---- the hardened table of any decisions
 module _ (t : Table) (w : WellFormed t) (free : t .variables < maxVariables) (d : Com Decision) (program : programFor d ≡ rootOf t) where
