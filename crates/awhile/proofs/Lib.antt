@@ -13,3 +13,5 @@ pub mod Orders
 pub mod Writing
 pub mod Accepted
 pub mod Index
+pub mod Passing
+pub mod Declaring
