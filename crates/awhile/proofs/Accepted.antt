@@ -170,11 +170,11 @@ module _ (s : List ℕ) where
       })
 
   -- ---- the arrays
-  record CountFits (before n : ℕ) : Type 0 where
-    positive : 0 < n
-    total : before + n ≤ maxCells
+  pub record CountFits (before n : ℕ) : Type 0 where
+    pub positive : 0 < n
+    pub total : before + n ≤ maxCells
 
-  count-fits : (at before n : ℕ) → readCount s at before ≡ got n → CountFits before n
+  pub count-fits : (at before n : ℕ) → readCount s at before ≡ got n → CountFits before n
   unfolding readCount
   count-fits at before n e =
       let read : ℕ = leAt 2 s (at + 4) in

@@ -18,3 +18,5 @@ pub mod Size
 pub mod Ranges
 pub mod Index
 pub mod LongInput
+pub mod Passing
+pub mod Declaring
