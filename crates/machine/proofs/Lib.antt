@@ -6,3 +6,5 @@ pub mod Runs
 pub mod Notes
 pub mod Traces
 pub mod Cells
+pub mod Words
+pub mod DirectiveLists

@@ -6,3 +6,4 @@ pub mod Steps
 pub mod Runs
 pub mod Memory
 pub mod Prefixes
+pub mod Listed

@@ -1,5 +1,7 @@
 // The plain and the guessing machine.
 
+pub mod directives;
+
 // What the attacker picks for one shown step.
 pub enum Directive {
     Step,
