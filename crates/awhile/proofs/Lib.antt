@@ -13,3 +13,6 @@ pub mod Orders
 pub mod Writing
 pub mod Accepted
 pub mod Index
+pub mod Sums
+pub mod Size
+pub mod Ranges

@@ -8,3 +8,5 @@ pub mod Traces
 pub mod Cells
 pub mod Words
 pub mod DirectiveLists
+pub mod Room
+pub mod Numbering

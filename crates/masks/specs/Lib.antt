@@ -4,3 +4,6 @@ pub mod Hardening
 pub mod Covering
 pub mod SameRun
 pub mod Security
+pub mod Size
+pub mod ReadBack
+pub mod Demands
