@@ -10,3 +10,5 @@ pub mod Words
 pub mod DirectiveLists
 pub mod Room
 pub mod Numbering
+pub mod NodeKinds
+pub mod Evaluation

@@ -1,7 +1,7 @@
 -- 4-byte words in a slice: what one reads as, and what the others read as after one was stored.
 use Prim.Native.Nat.{ℕ, zero, suc, _+_, _*_, _^_, _≤_, _<_}
 use native.Mathlib.Numerals.{add-one}
-use native.Mathlib.Nat.{add-assoc, add-zero, eq-or-lt-of-le}
+use native.Mathlib.Nat.{add-assoc, add-zero, eq-or-lt-of-le, mul-le-mul-left, le-of-lt}
 use native.Mathlib.Omega.{arith}
 use mathlib.Core.Path.{_≡_, refl, sym, ap, _∙_}
 use mathlib.Core.Bool.{Bool, true, false}
@@ -85,3 +85,9 @@ words-stored count bs n v fits inside long =
             let outside : (4 * i + 4 ≤ 4 * n) ⊎ (4 * n + length (le 4 v) ≤ 4 * i) = rw length-le (words-apart i n (eqb-false i n e)) in
             word-at count (sets bs (4 * n) (le 4 v)) i less ∙ leAt-outside 4 (le 4 v) bs (4 * n) (4 * i) outside
             ∙ sym (getD-set-other (fromWords count bs) n i v 0 (eqb-false i n e) ∙ word-at count bs i less)
+
+-- the product of two words
+pub product-fits : (a b : ℕ) → a < 2 ^ 32 → b < 2 ^ 32 → a * b < 2 ^ 64
+product-fits a b first second =
+    let upper : a * b ≤ a * 2 ^ 32 = mul-le-mul-left a (le-of-lt second) in
+    omega arith

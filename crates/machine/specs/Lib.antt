@@ -7,3 +7,4 @@ pub mod Runs
 pub mod Memory
 pub mod Prefixes
 pub mod Listed
+pub mod Evaluation

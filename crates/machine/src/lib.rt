@@ -1,6 +1,7 @@
 // The plain and the guessing machine.
 
 pub mod directives;
+pub mod evaluate;
 
 // What the attacker picks for one shown step.
 pub enum Directive {
