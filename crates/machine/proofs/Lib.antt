@@ -12,3 +12,4 @@ pub mod Room
 pub mod Numbering
 pub mod NodeKinds
 pub mod Evaluation
+pub mod Actions

@@ -8,3 +8,4 @@ pub mod Memory
 pub mod Prefixes
 pub mod Listed
 pub mod Evaluation
+pub mod Actions

@@ -1,5 +1,6 @@
 // The plain and the guessing machine.
 
+pub mod action;
 pub mod directives;
 pub mod evaluate;
 

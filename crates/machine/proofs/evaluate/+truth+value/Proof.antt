@@ -1,7 +1,6 @@
--- `machine::evaluate::+truth+value` meets its contract.
+-- Evaluation meets its contracts: a child's node number is lower, and the value of a node is made of its children's.
 use Rattle.awhile.specs.Nodes.{sortOf}
 use Rattle.machine.proofs.NodeKinds.{unnamed-numeric, unnamed-truth}
--- Evaluation meets its contracts: a child's node number is lower, and the value of a node is made of its children's.
 use mathlib.Core.Path.{_≡_, ap, subst, _∙_}
 use denote.Ref.{now}
 use borrow.Author.Needs.{needs}
