@@ -12,3 +12,6 @@ pub mod PostOrder
 pub mod Orders
 pub mod Writing
 pub mod Accepted
+pub mod Sums
+pub mod Size
+pub mod Ranges
