@@ -1,1 +1,2 @@
 // Secret and public labels, followed through a program.
+pub mod labelling;
