@@ -15,3 +15,4 @@ pub mod Accepted
 pub mod Sums
 pub mod Size
 pub mod Ranges
+pub mod Index
