@@ -10,3 +10,4 @@ pub mod Analysis
 pub mod Rules
 pub mod Notes
 pub mod Warm
+pub mod ExpressionLabels

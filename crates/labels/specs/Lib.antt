@@ -6,4 +6,5 @@ pub mod Annotation
 pub mod Sheet
 pub mod Notes
 pub mod Warm
+pub mod Conditions
 pub mod Rules

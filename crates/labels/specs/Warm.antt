@@ -1,25 +1,15 @@
 -- Warm starts: a loop starts its passes from the entering labelling joined with what it last settled at, so that nested loops settle in
 -- few passes. What it last settled at is kept where the notes are, as the note of its body. The results are those of the analysis.
-use Prim.Native.Nat.{ℕ, _+_, _<_, _≤_}
+use Prim.Native.Nat.{ℕ, _+_, _≤_}
 use mathlib.Core.Bool.{Bool, cond, _||_}
 use mathlib.Core.List.{List}
 use mathlib.Core.Path.{_≡_}
 use lib.Dec.{eqb}
-use lib.ListN.{length}
-use Rattle.awhile.specs.Index.{Indexed, nodesIn, nodeIn, treeIn}
 use Rattle.awhile.specs.Language.{Com, skip, assign, sequence, if, while, read, write, noteOf}
-use Rattle.awhile.specs.Nodes.{sortOf}
-use Rattle.awhile.specs.Trees.{asCommand}
 use Rattle.awhile.specs.declared.Labelling.{Labelling}
-use Rattle.awhile.specs.declared.Sort.the-variants.{Command}
 use Rattle.labels.specs.Labellings.{labelOfB, join, _⊑_}
 use Rattle.labels.specs.Analysis.{analyse}
-use Rattle.labels.specs.Annotation.{annotate}
-use Rattle.labels.specs.Notes.{noteIn, Noted}
-
--- the command of a node
-unfoldable pub commandIn : (table : List ℕ) → (node : ℕ) → Com ℕ
-commandIn s n = asCommand (treeIn s n)
+use Rattle.labels.specs.Notes.{noteIn}
 
 -- how many commands with this number stand in a command, itself included
 unfoldable pub standing : (node : ℕ) → Com ℕ → ℕ
@@ -56,18 +46,3 @@ module _ (vs arrs : List ℕ) where
       × InOrder c (labelOfB (join l (keptIn vs arrs c)) b || x) (join l (keptIn vs arrs c))
   InOrder (read n v a i) x l = Unit
   InOrder (write n a i e) x l = Unit
-
--- a command of an indexed table, with room for the notes of all nodes
-pub record Notable (table index vs arrs : List ℕ) (n : ℕ) : Type 0 where
-  pub indexed : Indexed table index
-  pub inside : n < nodesIn table
-  pub isCommand : sortOf (nodeIn table n) ≡ Command
-  pub distinct : Distinct (commandIn table n)
-  pub variableRoom : nodesIn table ≤ length vs
-  pub arrayRoom : nodesIn table ≤ length arrs
-
--- what an analysis of a command leaves: the labelling after it, the notes of its commands, and all other notes as they were
-pub record Analysed (c : Com ℕ) (x : Bool) (l : Labelling) (vs arrs ws brrs : List ℕ) (result : Labelling) : Type 0 where
-  pub answers : result ≡ analyse c x l
-  pub notes : Noted ws brrs (annotate c x l)
-  pub outside : Outside c vs arrs ws brrs
