@@ -1,13 +1,21 @@
 -- The definitions of reading, one law for each case.
-use Prim.Native.Nat.{ℕ, suc, _+_}
-use mathlib.Core.Path.{_≡_}
-use mathlib.Core.List.{List, [], _∷_, _++_}
-use lib.ListN.{length}
+use Prim.Native.Nat.{ℕ, zero, suc, _+_, _<_}
+use native.Mathlib.Omega.{arith}
+use mathlib.Core.Bool.{Bool, true, false}
+use mathlib.Core.Path.{_≡_, refl}
+use mathlib.Core.List.{List, [], _∷_, _++_, map-append}
+use lib.ListN.{length, getD}
+use lib.Seq.{take-suc}
+use lib.Dec.{eqb}
+use borrow.Author.Tests.{eq-eqb, ne-eqb, eqb-true, eqb-false}
 use Rattle.awhile.specs.Lists.{sum}
 use Rattle.awhile.specs.Refusals.{refused, got, check}
-use Rattle.awhile.specs.Nodes.{sizeOf, decodeAt, inRange, sorted}
-use Rattle.awhile.specs.Tables.{Header, Table, arraySize, framed, readCount, readCounts, readNode, readNodes, readRecords}
+use Rattle.awhile.specs.Nodes.{sizeOf, sortOf, sameSort, decodeAt, inRange, sorted}
+use Rattle.awhile.specs.Tables.{Header, Table, arraySize, offsetOf, framed, readCount, readCounts, readNode, readNodes, readRecords}
+use Rattle.awhile.specs.Tables.{usesOf, inOrder, allInOrder}
 use Rattle.awhile.specs.Tables.{rejected, checkWhole, readTable}
+use Rattle.awhile.proofs.Lists.{and-both, and-first, and-second, sum-append}
+use Rattle.awhile.specs.declared.Sort.the-variants.{Command}
 use Rattle.awhile.specs.declared.Node.{Node}
 use Rattle.awhile.specs.declared.Node.the-variants.{Skip}
 use Rattle.awhile.specs.declared.Decoded.the-variants.{Known, Unknown}
@@ -55,3 +63,36 @@ module _ (s : List ℕ) where
   pub table-refused : (r : Refusal) → readRecords s ≡ refused r → readTable s ≡ rejected r
   unfolding readTable
   table-refused r e = rw (e, readTable)
+
+-- ---- offsets
+-- a record ends where the next one begins
+pub offset-next : (t : Table) (i : ℕ) → i < length (t .nodes) → offsetOf t (suc i) ≡ offsetOf t i + sizeOf (getD (t .nodes) i Skip)
+unfolding offsetOf sum
+offset-next t i inside = rw (take-suc (t .nodes) i Skip inside, map-append, sum-append) (omega arith)
+
+-- ---- the nodes as one tree
+module _ (ns : List Node) where
+  pub in-order-last : (i : ℕ) → suc i ≡ length ns → inOrder ns i ≡ sameSort (sortOf (getD ns i Skip)) Command
+  unfolding inOrder
+  in-order-last i e = rw (eq-eqb (suc i) (length ns) e)
+
+  pub in-order-child : (i : ℕ) → ¬ (suc i ≡ length ns) → inOrder ns i ≡ eqb (usesOf ns i) 1
+  unfolding inOrder
+  in-order-child i apart = rw (ne-eqb (suc i) (length ns) apart)
+
+  pub all-in-order : (count : ℕ) → ((i : ℕ) → i < count → inOrder ns i ≡ true) → allInOrder ns count ≡ true
+  unfolding allInOrder
+  all-in-order zero each = refl
+  all-in-order (suc count) each = and-both (inOrder ns count) (allInOrder ns count) (each count (omega arith)) (all-in-order count (λ i below. each i (omega arith)))
+
+  pub each-in-order : (count : ℕ) → allInOrder ns count ≡ true → (i : ℕ) → i < count → inOrder ns i ≡ true
+  unfolding allInOrder
+  each-in-order zero e i below = absurd (omega arith)
+  each-in-order (suc count) e i below =
+      go (eqb i count) refl (each-in-order count (and-second (inOrder ns count) (allInOrder ns count) e) i)
+    where
+      go : (same : Bool) → eqb i count ≡ same → (i < count → inOrder ns i ≡ true) → inOrder ns i ≡ true
+      go true s rest = rw (eqb-true i count s) (and-first (inOrder ns count) (allInOrder ns count) e)
+      go false s rest =
+          let apart : ¬ (i ≡ count) = eqb-false i count s in
+          rest (omega arith)

@@ -10,3 +10,5 @@ pub mod Children
 pub mod Trees
 pub mod PostOrder
 pub mod Orders
+pub mod Writing
+pub mod Accepted

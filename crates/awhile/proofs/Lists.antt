@@ -1,5 +1,5 @@
 -- Laws of tests, sums, counts and concatenations.
-use Prim.Native.Nat.{ℕ, _+_}
+use Prim.Native.Nat.{ℕ, _+_, _≤_, _<_}
 use native.Mathlib.Omega.{arith}
 use mathlib.Core.Bool.{Bool, true, false, cond, _&&_}
 use mathlib.Core.Path.{_≡_, refl}
@@ -62,6 +62,14 @@ module _ {A B : Type 0} where
 -- 1 for a number below the bound, 0 for another
 unfoldable pub countBelow : (bound n : ℕ) → ℕ
 countBelow bound n = cond (ltb n bound) 1 0
+
+pub count-below : (bound n : ℕ) → n < bound → countBelow bound n ≡ 1
+unfolding countBelow
+count-below bound n below = rw (lt-ltb n bound below)
+
+pub count-above : (bound n : ℕ) → bound ≤ n → countBelow bound n ≡ 0
+unfolding countBelow
+count-above bound n above = rw (le-ltb n bound above)
 
 -- the next bound counts one number more
 pub count-next : (bound n : ℕ) → countBelow bound n + cond (eqb n bound) 1 0 ≡ countBelow (bound + 1) n

@@ -1,10 +1,11 @@
 -- A node's record decodes to the node: all its fields stand where the decoder reads them.
-use Prim.Native.Nat.{ℕ, _+_, _^_, _≤_, _<_}
+use Prim.Native.Nat.{ℕ, zero, suc, _+_, _^_, _≤_, _<_}
+use native.Mathlib.Nat.{add-zero, add-assoc}
 use native.Mathlib.Omega.{arith}
 use mathlib.Core.Bool.{Bool, true}
 use mathlib.Core.Path.{_≡_, refl}
-use mathlib.Core.List.{List, [], _∷_, _++_, flatMap}
-use lib.ListN.{length, length-append}
+use mathlib.Core.List.{List, [], _∷_, _++_, map, flatMap}
+use lib.ListN.{length, getD, take, length-append}
 use lib.Dec.{ltb}
 use borrow.Author.Tests.{ltb-true, leb-true, lt-ltb}
 use Rattle.bytes_le.specs.Numbers.{le, leAt}
@@ -178,3 +179,15 @@ module _ (s : List ℕ) (at : ℕ) (n : Node) where
         decoded = decode-fields s at n (head .isKind) (fields-stand s at (form n .fields) 4 fits (head .bodyStands));
         inside = head .inside;
       }
+
+-- the records of these nodes stand one after the other
+abbrev pub NodesAt : List ℕ → (at : ℕ) → List Node → Type 0
+NodesAt s at [] = Unit
+NodesAt s at (n ∷ ns) = NodeAt s at n × NodesAt s (at + sizeOf n) ns
+
+-- each of them behind those before it
+pub nodes-at : (s : List ℕ) (at : ℕ) (ns : List Node) → NodesAt s at ns → (i : ℕ) → i < length ns → NodeAt s (at + sum (map sizeOf (take i ns))) (getD ns i Skip)
+unfolding sum
+nodes-at s at [] there i inside = absurd (omega arith)
+nodes-at s at (n ∷ ns) there zero inside = rw add-zero (there .0)
+nodes-at s at (n ∷ ns) there (suc i) inside = rw (← add-assoc) (nodes-at s (at + sizeOf n) ns (there .1) i (omega arith))

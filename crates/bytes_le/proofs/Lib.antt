@@ -3,3 +3,5 @@ pub mod Open
 pub mod Numbers
 pub mod Words
 pub mod Pieces
+pub mod Loads
+pub mod Stores

@@ -1,1 +1,3 @@
 // Little-endian numbers in byte slices.
+pub mod get;
+pub mod put;

@@ -1,0 +1,49 @@
+-- `u16_at` is the sum of two bytes, the second 0 where the slice ends before it.
+use Prim.Native.Nat.{_+_}
+use native.Mathlib.Omega.{arith}
+use denote.Ref.{now}
+use lib.ListN.{List·getD-eq-default}
+use Rattle.bytes_le.proofs.Loads.{leAt-one, leAt-two}
+use borrow.Author.Needs.{needs}
+use Rattle.bytes_le.proofs.get.u16_at.Statement.{statement}
+use Rattle.bytes_le.proofs.get.u16_at.Tie as tie
+
+bytes-from-requires : tie.Need-bytes-from-requires
+bytes-from-requires c κs = search needs
+
+shared-slice-read-pair : tie.Need-shared-slice-read-pair
+shared-slice-read-pair c = search needs
+
+add-pair : tie.Need-add-pair
+add-pair c = search needs
+
+shared-slice-read-pair-2 : tie.Need-shared-slice-read-pair-2
+shared-slice-read-pair-2 c = search needs
+
+pair-requires : tie.Need-pair-requires
+pair-requires c κs = search needs
+
+returns : tie.Need-returns
+returns c = omega (arith, leAt-two (now (c .before .before .before .before .before .before .args .s)) (c .before .before .before .before .before .before .args .at), c .pair .ensures)
+
+byte-at-requires : tie.Need-byte-at-requires
+byte-at-requires c κs = search needs
+
+returns-2 : tie.Need-returns-2
+returns-2 c =
+    let s = now (c .before .before .before .before .args .s) in
+    let at = c .before .before .before .before .args .at in
+    omega (arith, leAt-one s at, leAt-two s at, List·getD-eq-default s 0 {n = at + 1} (omega arith), c .byte-at .ensures)
+
+pub u16-at-spec : {M : Type 1} → statement M
+u16-at-spec =
+    tie.close
+    (tie.spec
+    bytes-from-requires
+    shared-slice-read-pair
+    add-pair
+    shared-slice-read-pair-2
+    pair-requires
+    returns
+    byte-at-requires
+    returns-2)

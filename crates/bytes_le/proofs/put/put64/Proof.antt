@@ -1,0 +1,49 @@
+-- `put64` stores the lower and the upper half.
+use Prim.Native.Nat.{_+_, _/_, _^_}
+use mathlib.Core.Path.{ap, _∙_}
+use denote.Ref.{now}
+use lib.Seq.{sets}
+use Rattle.bytes_le.specs.Numbers.{le}
+use Rattle.bytes_le.proofs.Stores.{store-parts}
+use borrow.Author.Needs.{needs}
+use Rattle.bytes_le.proofs.put.put64.Statement.{statement}
+use Rattle.bytes_le.proofs.put.put64.Tie as tie
+
+cast-put32 : tie.Need-cast-put32
+cast-put32 c = search needs
+
+put32-requires : tie.Need-put32-requires
+put32-requires c κs = search needs
+
+add-put32 : tie.Need-add-put32
+add-put32 c = search needs
+
+cast-put32-2 : tie.Need-cast-put32-2
+cast-put32-2 c = search needs
+
+put32-requires-2 : tie.Need-put32-requires-2
+put32-requires-2 c κs = search needs
+
+same-length : tie.Need-same-length
+same-length c = search needs
+
+returns : tie.Need-returns
+returns c =
+    let l = now (c .before .before .before .before .before .before .before .before .before .args .out) in
+    let at = c .before .before .before .before .before .before .before .before .before .args .at in
+    let v = c .before .before .before .before .before .before .before .before .before .args .v in
+    c .before .before .put322 .ensures
+    ∙ ap (λ k. sets k (at + 4) (le 4 (v / 256 ^ 4))) (c .before .before .before .before .before .before .put32 .ensures)
+    ∙ store-parts 4 4 v l at
+
+pub put64-spec : {M : Type 1} → statement M
+put64-spec =
+    tie.close
+    (tie.spec
+    cast-put32
+    put32-requires
+    add-put32
+    cast-put32-2
+    put32-requires-2
+    same-length
+    returns)

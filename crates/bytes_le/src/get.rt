@@ -1,0 +1,60 @@
+// Numbers read from bytes. Every function is total: bytes past the end count as 0.
+ghost use Prim.Native.Nat.{_+_, _-_, _*_, _<_};
+ghost use mathlib.Core.Path.{_≡_};
+ghost use lib.ListN.{length};
+ghost use Rattle.bytes_le.specs.Numbers.{leAt};
+
+// The number of two bytes.
+fn pair(low: u8, high: u8) -> usize
+    ensures { λ r. ⌜ (r ≡ low + 256 * high) × (r < 65536) ⌝ }
+{
+    (low as usize) + 256 * (high as usize)
+}
+
+// The number of four bytes.
+fn quad(a: u8, b: u8, c: u8, d: u8) -> u32
+    ensures { λ r. ⌜ r ≡ a + 256 * b + 65536 * c + 16777216 * d ⌝ }
+{
+    (a as u32) + 256 * (b as u32) + 65536 * (c as u32) + 16777216 * (d as u32)
+}
+
+// How many bytes stand from an offset on. No offset is too large to ask, and one comparison then tells whether a number is whole.
+fn bytes_from(s: &[u8], at: usize) -> usize
+    ensures { λ r. ⌜ r ≡ length (now (s .entry)) - at ⌝ }
+{
+    let n = s.len();
+    if at < n { n - at } else { 0 }
+}
+
+// The byte at an offset.
+pub fn byte_at(s: &[u8], at: usize) -> usize
+    ensures { λ r. ⌜ (r ≡ leAt 1 (now (s .entry)) at) × (r < 256) ⌝ }
+{
+    if at < s.len() { s[at] as usize } else { 0 }
+}
+
+// The 2-byte number at an offset.
+pub fn u16_at(s: &[u8], at: usize) -> usize
+    ensures { λ r. ⌜ (r ≡ leAt 2 (now (s .entry)) at) × (r < 65536) ⌝ }
+{
+    if 2 <= bytes_from(s, at) {
+        return pair(s[at], s[at + 1]);
+    }
+    // at most the lower byte is there
+    byte_at(s, at)
+}
+
+// The 4-byte number at an offset.
+pub fn u32_at(s: &[u8], at: usize) -> u32
+    ensures { λ r. ⌜ r ≡ leAt 4 (now (s .entry)) at ⌝ }
+{
+    let n = bytes_from(s, at);
+    if 4 <= n {
+        return quad(s[at], s[at + 1], s[at + 2], s[at + 3]);
+    }
+    if 3 <= n {
+        return quad(s[at], s[at + 1], s[at + 2], 0);
+    }
+    // at most the lower half is there
+    u16_at(s, at) as u32
+}
