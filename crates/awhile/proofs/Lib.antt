@@ -12,3 +12,4 @@ pub mod PostOrder
 pub mod Orders
 pub mod Writing
 pub mod Accepted
+pub mod Index

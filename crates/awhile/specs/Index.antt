@@ -4,7 +4,8 @@ use mathlib.Core.List.{List, []}
 use mathlib.Core.Path.{_≡_}
 use lib.ListN.{length, getD}
 use Rattle.awhile.specs.Tables.{Table, Reading, rejected, notATree, accepted, readTable, offsetOf}
-use Rattle.awhile.specs.Trees.{Tree, treeAt, trees}
+use Rattle.awhile.specs.Language.{AExp, BExp, Com}
+use Rattle.awhile.specs.Trees.{Tree, treeAt, trees, asNumeric, asTruth, asCommand}
 use Rattle.awhile.specs.declared.Node.{Node}
 use Rattle.awhile.specs.declared.Node.the-variants.{Skip}
 
@@ -26,6 +27,16 @@ nodeIn s n = getD (tableOf s .nodes) n Skip
 
 unfoldable pub treeIn : List ℕ → (node : ℕ) → Tree
 treeIn s n = treeAt (trees (tableOf s .nodes)) n
+
+-- the expression or command of a node, by its sort
+abbrev pub numericIn : List ℕ → (node : ℕ) → AExp
+numericIn s n = asNumeric (treeIn s n)
+
+abbrev pub truthIn : List ℕ → (node : ℕ) → BExp
+truthIn s n = asTruth (treeIn s n)
+
+abbrev pub commandIn : List ℕ → (node : ℕ) → Com ℕ
+commandIn s n = asCommand (treeIn s n)
 
 -- an index of an accepted table: entry n is the byte offset of node n's record
 pub record Indexed (table index : List ℕ) : Type 0 where

@@ -6,11 +6,17 @@ use mathlib.Core.Path.{_≡_, refl, ap}
 use mathlib.Core.List.{List, [], _∷_, _++_}
 use lib.ListN.{length, getD, take, drop, length-take, length-drop}
 use lib.Seq.{take-at, drop-append-seam, drop-append-le, take-append-le, drop-append-add, getD-drop}
+use mir.Syntax.{w8}
+use mir.Val.{Fits}
 use Rattle.bytes_le.specs.Numbers.{le, fromLe, leAt}
 
 -- every element of a list is below a bound (past the end stands 0)
 pub record Below (bound : ℕ) (ns : List ℕ) : Type 0 where
   pub below : (i : ℕ) → getD ns i 0 < bound
+
+-- the elements of a slice of bytes are bytes
+pub slice-bytes : (s : List ℕ) → ((i : ℕ) → Fits w8 (getD s i 0)) → Below 256 s
+slice-bytes s known = record { below = λ i. known i .fits }
 
 module _ (bound : ℕ) where
   pub below-head : (n : ℕ) (ns : List ℕ) → Below bound (n ∷ ns) → n < bound
