@@ -11,3 +11,5 @@ pub mod PlainRuns
 pub mod OneStep
 pub mod LockedRuns
 pub mod Security
+pub mod NodeRecords
+pub mod Parts

@@ -4,3 +4,5 @@ pub mod Hardening
 pub mod Covering
 pub mod SameRun
 pub mod Security
+pub mod Records
+pub mod Written
