@@ -12,4 +12,7 @@ pub mod PostOrder
 pub mod Orders
 pub mod Writing
 pub mod Accepted
+pub mod Sums
+pub mod Size
+pub mod Ranges
 pub mod Index

@@ -35,6 +35,10 @@ module _ {A : Type 0} (test : A → Bool) (x : A) (xs : List A) where
   unfolding all
   all-cons p q = and-both (test x) (all test xs) p q
 
+pub all-append : {A : Type 0} (test : A → Bool) (xs ys : List A) → all test xs ≡ true → all test ys ≡ true → all test (xs ++ ys) ≡ true
+all-append test [] ys p q = q
+all-append test (x ∷ xs) ys p q = all-cons test x (xs ++ ys) (all-head test x xs p) (all-append test xs ys (all-tail test x xs p) q)
+
 -- ---- sums and counts over two lists
 pub sum-append : (ms ns : List ℕ) → sum (ms ++ ns) ≡ sum ms + sum ns
 unfolding sum

@@ -9,3 +9,5 @@ pub mod Passes
 pub mod Analysis
 pub mod Rules
 pub mod Notes
+pub mod Warm
+pub mod ExpressionLabels
