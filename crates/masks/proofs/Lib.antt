@@ -13,3 +13,7 @@ pub mod LockedRuns
 pub mod Security
 pub mod NodeRecords
 pub mod Parts
+pub mod SizeSums
+pub mod Lengths
+pub mod Unnamed
+pub mod Descents

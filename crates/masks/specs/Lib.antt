@@ -6,3 +6,4 @@ pub mod SameRun
 pub mod Security
 pub mod Records
 pub mod Written
+pub mod Sizes

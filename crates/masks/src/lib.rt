@@ -1,5 +1,6 @@
 // The hardened program: what needs masking is masked.
 pub mod records;
+pub mod sizes;
 
 // How much is written: so many nodes, in so many bytes.
 pub struct Size {
