@@ -15,3 +15,9 @@ pub mod OneStep
 pub mod LockedRuns
 pub mod Security
 pub mod Demands
+pub mod NodeRecords
+pub mod Parts
+pub mod SizeSums
+pub mod Lengths
+pub mod Unnamed
+pub mod Descents

@@ -7,3 +7,6 @@ pub mod Security
 pub mod Size
 pub mod ReadBack
 pub mod Demands
+pub mod Records
+pub mod Written
+pub mod Sizes
