@@ -20,11 +20,11 @@ use Rattle.masks.specs.Decisions.{Decision, decide}
 use Rattle.masks.specs.Covering.{Covers}
 use Rattle.masks.specs.Hardening.{Origin, harden, hardenedProgram, tableOfHardened, hardenedTable}
 use Rattle.masks.specs.SameRun.{AssignsBelow, plainRun, SameRun}
-use Rattle.masks.specs.Size.{MasksLargeConditions}
+use Rattle.masks.specs.Growth.{MasksLargeConditions}
 use Rattle.masks.specs.ReadBack.{originIn, ReadsBack}
 use Rattle.masks.specs.Demands.{Demands}
 use Rattle.masks.proofs.Decisions.{programFor, program-decided, decide-covers, assigns-below}
-use Rattle.masks.proofs.Size.{decide-large}
+use Rattle.masks.proofs.Growth.{decide-large}
 use Rattle.masks.proofs.Origins.{origins-kept}
 use Rattle.masks.proofs.ReadBack.{table-size, eightfold, hardened-nodes, hardened-reads-back}
 use Rattle.masks.proofs.SameRun.{same-run}

@@ -2,7 +2,7 @@
 pub mod Open
 pub mod Examples
 pub mod Decisions
-pub mod Size
+pub mod Growth
 pub mod Origins
 pub mod ReadBack
 pub mod SameRunSteps

@@ -26,10 +26,10 @@ use Rattle.labels.specs.Labellings.{labelOf}
 use Rattle.labels.proofs.Masks.{bit-above}
 use Rattle.masks.specs.Decisions.{Decision, decide}
 use Rattle.masks.specs.Hardening.{Origin, harden, hardenedProgram, tableOfHardened, hardenedTable}
-use Rattle.masks.specs.Size.{MasksLargeConditions}
+use Rattle.masks.specs.Growth.{MasksLargeConditions}
 use Rattle.masks.specs.ReadBack.{ReadsBack}
 use Rattle.masks.proofs.Decisions.{programFor, program-decided}
-use Rattle.masks.proofs.Size.{hardened-size, hardened-within, nodesOf-mapped, decide-large}
+use Rattle.masks.proofs.Growth.{hardened-size, hardened-within, nodesOf-mapped, decide-large}
 
 -- one more variable, not secret, may be declared where there is one free
 declared-more : (v : ℕ) (l : Labelling) (counts : List ℕ) → v < maxVariables → Declared v l counts → Declared (v + 1) l counts

@@ -4,7 +4,7 @@ pub mod Hardening
 pub mod Covering
 pub mod SameRun
 pub mod Security
-pub mod Size
+pub mod Growth
 pub mod ReadBack
 pub mod Demands
 pub mod Records

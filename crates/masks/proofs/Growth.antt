@@ -15,7 +15,7 @@ use Rattle.labels.specs.Annotation.{Entry}
 use Rattle.labels.specs.Sheet.{entryOf}
 use Rattle.masks.specs.Decisions.{Decision, decide}
 use Rattle.masks.specs.Hardening.{Origin, maskedCondition, zeroIfGuessing, maskedIndex, flagIfTrue, flagIfFalse, maskValueOf, harden}
-use Rattle.masks.specs.Size.{LargeIfMasked, MasksLargeConditions}
+use Rattle.masks.specs.Growth.{LargeIfMasked, MasksLargeConditions}
 use Rattle.masks.proofs.Decisions.{programFor}
 
 -- ---- how many nodes
