@@ -1,6 +1,7 @@
 // The language AWHILE as a table of records: what a record can be, and why a table is refused.
 pub mod decode;
 pub mod lookup;
+pub mod reader;
 
 // What a node stands for: a number, a truth value or a command.
 pub enum Sort {
