@@ -3,6 +3,7 @@ pub mod declarations;
 pub mod decode;
 pub mod frames;
 pub mod lookup;
+pub mod reader;
 
 // The limits of document 01.
 pub const MAX_VARIABLES: usize = 32;
