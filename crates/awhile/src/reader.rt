@@ -27,17 +27,6 @@ pub fn decoded<'a>(reader: Reader<'a>) -> Decoded
     decode::decode_at(reader.table, reader.at)
 }
 
-// The reader behind a record of that size: at the next one.
-pub fn passed<'a>(reader: Reader<'a>, size: usize) -> Reader<'a>
-    requires { ⌜ reader .at + size < 2 ^ 64 ⌝ }
-    ensures { λ r. ⌜ (r .table ≡ reader .entry .table) × (r .at ≡ reader .entry .at + size) ⌝ }
-{
-    Reader {
-        table: reader.table,
-        at: reader.at + size,
-    }
-}
-
 // What the record at an offset decodes to, for callers that have the slice and the number.
 pub fn decoded_at(table: &[u8], at: usize) -> Decoded
     requires { ⌜ at + 8 < 2 ^ 64 ⌝ }
