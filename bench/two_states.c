@@ -1,0 +1,273 @@
+#include "two_states.h"
+
+#include <stdio.h>
+#include <string.h>
+
+#include "kinds.h"
+#include "little_endian.h"
+
+enum { MOST_STEPS = 600, SCRIPTS = 4 };
+
+/* A program, hardened, and two states of its variables and cells. */
+struct scene {
+    struct buffer table;
+    struct slice hardened;
+    unsigned variables;
+    struct slice state_variables[2], state_cells[2];
+};
+
+/* What a run shows, and which directives led it. */
+struct shown {
+    struct slice bytes;
+    unsigned forced, redirected;
+};
+
+/* ---- The program -------------------------------------------------------------------------------------------------------- */
+
+/* if i<bound then (j:=a0[i]; x:=a1[j]) else skip, with sizes and labels by chance: the program that leaks most easily. */
+static void generate_gadget(struct random *r, struct buffer *t)
+{
+    uint16_t counts[] = {(uint16_t)(1 + random_below(r, 4)), (uint16_t)(1 + random_below(r, 6)), 3};
+    assemble_table(t, 4, 3, counts, random_below(r, 2) * 8, 4);
+    uint32_t bound = random_below(r, counts[0] + 1u);
+    unsigned i = assemble_node1(t, FLOW_VARIABLE, 0);
+    unsigned condition = assemble_node2(t, FLOW_LESS, i, assemble_node1(t, FLOW_NUMBER, bound));
+    unsigned first = assemble_node3(t, FLOW_READ, 1, 0, assemble_node1(t, FLOW_VARIABLE, 0));
+    unsigned second = assemble_node1(t, FLOW_VARIABLE, 1);
+    second = random_percent(r, 50) ? assemble_node3(t, FLOW_READ, 2, 1, second)
+                                   : assemble_node3(t, FLOW_WRITE, 1, second, assemble_node1(t, FLOW_VARIABLE, 3));
+    unsigned accesses = assemble_node2(t, FLOW_SEQUENCE, first, second);
+    if (random_percent(r, 50))
+        assemble_node3(t, FLOW_IF, condition, accesses, assemble_node0(t, FLOW_SKIP));
+    else
+        assemble_node2(t, FLOW_WHILE, condition, accesses);
+}
+
+static void generate_program(struct random *r, struct buffer *table)
+{
+    if (random_percent(r, 20)) {
+        generate_gadget(r, table);
+        return;
+    }
+    struct plan plan = plan_small(r, random_percent(r, 80) ? 50 : 150);
+    plan.accesses = 60;
+    generate_table(r, &plan, table);
+}
+
+/* ---- The states --------------------------------------------------------------------------------------------------------- */
+
+static void make_states(struct random *r, struct scene *scene)
+{
+    const uint8_t *table = scene->table.bytes;
+    unsigned variables = table[6], arrays = table[7];
+    uint32_t secret_variables = get32(table + 14), secret_arrays = get16(table + 18);
+    size_t cells = 0;
+    for (unsigned array = 0; array < arrays; array++)
+        cells += get16(table + 24 + 6 * array);
+    scene->variables = variables;
+    slice_new(&scene->state_variables[0], 4 * (size_t)variables);
+    slice_new(&scene->state_cells[0], 4 * cells);
+    generate_words(r, scene->state_variables[0].bytes, variables);
+    generate_words(r, scene->state_cells[0].bytes, cells);
+    slice_from(&scene->state_variables[1], scene->state_variables[0].bytes, 4 * (size_t)variables);
+    slice_from(&scene->state_cells[1], scene->state_cells[0].bytes, 4 * cells);
+    unsigned changed = random_percent(r, 50) ? 100 : 40; /* percent of the secrets that differ */
+    for (unsigned x = 0; x < variables; x++)
+        if ((secret_variables >> x & 1) != 0 && random_percent(r, changed))
+            generate_words(r, scene->state_variables[1].bytes + 4 * x, 1);
+    uint8_t *cell = scene->state_cells[1].bytes;
+    for (unsigned array = 0; array < arrays; array++) {
+        unsigned count = get16(table + 24 + 6 * array);
+        if ((secret_arrays >> array & 1) != 0 && random_percent(r, changed))
+            generate_words(r, cell, count);
+        cell += 4 * count;
+    }
+}
+
+/* ---- Runs --------------------------------------------------------------------------------------------------------------- */
+
+/* A call that runs the table from one of the states.  A variable beyond the state's, the flag of a hardened table, is 0. */
+static struct call make_run(const struct scene *scene, const uint8_t *table, size_t length, unsigned state, uint32_t budget)
+{
+    struct call call = {.entry = ENTRY_RUN, .budget = budget};
+    const struct slice *variables = &scene->state_variables[state];
+    const struct slice *cells = &scene->state_cells[state];
+    slice_from(&call.slices[SLICE_TABLE], table, length);
+    slice_new(&call.slices[SLICE_VARIABLES], 4 * (size_t)table[6]);
+    if (table[6] > 0)
+        memset(call.slices[SLICE_VARIABLES].bytes, 0, call.slices[SLICE_VARIABLES].length);
+    if (variables->length > 0)
+        memcpy(call.slices[SLICE_VARIABLES].bytes, variables->bytes, variables->length);
+    slice_from(&call.slices[SLICE_CELLS], cells->bytes, cells->length);
+    slice_new(&call.slices[SLICE_PENDING], 4 * (size_t)get16(table + 8));
+    slice_new(&call.slices[SLICE_OBSERVATIONS], 10 * (size_t)MOST_STEPS);
+    slice_new(&call.slices[SLICE_ANSWER], FLOW_ANSWER_BYTES);
+    return call;
+}
+
+static void count_directives(const struct call *call, struct shown *shown)
+{
+    const uint8_t *at = call->slices[SLICE_DIRECTIVES].bytes;
+    for (uint64_t left = call_answer(call, 3); left > 0; left--) {
+        unsigned kind = get16(at + 2);
+        shown->forced += kind == FLOW_FORCE;
+        shown->redirected += kind == FLOW_LOAD || kind == FLOW_STORE;
+        at += get16(at);
+    }
+}
+
+/* Runs without guessing where `list` is NULL. */
+static struct shown show(const struct scene *scene, const uint8_t *table, size_t length, unsigned state,
+                         const struct buffer *list, uint32_t budget)
+{
+    struct shown shown = {0};
+    struct call call = make_run(scene, table, length, state, budget);
+    if (list != NULL) {
+        call.entry = ENTRY_GUESS;
+        slice_from(&call.slices[SLICE_DIRECTIVES], list->bytes, list->length);
+    }
+    if (call_library(&call) == FLOW_ACCEPTED) {
+        slice_from(&shown.bytes, call.slices[SLICE_OBSERVATIONS].bytes, call_answer(&call, 4));
+        count_directives(&call, &shown);
+    }
+    call_free(&call);
+    return shown;
+}
+
+/* Does one of the two begin the other?  Both are whole records, so bytes decide it. */
+static bool one_begins(const struct slice *one, const struct slice *other)
+{
+    size_t shorter = one->length < other->length ? one->length : other->length;
+    return shorter == 0 || memcmp(one->bytes, other->bytes, shorter) == 0;
+}
+
+/* A shorter budget shows the beginning of what a longer one shows, so the longest decides all. */
+static bool plain_runs_related(const struct scene *scene)
+{
+    struct shown one = show(scene, scene->table.bytes, scene->table.length, 0, NULL, MOST_STEPS);
+    struct shown other = show(scene, scene->table.bytes, scene->table.length, 1, NULL, MOST_STEPS);
+    bool related = one_begins(&one.bytes, &other.bytes);
+    slice_free(&one.bytes);
+    slice_free(&other.bytes);
+    return related;
+}
+
+/* ---- Scripts ------------------------------------------------------------------------------------------------------------ */
+
+static void write_script(struct random *r, const struct scene *scene, const uint8_t *table, size_t length, struct buffer *list)
+{
+    if (random_percent(r, 85)) {
+        struct call call = make_run(scene, table, length, random_below(r, 2), MOST_STEPS);
+        call.entry = ENTRY_GUESS;
+        generate_script(r, &call, 1 + random_below(r, 25), 10 + random_below(r, 70), list);
+        call_free(&call);
+    }
+    if (random_percent(r, 30))
+        generate_directives(r, 10, list);
+}
+
+static void print_named(const char *name, const uint8_t *bytes, size_t length)
+{
+    printf("  %-14s", name);
+    print_hex(stdout, bytes, length);
+    printf("\n");
+}
+
+static void print_scene(const struct scene *scene, const struct buffer *list, const uint32_t *budgets, const struct shown *shown)
+{
+    static const char *const names[2][3] = {{"variables 1", "cells 1", "shows 1"}, {"variables 2", "cells 2", "shows 2"}};
+    printf("the hardened program tells two states apart (demand 3), budgets %u and %u\n", budgets[0], budgets[1]);
+    print_named("table", scene->table.bytes, scene->table.length);
+    print_named("hardened", scene->hardened.bytes, scene->hardened.length);
+    print_named("directives", list->bytes, list->length);
+    for (unsigned state = 0; state < 2; state++) {
+        print_named(names[state][0], scene->state_variables[state].bytes, scene->state_variables[state].length);
+        print_named(names[state][1], scene->state_cells[state].bytes, scene->state_cells[state].length);
+        print_named(names[state][2], shown[state].bytes.bytes, shown[state].bytes.length);
+    }
+}
+
+static bool play_script(struct random *r, const struct scene *scene, struct plays *plays)
+{
+    struct buffer list = {0};
+    struct shown shown[2];
+    uint32_t budgets[2] = {MOST_STEPS, MOST_STEPS};
+    if (random_percent(r, 25)) {
+        budgets[0] = random_below(r, MOST_STEPS);
+        budgets[1] = random_below(r, MOST_STEPS);
+    }
+    write_script(r, scene, scene->hardened.bytes, scene->hardened.length, &list);
+    for (unsigned state = 0; state < 2; state++)
+        shown[state] = show(scene, scene->hardened.bytes, scene->hardened.length, state, &list, budgets[state]);
+    bool same = one_begins(&shown[0].bytes, &shown[1].bytes);
+    plays->scripts++;
+    plays->forced += shown[0].forced + shown[1].forced;
+    plays->redirected += shown[0].redirected + shown[1].redirected;
+    if (!same)
+        print_scene(scene, &list, budgets, shown);
+    for (unsigned state = 0; state < 2; state++)
+        slice_free(&shown[state].bytes);
+    buffer_free(&list);
+    return same;
+}
+
+/* Does a script written for the program before hardening tell the states apart there? */
+static bool leaks_before_hardening(struct random *r, const struct scene *scene)
+{
+    struct buffer list = {0};
+    write_script(r, scene, scene->table.bytes, scene->table.length, &list);
+    struct shown one = show(scene, scene->table.bytes, scene->table.length, 0, &list, MOST_STEPS);
+    struct shown other = show(scene, scene->table.bytes, scene->table.length, 1, &list, MOST_STEPS);
+    bool leaks = !one_begins(&one.bytes, &other.bytes);
+    slice_free(&one.bytes);
+    slice_free(&other.bytes);
+    buffer_free(&list);
+    return leaks;
+}
+
+/* ---- A play ------------------------------------------------------------------------------------------------------------- */
+
+static bool harden_table(struct scene *scene)
+{
+    struct call call = {.entry = ENTRY_HARDEN};
+    slice_from(&call.slices[SLICE_TABLE], scene->table.bytes, scene->table.length);
+    slice_new(&call.slices[SLICE_OUTPUT], FLOW_TABLE_BYTES);
+    slice_new(&call.slices[SLICE_ANSWER], FLOW_ANSWER_BYTES);
+    bool accepted = call_library(&call) == FLOW_ACCEPTED;
+    if (accepted)
+        slice_from(&scene->hardened, call.slices[SLICE_OUTPUT].bytes, call_answer(&call, 1));
+    call_free(&call);
+    return accepted;
+}
+
+static void free_scene(struct scene *scene)
+{
+    buffer_free(&scene->table);
+    slice_free(&scene->hardened);
+    for (unsigned state = 0; state < 2; state++) {
+        slice_free(&scene->state_variables[state]);
+        slice_free(&scene->state_cells[state]);
+    }
+}
+
+bool play_two_states(struct random *r, struct plays *plays)
+{
+    struct scene scene = {0};
+    bool same = true;
+    generate_program(r, &scene.table);
+    make_states(r, &scene);
+    plays->pairs++;
+    if (!harden_table(&scene)) {
+        printf("a valid table does not harden\n");
+        print_named("table", scene.table.bytes, scene.table.length);
+        same = false;
+    } else if (plain_runs_related(&scene)) {
+        plays->related++;
+        for (unsigned script = 0; same && script < SCRIPTS; script++) {
+            same = play_script(r, &scene, plays);
+            plays->leaks_before += leaks_before_hardening(r, &scene);
+        }
+    }
+    free_scene(&scene);
+    return same;
+}
