@@ -2,7 +2,7 @@
  * Writes generated calls with the reference's answers, a line each, for a comparison with another model of document 01:
  *     entry budget (slices at entry) result (slices after)
  * The slices stand in the order of enum slice_name, in hexadecimal, an empty one as -.
- * Usage: exchange [seed [count]]
+ * Usage: exchange [seed [count [any]]].  Tables are small, unless `any` is asked for.
  */
 #include <inttypes.h>
 #include <stdlib.h>
@@ -18,10 +18,10 @@ static void print_slices(const struct call *call)
     }
 }
 
-static void exchange_call(struct random *r)
+static void exchange_call(struct random *r, bool small)
 {
     struct call call;
-    generate_call(r, true, &call);
+    generate_call(r, small, &call);
     printf("%s %" PRIu32, entry_names[call.entry], call.budget);
     print_slices(&call);
     uint64_t result = call_reference(&call);
@@ -37,7 +37,7 @@ int main(int argc, char **argv)
     uint64_t count = argc > 2 ? strtoull(argv[2], NULL, 10) : 3000;
     for (uint64_t number = 0; number < count; number++) {
         struct random r = random_from(seed, number);
-        exchange_call(&r);
+        exchange_call(&r, argc <= 3);
     }
     return 0;
 }

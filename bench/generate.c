@@ -400,6 +400,19 @@ void generate_table(struct random *r, const struct plan *plan, struct buffer *ta
     free(s);
 }
 
+void nested_loops_table(unsigned depth, struct buffer *t)
+{
+    assemble_table(t, 2, 0, NULL, 2, 0);
+    unsigned inner = assemble_node0(t, FLOW_SKIP);
+    for (unsigned level = 0; level < depth; level++) {
+        unsigned condition = assemble_node1(t, FLOW_CONSTANT, 1);
+        unsigned clear = assemble_node2(t, FLOW_ASSIGN, 0, assemble_node1(t, FLOW_NUMBER, 0));
+        unsigned taint = assemble_node2(t, FLOW_ASSIGN, 0, assemble_node1(t, FLOW_VARIABLE, 1));
+        unsigned rest = assemble_node2(t, FLOW_SEQUENCE, inner, taint);
+        inner = assemble_node2(t, FLOW_WHILE, condition, assemble_node2(t, FLOW_SEQUENCE, clear, rest));
+    }
+}
+
 /* ---- Damage ------------------------------------------------------------------------------------------------------------- */
 
 /* The records of a valid table. */
@@ -484,7 +497,18 @@ static void damage_kind(struct random *r, struct buffer *table, const struct rec
     put16(at + 2, random_percent(r, 10) ? kind + 256 : kind);
 }
 
-/* A child, variable, array or constant field becomes another number, near a limit or a node below. */
+/* The lowest number that a field must not have. */
+static uint32_t first_refused(const struct buffer *table, unsigned node, char field)
+{
+    switch (field) {
+    case 'b': return 2;
+    case 'x': return table->bytes[6];
+    case 'a': return table->bytes[7];
+    default: return node;
+    }
+}
+
+/* A child, variable, array or constant becomes another number: at its limit, a node below, or some other. */
 static void damage_field(struct random *r, struct buffer *table, const struct records *records)
 {
     unsigned node = any_node(r, records);
@@ -492,10 +516,11 @@ static void damage_field(struct random *r, struct buffer *table, const struct re
     const char *fields = fields_of(get16(at + 2));
     if (*fields == 0)
         return;
-    uint32_t values[] = {node, node + 1, node == 0 ? 0 : random_below(r, node), node == 0 ? 0 : random_below(r, node),
-                         table->bytes[6], table->bytes[7], 2, 65535, 256, random_below(r, 40)};
-    put16(at + RECORD_HEAD + 2 * random_below(r, (uint32_t)strlen(fields)),
-          values[random_below(r, sizeof values / sizeof *values)]);
+    unsigned which = random_below(r, (uint32_t)strlen(fields));
+    uint32_t limit = first_refused(table, node, fields[which]);
+    uint32_t below = node == 0 ? 0 : random_below(r, node);
+    uint32_t values[] = {limit, limit, limit + 1, below, below, below, 65535, 256, random_below(r, 40)};
+    put16(at + RECORD_HEAD + 2 * which, values[random_below(r, sizeof values / sizeof *values)]);
 }
 
 static void damage_header(struct random *r, struct buffer *table)
@@ -558,6 +583,14 @@ static void damage_records(struct random *r, struct buffer *table, const struct 
     }
 }
 
+/* The root becomes both parts of a new one: no node is left over, one is a child twice. */
+static void share_root(struct buffer *table)
+{
+    unsigned root = get16(table->bytes + 8) - 1;
+    if (root + 1 < FLOW_MAX_NODES)
+        assemble_node2(table, FLOW_SEQUENCE, root, root);
+}
+
 void damage_table(struct random *r, struct buffer *table)
 {
     struct records records;
@@ -566,7 +599,9 @@ void damage_table(struct random *r, struct buffer *table)
         damage_field(r, table, &records);
         damage_field(r, table, &records);
     }
-    switch (random_below(r, 12)) {
+    if (random_percent(r, 3))
+        share_root(table);
+    switch (random_below(r, 13)) {
     case 0: damage_bits(r, table); break;
     case 1: damage_end(r, table, &records); break;
     case 2: damage_length(r, table, &records); break;
@@ -577,6 +612,7 @@ void damage_table(struct random *r, struct buffer *table)
     case 7: damage_header(r, table); break;
     case 8: damage_masks(r, table); break;
     case 9: damage_counts(r, table); break;
+    case 10: share_root(table); break;
     default: damage_records(r, table, &records); break;
     }
 }
@@ -657,15 +693,17 @@ static void find_layout(const struct slice *table, struct layout *layout)
         layout->counts[array] = get16(table->bytes + 20 + 6 * array + RECORD_HEAD);
 }
 
-static void append_redirect(struct random *r, const struct layout *layout, unsigned kind, struct buffer *list)
+/* A load at a read, a store at a write; seldom the other one, or a cell that does not exist. */
+static void append_redirect(struct random *r, const struct layout *layout, unsigned access, struct buffer *list)
 {
+    bool load = (access == FLOW_READ) != random_percent(r, 6);
     unsigned array = random_below(r, layout->arrays);
     uint32_t index = random_below(r, layout->counts[array]);
-    if (random_percent(r, 3))
-        array = layout->arrays;
-    if (random_percent(r, 3))
-        index += layout->counts[array < layout->arrays ? array : 0];
-    assemble_redirect(list, kind, array, index);
+    if (random_percent(r, 8))
+        index = layout->counts[array] + random_below(r, 2);
+    if (random_percent(r, 8))
+        array = layout->arrays + random_below(r, 2);
+    assemble_redirect(list, load ? FLOW_LOAD : FLOW_STORE, array, index);
 }
 
 /* The end, directives used and next node of the guessing call with this list. */
@@ -700,13 +738,16 @@ void generate_script(struct random *r, const struct call *call, unsigned most, u
         read_yet = true;
         const uint8_t *node = call->slices[SLICE_TABLE].bytes + layout.records.places[layout.records.declarations + outcome.next];
         unsigned kind = get16(node + 2);
+        bool branch = kind == FLOW_IF || kind == FLOW_WHILE;
         if (outcome.end == FLOW_OUT_OF_DIRECTIVES && outcome.used < most) {
-            bool branch = kind == FLOW_IF || kind == FLOW_WHILE;
-            assemble_directive(list, branch && random_percent(r, forces) ? FLOW_FORCE : FLOW_STEP);
-            redirected = false;
-        } else if (outcome.end == FLOW_STUCK && !redirected && (kind == FLOW_READ || kind == FLOW_WRITE)) {
+            redirected = !branch && random_percent(r, 4); /* before it is known whether the index is out of bounds */
+            if (redirected)
+                append_redirect(r, &layout, kind, list);
+            else
+                assemble_directive(list, branch && random_percent(r, forces) ? FLOW_FORCE : FLOW_STEP);
+        } else if (outcome.end == FLOW_STUCK && !redirected && !branch) {
             list->length -= 4; /* the step that did not fit */
-            append_redirect(r, &layout, kind == FLOW_READ ? FLOW_LOAD : FLOW_STORE, list);
+            append_redirect(r, &layout, kind, list);
             redirected = true;
         } else
             return;
@@ -786,11 +827,25 @@ static void lend_output(struct random *r, struct call *call)
     fill_slice(r, &call->slices[SLICE_OUTPUT], random_percent(r, 40) ? right : odd_length(r, right, 100));
 }
 
+/* The last step of a list that fits becomes a directive that may not: a load in bounds, a force at a read. */
+static void spoil_last_directive(struct random *r, struct buffer *list)
+{
+    if (list->length < 4 || get16(list->bytes + list->length - 4) != 4 || get16(list->bytes + list->length - 2) != FLOW_STEP)
+        return;
+    list->length -= 4;
+    if (random_percent(r, 30))
+        assemble_directive(list, FLOW_FORCE);
+    else
+        assemble_redirect(list, random_percent(r, 50) ? FLOW_LOAD : FLOW_STORE, 0, 0);
+}
+
 static void lend_directives(struct random *r, struct call *call)
 {
     struct buffer list = {0};
     if (random_percent(r, 70))
         generate_script(r, call, random_below(r, 30), random_below(r, 60), &list);
+    if (random_percent(r, 8))
+        spoil_last_directive(r, &list);
     if (random_percent(r, 30))
         generate_directives(r, 8, &list);
     if (random_percent(r, 8))
@@ -819,20 +874,31 @@ static void lend_state(struct random *r, const struct plan *plan, struct call *c
         lend_directives(r, call);
 }
 
+/* Any table, and the plan of the state that goes with it. */
+static void generate_input(struct random *r, bool small, struct plan *plan, struct buffer *table)
+{
+    *plan = small ? plan_small(r, 60) : plan_any(r);
+    if (random_percent(r, 3)) {
+        generate_noise(r, table);
+        return;
+    }
+    if (!small && random_percent(r, 1)) {
+        nested_loops_table(1 + random_below(r, random_percent(r, 50) ? 62 : 510), table);
+        plan->variables = 2;
+        plan->arrays = 0;
+    } else
+        generate_table(r, plan, table);
+    plan->nodes = get16(table->bytes + 8);
+    if (random_percent(r, 25))
+        damage_table(r, table);
+}
+
 void generate_call(struct random *r, bool small, struct call *call)
 {
     struct buffer table = {0};
-    struct plan plan = small ? plan_small(r, 60) : plan_any(r);
+    struct plan plan;
     *call = (struct call){.entry = random_below(r, ENTRIES)};
-    if (random_percent(r, 3))
-        generate_noise(r, &table);
-    else {
-        generate_table(r, &plan, &table);
-        if (table.length > 0)
-            plan.nodes = get16(table.bytes + 8);
-        if (random_percent(r, 25))
-            damage_table(r, &table);
-    }
+    generate_input(r, small, &plan, &table);
     if (table.length > 0 || random_percent(r, 50))
         slice_from(&call->slices[SLICE_TABLE], table.bytes, table.length);
     buffer_free(&table);

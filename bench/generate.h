@@ -45,6 +45,12 @@ struct plan plan_any(struct random *r);
 /* Puts a valid table of exactly the planned size.  (Where the plan has no variables, 2 nodes are made 3.) */
 void generate_table(struct random *r, const struct plan *plan, struct buffer *table);
 
+/*
+ * Puts loops nested this deep: while 1 do (x:=0; (inner; x:=s)), s secret.  Each level takes at least two passes, which a careless
+ * analysis multiplies.
+ */
+void nested_loops_table(unsigned depth, struct buffer *table);
+
 /* Spoils a valid table: one cause of refusal or several, seldom none. */
 void damage_table(struct random *r, struct buffer *table);
 

@@ -24,28 +24,67 @@ struct shown {
 
 /* ---- The program -------------------------------------------------------------------------------------------------------- */
 
-/* if i<bound then (j:=a0[i]; x:=a1[j]) else skip, with sizes and labels by chance: the program that leaks most easily. */
+/* The variables i, j, x and k of a gadget; arrays 0 and 1 are public, array 2 is secret. */
+enum { I, J, X, K };
+
+static unsigned gadget_sequence(struct buffer *t, unsigned first, unsigned second)
+{
+    return assemble_node2(t, FLOW_SEQUENCE, first, second);
+}
+
+/* j := array[index], the index a variable or, where it is none, 0 */
+static unsigned gadget_read(struct buffer *t, unsigned array, unsigned index)
+{
+    unsigned at = index <= K ? assemble_node1(t, FLOW_VARIABLE, index) : assemble_node1(t, FLOW_NUMBER, 0);
+    return assemble_node3(t, FLOW_READ, J, array, at);
+}
+
+/* An access that shows j: x := a1[j], or a1[j] := k */
+static unsigned gadget_access(struct random *r, struct buffer *t)
+{
+    unsigned index = assemble_node1(t, FLOW_VARIABLE, J);
+    if (random_percent(r, 50))
+        return assemble_node3(t, FLOW_READ, X, 1, index);
+    return assemble_node3(t, FLOW_WRITE, 1, index, assemble_node1(t, FLOW_VARIABLE, K));
+}
+
+/* Before the branch, maybe, j := a2[0], and before that a2[1] := 0, which must not make the array public. */
+static unsigned gadget_start(struct random *r, struct buffer *t)
+{
+    if (random_percent(r, 40))
+        return assemble_node0(t, FLOW_SKIP);
+    unsigned secret = gadget_read(t, 2, K + 1);
+    if (random_percent(r, 50))
+        return secret;
+    unsigned index = assemble_node1(t, FLOW_NUMBER, 1);
+    unsigned write = assemble_node3(t, FLOW_WRITE, 2, index, assemble_node1(t, FLOW_NUMBER, 0));
+    return gadget_sequence(t, write, secret);
+}
+
+/*
+ * start; if i<bound then (j:=a0[i]; access j) else skip, or its like with a loop or without the first read, with sizes and labels
+ * by chance: the programs that leak most easily.
+ */
 static void generate_gadget(struct random *r, struct buffer *t)
 {
     uint16_t counts[] = {(uint16_t)(1 + random_below(r, 4)), (uint16_t)(1 + random_below(r, 6)), 3};
-    assemble_table(t, 4, 3, counts, random_below(r, 2) * 8, 4);
-    uint32_t bound = random_below(r, counts[0] + 1u);
-    unsigned i = assemble_node1(t, FLOW_VARIABLE, 0);
-    unsigned condition = assemble_node2(t, FLOW_LESS, i, assemble_node1(t, FLOW_NUMBER, bound));
-    unsigned first = assemble_node3(t, FLOW_READ, 1, 0, assemble_node1(t, FLOW_VARIABLE, 0));
-    unsigned second = assemble_node1(t, FLOW_VARIABLE, 1);
-    second = random_percent(r, 50) ? assemble_node3(t, FLOW_READ, 2, 1, second)
-                                   : assemble_node3(t, FLOW_WRITE, 1, second, assemble_node1(t, FLOW_VARIABLE, 3));
-    unsigned accesses = assemble_node2(t, FLOW_SEQUENCE, first, second);
+    assemble_table(t, 4, 3, counts, random_below(r, 2) << K, 4);
+    unsigned start = gadget_start(r, t);
+    unsigned i = assemble_node1(t, FLOW_VARIABLE, I);
+    unsigned condition = assemble_node2(t, FLOW_LESS, i, assemble_node1(t, FLOW_NUMBER, random_below(r, counts[0] + 1u)));
+    unsigned body = gadget_access(r, t);
+    if (random_percent(r, 60))
+        body = gadget_sequence(t, gadget_read(t, 0, I), body);
     if (random_percent(r, 50))
-        assemble_node3(t, FLOW_IF, condition, accesses, assemble_node0(t, FLOW_SKIP));
+        body = assemble_node3(t, FLOW_IF, condition, body, assemble_node0(t, FLOW_SKIP));
     else
-        assemble_node2(t, FLOW_WHILE, condition, accesses);
+        body = assemble_node2(t, FLOW_WHILE, condition, body);
+    gadget_sequence(t, start, body);
 }
 
 static void generate_program(struct random *r, struct buffer *table)
 {
-    if (random_percent(r, 20)) {
+    if (random_percent(r, 30)) {
         generate_gadget(r, table);
         return;
     }
