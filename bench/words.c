@@ -6,6 +6,8 @@
 #include "kinds.h"
 #include "little_endian.h"
 
+enum { MOST_PRINTED = 40 }; /* observations: a program may show thousands */
+
 const char *refusal_in_words(uint64_t refusal)
 {
     switch (refusal) {
@@ -214,9 +216,21 @@ void print_sheet(FILE *to, const char *indent, const uint8_t *sheet, size_t leng
     print_list(to, indent, sheet, length, print_sheet_record);
 }
 
+/* The bytes of the first records of a list, this many at most. */
+static size_t length_of_first(const uint8_t *list, size_t length, unsigned most)
+{
+    size_t at = 0;
+    for (unsigned record = 0; record < most && at < length; record++)
+        at += get16(list + at);
+    return at;
+}
+
 void print_observations(FILE *to, const char *indent, const uint8_t *observations, size_t length)
 {
+    size_t printed = length_of_first(observations, length, MOST_PRINTED);
     if (length == 0)
         fprintf(to, "%s(nothing)\n", indent);
-    print_list(to, indent, observations, length, print_observation);
+    print_list(to, indent, observations, printed, print_observation);
+    if (printed < length)
+        fprintf(to, "%s(and %zu bytes more)\n", indent, length - printed);
 }

@@ -15,7 +15,7 @@ void print_record(FILE *to, const uint8_t *table, size_t length, uint64_t place)
 /* A refusal: its number, what it means and, up to 7, the record at its place. */
 void print_refusal(FILE *to, const uint8_t *table, size_t length, uint64_t refusal, uint64_t place);
 
-/* Lists that an entry has written, a line for each record, each line after the indent. */
+/* Lists that an entry has written, a line for each record, each line after the indent.  Of observations, the first 40. */
 void print_sheet(FILE *to, const char *indent, const uint8_t *sheet, size_t length);
 void print_observations(FILE *to, const char *indent, const uint8_t *observations, size_t length);
 
