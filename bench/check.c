@@ -1,5 +1,6 @@
 /*
- * Compares libflow.a with the reference on generated calls of all entries (the result, every byte of every slice), and plays demand 3.
+ * Compares libflow.a with the reference on generated calls of all entries: the result, every byte of every slice.  Also plays
+ * demands 2 and 3.
  * Usage: check [seed [count [first]]].  Without a count it stops by itself after some 20 seconds.
  */
 #define _XOPEN_SOURCE 700
@@ -14,11 +15,11 @@
 
 #include "call.h"
 #include "cases.h"
+#include "demands.h"
 #include "flow.h"
 #include "generate.h"
 #include "little_endian.h"
 #include "reference.h"
-#include "two_states.h"
 
 enum { DEFAULT_SECONDS = 20, HANGING_SECONDS = 120, MOST_REFUSAL = 23, MOST_END = 5 };
 
@@ -152,6 +153,7 @@ static void print_tally(const struct tally *tally)
             print_counts("ends    ", tally->ends[entry], 1, MOST_END);
     }
     const struct plays *plays = &tally->plays;
+    printf("  demand 2: %" PRIu64 " runs of hardened programs without guessing, as the original's\n", plays->same_runs);
     printf("  demand 3: %" PRIu64 " pairs of states, %" PRIu64 " with related plain runs; %" PRIu64 " scripts played to these, "
            "with %" PRIu64 " forces and %" PRIu64 " loads and stores\n",
            plays->pairs, plays->related, plays->scripts, plays->forced, plays->redirected);
@@ -164,7 +166,7 @@ static bool check_number(uint64_t seed, uint64_t number, struct tally *tally)
     current_seed = seed;
     current_number = number;
     alarm(HANGING_SECONDS);
-    bool same = number % 8 == 7 ? play_two_states(&r, &tally->plays) : compare_generated(&r, tally);
+    bool same = number % 8 == 7 ? play_demands(&r, &tally->plays) : compare_generated(&r, tally);
     if (!same)
         printf("this was call %" PRIu64 ": check %" PRIu64 " 1 %" PRIu64 " has it again\n", number, seed, number);
     return same;

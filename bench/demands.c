@@ -1,12 +1,16 @@
-#include "two_states.h"
+#include "demands.h"
 
 #include <stdio.h>
 #include <string.h>
 
-#include "kinds.h"
+#include "flow.h"
 #include "little_endian.h"
 
-enum { MOST_STEPS = 600, SCRIPTS = 4 };
+enum {
+    MOST_STEPS = 600,
+    SLOWER = 6, /* a hardened program takes fewer than this many steps for one of the original's */
+    SCRIPTS = 4
+};
 
 /* A program, hardened, and two states of its variables and cells. */
 struct scene {
@@ -16,11 +20,19 @@ struct scene {
     struct slice state_variables[2], state_cells[2];
 };
 
-/* What a run shows, and which directives led it. */
+/* What a run shows and leaves, and which directives led it. */
 struct shown {
-    struct slice bytes;
+    struct slice bytes, variables, cells;
+    uint64_t end;
     unsigned forced, redirected;
 };
+
+static void free_shown(struct shown *shown)
+{
+    slice_free(&shown->bytes);
+    slice_free(&shown->variables);
+    slice_free(&shown->cells);
+}
 
 /* ---- The program -------------------------------------------------------------------------------------------------------- */
 
@@ -139,7 +151,7 @@ static struct call make_run(const struct scene *scene, const uint8_t *table, siz
         memcpy(call.slices[SLICE_VARIABLES].bytes, variables->bytes, variables->length);
     slice_from(&call.slices[SLICE_CELLS], cells->bytes, cells->length);
     slice_new(&call.slices[SLICE_PENDING], 4 * (size_t)get16(table + 8));
-    slice_new(&call.slices[SLICE_OBSERVATIONS], 10 * (size_t)MOST_STEPS);
+    slice_new(&call.slices[SLICE_OBSERVATIONS], 10 * (size_t)budget);
     slice_new(&call.slices[SLICE_ANSWER], FLOW_ANSWER_BYTES);
     return call;
 }
@@ -166,7 +178,11 @@ static struct shown show(const struct scene *scene, const uint8_t *table, size_t
         slice_from(&call.slices[SLICE_DIRECTIVES], list->bytes, list->length);
     }
     if (call_library(&call) == FLOW_ACCEPTED) {
+        const struct slice *variables = &call.slices[SLICE_VARIABLES], *cells = &call.slices[SLICE_CELLS];
+        shown.end = call_answer(&call, 1);
         slice_from(&shown.bytes, call.slices[SLICE_OBSERVATIONS].bytes, call_answer(&call, 4));
+        slice_from(&shown.variables, variables->bytes, variables->length);
+        slice_from(&shown.cells, cells->bytes, cells->length);
         count_directives(&call, &shown);
     }
     call_free(&call);
@@ -186,12 +202,58 @@ static bool plain_runs_related(const struct scene *scene)
     struct shown one = show(scene, scene->table.bytes, scene->table.length, 0, NULL, MOST_STEPS);
     struct shown other = show(scene, scene->table.bytes, scene->table.length, 1, NULL, MOST_STEPS);
     bool related = one_begins(&one.bytes, &other.bytes);
-    slice_free(&one.bytes);
-    slice_free(&other.bytes);
+    free_shown(&one);
+    free_shown(&other);
     return related;
 }
 
-/* ---- Scripts ------------------------------------------------------------------------------------------------------------ */
+/* ---- Demand 2 ----------------------------------------------------------------------------------------------------------- */
+
+static void print_named(const char *name, const uint8_t *bytes, size_t length)
+{
+    printf("  %-14s", name);
+    print_hex(stdout, bytes, length);
+    printf("\n");
+}
+
+/* The hardened program's variables are the original's and a flag that is 0. */
+static bool same_variables(const struct shown *original, const struct shown *hardened)
+{
+    size_t length = original->variables.length;
+    return hardened->variables.length == length + 4 && get32(hardened->variables.bytes + length) == 0 &&
+           (length == 0 || memcmp(original->variables.bytes, hardened->variables.bytes, length) == 0);
+}
+
+/* Finishes or sticks as the original does, having shown the same; a run of the original that was cut is at least begun. */
+static bool runs_as(const struct shown *original, const struct shown *hardened)
+{
+    if (original->end == FLOW_SPENT)
+        return original->bytes.length <= hardened->bytes.length && one_begins(&original->bytes, &hardened->bytes);
+    return original->end == hardened->end && slice_equal(&original->bytes, &hardened->bytes) &&
+           same_variables(original, hardened) && slice_equal(&original->cells, &hardened->cells);
+}
+
+static bool play_same_run(const struct scene *scene, unsigned state, struct plays *plays)
+{
+    struct shown original = show(scene, scene->table.bytes, scene->table.length, state, NULL, MOST_STEPS);
+    struct shown hardened = show(scene, scene->hardened.bytes, scene->hardened.length, state, NULL, SLOWER * MOST_STEPS);
+    bool same = runs_as(&original, &hardened);
+    plays->same_runs++;
+    if (!same) {
+        printf("the hardened program does not run as the original without guessing (demand 2)\n");
+        print_named("table", scene->table.bytes, scene->table.length);
+        print_named("hardened", scene->hardened.bytes, scene->hardened.length);
+        print_named("variables", scene->state_variables[state].bytes, scene->state_variables[state].length);
+        print_named("cells", scene->state_cells[state].bytes, scene->state_cells[state].length);
+        print_named("original shows", original.bytes.bytes, original.bytes.length);
+        print_named("hardened shows", hardened.bytes.bytes, hardened.bytes.length);
+    }
+    free_shown(&original);
+    free_shown(&hardened);
+    return same;
+}
+
+/* ---- Demand 3 ----------------------------------------------------------------------------------------------------------- */
 
 static void write_script(struct random *r, const struct scene *scene, const uint8_t *table, size_t length, struct buffer *list)
 {
@@ -203,13 +265,6 @@ static void write_script(struct random *r, const struct scene *scene, const uint
     }
     if (random_percent(r, 30))
         generate_directives(r, 10, list);
-}
-
-static void print_named(const char *name, const uint8_t *bytes, size_t length)
-{
-    printf("  %-14s", name);
-    print_hex(stdout, bytes, length);
-    printf("\n");
 }
 
 static void print_scene(const struct scene *scene, const struct buffer *list, const uint32_t *budgets, const struct shown *shown)
@@ -245,7 +300,7 @@ static bool play_script(struct random *r, const struct scene *scene, struct play
     if (!same)
         print_scene(scene, &list, budgets, shown);
     for (unsigned state = 0; state < 2; state++)
-        slice_free(&shown[state].bytes);
+        free_shown(&shown[state]);
     buffer_free(&list);
     return same;
 }
@@ -258,8 +313,8 @@ static bool leaks_before_hardening(struct random *r, const struct scene *scene)
     struct shown one = show(scene, scene->table.bytes, scene->table.length, 0, &list, MOST_STEPS);
     struct shown other = show(scene, scene->table.bytes, scene->table.length, 1, &list, MOST_STEPS);
     bool leaks = !one_begins(&one.bytes, &other.bytes);
-    slice_free(&one.bytes);
-    slice_free(&other.bytes);
+    free_shown(&one);
+    free_shown(&other);
     buffer_free(&list);
     return leaks;
 }
@@ -289,7 +344,18 @@ static void free_scene(struct scene *scene)
     }
 }
 
-bool play_two_states(struct random *r, struct plays *plays)
+static bool play_scripts(struct random *r, const struct scene *scene, struct plays *plays)
+{
+    bool same = true;
+    plays->related++;
+    for (unsigned script = 0; same && script < SCRIPTS; script++) {
+        same = play_script(r, scene, plays);
+        plays->leaks_before += leaks_before_hardening(r, scene);
+    }
+    return same;
+}
+
+bool play_demands(struct random *r, struct plays *plays)
 {
     struct scene scene = {0};
     bool same = true;
@@ -300,12 +366,10 @@ bool play_two_states(struct random *r, struct plays *plays)
         printf("a valid table does not harden\n");
         print_named("table", scene.table.bytes, scene.table.length);
         same = false;
-    } else if (plain_runs_related(&scene)) {
-        plays->related++;
-        for (unsigned script = 0; same && script < SCRIPTS; script++) {
-            same = play_script(r, &scene, plays);
-            plays->leaks_before += leaks_before_hardening(r, &scene);
-        }
+    } else {
+        same = play_same_run(&scene, 0, plays) && play_same_run(&scene, 1, plays);
+        if (same && plain_runs_related(&scene))
+            same = play_scripts(r, &scene, plays);
     }
     free_scene(&scene);
     return same;
