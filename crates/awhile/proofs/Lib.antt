@@ -9,6 +9,7 @@ pub mod Reading
 pub mod Children
 pub mod Trees
 pub mod PostOrder
+pub mod OwnFields
 pub mod Orders
 pub mod Writing
 pub mod Accepted
