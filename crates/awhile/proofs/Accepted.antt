@@ -145,7 +145,7 @@ module _ (s : List ℕ) where
         nodesFit = leb-true nodes maxNodes (and-second four (leb nodes maxNodes) test);
       })
 
-  header-fits : (h : Header) → readHeader s ≡ got h → HeaderFits h
+  pub header-fits : (h : Header) → readHeader s ≡ got h → HeaderFits h
   unfolding readHeader
   header-fits h e = header-test h (leAt 2 s 4) (leAt 1 s 6) (leAt 1 s 7) (leAt 2 s 8) (framed-rest s 0 (lengthOfKind 1 headerSize s 0) _ h e)
 
@@ -170,11 +170,11 @@ module _ (s : List ℕ) where
       })
 
   -- ---- the arrays
-  record CountFits (before n : ℕ) : Type 0 where
-    positive : 0 < n
-    total : before + n ≤ maxCells
+  pub record CountFits (before n : ℕ) : Type 0 where
+    pub positive : 0 < n
+    pub total : before + n ≤ maxCells
 
-  count-fits : (at before n : ℕ) → readCount s at before ≡ got n → CountFits before n
+  pub count-fits : (at before n : ℕ) → readCount s at before ≡ got n → CountFits before n
   unfolding readCount
   count-fits at before n e =
       let read : ℕ = leAt 2 s (at + 4) in

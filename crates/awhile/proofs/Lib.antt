@@ -17,3 +17,6 @@ pub mod Sums
 pub mod Size
 pub mod Ranges
 pub mod Index
+pub mod LongInput
+pub mod Passing
+pub mod Declaring

@@ -1,1 +1,31 @@
 // The hardened program: what needs masking is masked.
+pub mod records;
+pub mod sizes;
+
+// How much is written: so many nodes, in so many bytes.
+pub struct Size {
+    pub nodes: usize,
+    pub bytes: usize,
+}
+
+// A node's record: its kind and up to three 2-byte fields.
+pub enum Record {
+    Bare {
+        kind: usize,
+    },
+    One {
+        kind: usize,
+        first: usize,
+    },
+    Two {
+        kind: usize,
+        first: usize,
+        second: usize,
+    },
+    Three {
+        kind: usize,
+        first: usize,
+        second: usize,
+        third: usize,
+    },
+}
