@@ -11,3 +11,7 @@ pub mod Rules
 pub mod Notes
 pub mod Warm
 pub mod ExpressionLabels
+pub mod CommandNotes
+pub mod Settling
+pub mod CommandCases
+pub mod Standing

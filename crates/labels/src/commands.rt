@@ -114,3 +114,135 @@ fn after_write(
     let secret = write_label(table, index, array, cell, value, context, labels);
     label_array(labels, array, secret)
 }
+
+// Settles a loop: "passes repeat until one adds no secret, and that labelling is the answer". The passes start from the entering labelling
+// joined with what the loop last settled at, which is noted for its body: nested loops then settle in few passes.
+fn settle(
+    table: &[u8],
+    index: &[u16],
+    variables: &mut [u64],
+    arrays: &mut [u32],
+    condition: usize,
+    body: usize,
+    context: bool,
+    labels: Labelling,
+) -> Labelling
+    requires { ⌜ Settleable (now table) (now index) (now variables) (now arrays) condition body context labels ⌝ }
+    ensures { λ r. ⌜ SettledLoop (truthIn (now (table .entry)) condition) (commandIn (now (table .entry)) body) context labels
+        (now (variables .entry)) (now (arrays .entry)) (now (variables .exit)) (now (arrays .exit)) r ⌝ }
+{
+    let kept = noted_labelling(&*variables, &*arrays, body);
+    let mut masks = join(labels, kept);
+    let settled = loop {
+        let inner = guarded(table, index, condition, context, masks);
+        let after = analyse(
+            table,
+            index,
+            &mut *variables,
+            &mut *arrays,
+            body,
+            inner,
+            masks,
+        );
+        let next = join(masks, after);
+        if same(next, masks) {
+            break masks;
+        }
+        masks = next;
+    };
+    settled
+}
+
+// The labelling after the command of node n, from the context and the labelling that enter it.
+pub fn analyse(
+    table: &[u8],
+    index: &[u16],
+    variables: &mut [u64],
+    arrays: &mut [u32],
+    n: usize,
+    context: bool,
+    labels: Labelling,
+) -> Labelling
+    requires { ⌜ Analysable (now table) (now index) (now variables) (now arrays) n context labels ⌝ }
+    ensures { λ r. ⌜ Analysed (commandIn (now (table .entry)) n) context labels
+        (now (variables .entry)) (now (arrays .entry)) (now (variables .exit)) (now (arrays .exit)) r ⌝ }
+{
+    note(&mut *variables, &mut *arrays, n, context, labels);
+    let node = node_at(table, index, n);
+    match node {
+        Node::Assign { variable, value } => after_assign(
+            table,
+            index,
+            variable,
+            value,
+            context,
+            labels,
+        ),
+        Node::Sequence { first, second } => {
+            let between = analyse(
+                table,
+                index,
+                &mut *variables,
+                &mut *arrays,
+                first,
+                context,
+                labels,
+            );
+            analyse(
+                table,
+                index,
+                &mut *variables,
+                &mut *arrays,
+                second,
+                context,
+                between,
+            )
+        }
+        Node::If { condition, yes, no } => {
+            let inner = guarded(table, index, condition, context, labels);
+            let left = analyse(
+                table,
+                index,
+                &mut *variables,
+                &mut *arrays,
+                yes,
+                inner,
+                labels,
+            );
+            let right = analyse(
+                table,
+                index,
+                &mut *variables,
+                &mut *arrays,
+                no,
+                inner,
+                labels,
+            );
+            join(left, right)
+        }
+        Node::While { condition, body } => {
+            settle(
+                table,
+                index,
+                &mut *variables,
+                &mut *arrays,
+                condition,
+                body,
+                context,
+                labels,
+            )
+        }
+        Node::Read {
+            variable,
+            array,
+            index: cell,
+        } => { after_read(table, index, variable, array, cell, context, labels) }
+        Node::Write {
+            array,
+            index: cell,
+            value,
+        } => { after_write(table, index, array, cell, value, context, labels) }
+        // skip; nodes of other sorts never stand here
+        _ => labels,
+    }
+}
