@@ -11,5 +11,6 @@ pub mod DirectiveLists
 pub mod Room
 pub mod Numbering
 pub mod NodeKinds
+pub mod Counts
 pub mod Evaluation
 pub mod Actions
