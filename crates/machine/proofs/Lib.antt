@@ -12,5 +12,6 @@ pub mod Room
 pub mod Numbering
 pub mod NodeKinds
 pub mod Counts
+pub mod CellPlaces
 pub mod Evaluation
 pub mod Actions

@@ -9,3 +9,4 @@ pub mod Prefixes
 pub mod Listed
 pub mod Evaluation
 pub mod Actions
+pub mod Fitting

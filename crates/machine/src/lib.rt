@@ -3,6 +3,8 @@
 pub mod action;
 pub mod directives;
 pub mod evaluate;
+pub mod fit;
+pub mod places;
 
 // What the attacker picks for one shown step.
 pub enum Directive {
