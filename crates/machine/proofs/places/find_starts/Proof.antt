@@ -6,6 +6,7 @@ use mathlib.Core.List.{List}
 use mathlib.Core.Path.{_≡_, refl, sym}
 use lib.ListN.{getD, take}
 use Rattle.bytes_le.proofs.Numbers.{slice-bytes}
+use Rattle.awhile.specs.Lists.{sum as total}
 use Rattle.awhile.specs.Index.{tableOf}
 use Rattle.machine.proofs.Counts.{starts-next}
 use Rattle.machine.proofs.CellPlaces.{StartsTo, starts-none, starts-more, starts-all, starts-small, counts-few}
