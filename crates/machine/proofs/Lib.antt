@@ -13,5 +13,6 @@ pub mod Numbering
 pub mod NodeKinds
 pub mod Counts
 pub mod CellPlaces
+pub mod Guides
 pub mod Evaluation
 pub mod Actions

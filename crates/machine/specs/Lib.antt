@@ -10,3 +10,5 @@ pub mod Listed
 pub mod Evaluation
 pub mod Actions
 pub mod Fitting
+pub mod Guiding
+pub mod Stepping

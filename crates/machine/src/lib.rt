@@ -4,7 +4,9 @@ pub mod action;
 pub mod directives;
 pub mod evaluate;
 pub mod fit;
+pub mod guide;
 pub mod places;
+pub mod state;
 
 // What the attacker picks for one shown step.
 pub enum Directive {
