@@ -14,5 +14,7 @@ pub mod NodeKinds
 pub mod Counts
 pub mod CellPlaces
 pub mod Guides
+pub mod ShownSteps
+pub mod NextSteps
 pub mod Evaluation
 pub mod Actions

@@ -7,6 +7,7 @@ pub mod fit;
 pub mod guide;
 pub mod places;
 pub mod state;
+pub mod step;
 
 // What the attacker picks for one shown step.
 pub enum Directive {
