@@ -16,5 +16,6 @@ pub mod CellPlaces
 pub mod Guides
 pub mod ShownSteps
 pub mod NextSteps
+pub mod Effects
 pub mod Evaluation
 pub mod Actions

@@ -12,3 +12,4 @@ pub mod Actions
 pub mod Fitting
 pub mod Guiding
 pub mod Stepping
+pub mod Effects

@@ -5,6 +5,7 @@ pub mod directives;
 pub mod evaluate;
 pub mod fit;
 pub mod guide;
+pub mod memory;
 pub mod places;
 pub mod state;
 pub mod step;
