@@ -17,3 +17,5 @@ pub mod SizeSums
 pub mod Lengths
 pub mod Unnamed
 pub mod Descents
+pub mod Writers
+pub mod ExpressionWrites
