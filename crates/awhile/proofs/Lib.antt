@@ -9,6 +9,7 @@ pub mod Reading
 pub mod Children
 pub mod Trees
 pub mod PostOrder
+pub mod OwnFields
 pub mod Orders
 pub mod Writing
 pub mod Accepted
@@ -16,3 +17,6 @@ pub mod Sums
 pub mod Size
 pub mod Ranges
 pub mod Index
+pub mod LongInput
+pub mod Passing
+pub mod Declaring

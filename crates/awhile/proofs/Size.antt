@@ -9,6 +9,7 @@ use lib.ListN.{length, getD, take}
 use lib.Seq.{take-suc, take-length}
 use lib.Dec.{ltb}
 use borrow.Author.Tests.{lt-ltb, eqb-true}
+use Rattle.awhile.specs.Language.{noteOf}
 use Rattle.awhile.specs.Lists.{sum, all, occurrences}
 use Rattle.awhile.specs.Nodes.{Field, word, constant, variable, array, child, form, sortOf, fieldChildren, childrenOf}
 use Rattle.awhile.specs.Tables.{Table, usesOf}
@@ -18,7 +19,7 @@ use Rattle.awhile.specs.WellFormed.{WellFormed}
 use Rattle.awhile.proofs.Lists.{sum-append, flatMap-append, all-cons, all-append}
 use Rattle.awhile.proofs.Cases.{in-order-last, in-order-child, each-in-order}
 use Rattle.awhile.proofs.Children.{EachChild, sameSort-true}
-use Rattle.awhile.proofs.Trees.{treeSort, tree-sort, tree-of-node, tree-children}
+use Rattle.awhile.proofs.Trees.{treeSort, command-tree, tree-sort, tree-note, tree-of-node, tree-children}
 use Rattle.awhile.proofs.Sums.{sumBelow, sumBelow-same, sum-by-number}
 use Rattle.awhile.specs.declared.Sort.the-variants.{Numeric, Truth, Command}
 use Rattle.awhile.specs.declared.Node.{Node}
@@ -126,6 +127,21 @@ module _ (t : Table) (w : WellFormed t) where
       let some = w .hasNodes in
       sameSort-true (sortOf (getD (t .nodes) last Skip)) Command
       (sym (in-order-last (t .nodes) last (omega arith)) ∙ each-in-order (t .nodes) (length (t .nodes)) (w .oneTree) last (omega arith))
+
+  -- the last tree is the root
+  pub root-tree : treeAt (trees (t .nodes)) (length (t .nodes) - 1) ≡ command (rootOf t)
+  unfolding rootOf
+  root-tree =
+      let some = w .hasNodes in
+      let last : ℕ = length (t .nodes) - 1 in
+      command-tree (treeAt (trees (t .nodes)) last) (tree-sort (t .nodes) last (omega arith) ∙ last-command)
+
+  -- the root is noted with the last node's number
+  pub root-note : noteOf (rootOf t) ≡ length (t .nodes) - 1
+  unfolding rootOf
+  root-note =
+      let some = w .hasNodes in
+      tree-note (t .nodes) (length (t .nodes) - 1) (omega arith) last-command
 
   -- the root's tree has all the table's nodes
   pub root-size : nodesOf (rootOf t) ≡ length (t .nodes)

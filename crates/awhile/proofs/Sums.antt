@@ -15,16 +15,19 @@ unfoldable pub sumBelow : (bound : ℕ) → (ℕ → ℕ) → ℕ
 sumBelow zero f = 0
 sumBelow (suc n) f = sumBelow n f + f n
 
+-- the same values have the same sum
 pub sumBelow-same : (bound : ℕ) (f g : ℕ → ℕ) → ((n : ℕ) → n < bound → f n ≡ g n) → sumBelow bound f ≡ sumBelow bound g
 unfolding sumBelow
 sumBelow-same zero f g same = refl
 sumBelow-same (suc n) f g same = omega (arith, sumBelow-same n f g (λ m below. same m (omega arith)), same n (omega arith))
 
+-- zeros sum to zero
 pub sumBelow-zero : (bound : ℕ) → sumBelow bound (λ n. 0) ≡ 0
 unfolding sumBelow
 sumBelow-zero zero = refl
 sumBelow-zero (suc n) = omega (arith, sumBelow-zero n)
 
+-- a sum of two values is the sum of two sums
 pub sumBelow-add : (bound : ℕ) (f g : ℕ → ℕ) → sumBelow bound (λ n. f n + g n) ≡ sumBelow bound f + sumBelow bound g
 unfolding sumBelow
 sumBelow-add zero f g = refl

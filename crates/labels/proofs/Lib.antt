@@ -11,3 +11,6 @@ pub mod Rules
 pub mod Notes
 pub mod Warm
 pub mod ExpressionLabels
+pub mod CommandNotes
+pub mod Settling
+pub mod CommandCases

@@ -16,7 +16,7 @@ last : (a r : ℕ) → r < 2 → (a * 2 + r) % 2 ≡ r
 last a r h = omega arith
 
 -- a digit as a truth, and back
-digit-small : (b : Bool) → cond b 1 0 < 2
+pub digit-small : (b : Bool) → cond b 1 0 < 2
 digit-small true = omega arith
 digit-small false = omega arith
 

@@ -45,6 +45,13 @@ module _ {vs arrs ws brrs : List ℕ} where
   unfolding keptIn
   kept-same c s = ap (λ (e : Entry). e .labelling) (s .same (noteOf c) (stands c))
 
+  -- the same for a loop, from its body
+  pub in-order-loop : (n : ℕ) (b : BExp) (c : Com ℕ) (x : Bool) (l : Labelling) → SameOn c vs arrs ws brrs
+      → ((y : Bool) (m : Labelling) → InOrder vs arrs c y m → InOrder ws brrs c y m) → InOrder vs arrs (while n b c) x l → InOrder ws brrs (while n b c) x l
+  in-order-loop n b c x l s body h =
+      subst (λ (k : Labelling). (k ⊑ analyse (while n b c) x l) × InOrder ws brrs c (labelOfB (join l k) b || x) (join l k)) (sym (kept-same c s))
+      (h .0, body (labelOfB (join l (keptIn vs arrs c)) b || x) (join l (keptIn vs arrs c)) (h .1))
+
   -- masks that are in order stay so while the notes of the command stay
   pub in-order-same : (c : Com ℕ) (x : Bool) (l : Labelling) → SameOn c vs arrs ws brrs → InOrder vs arrs c x l → InOrder ws brrs c x l
   unfolding standing
@@ -60,8 +67,7 @@ module _ {vs arrs ws brrs : List ℕ} where
   )
   in-order-same (while n b c) x l s h =
       let t : SameOn c vs arrs ws brrs = same-part {c = while n b c} (λ p. omega arith) s in
-      subst (λ (k : Labelling). (k ⊑ analyse (while n b c) x l) × InOrder ws brrs c (labelOfB (join l k) b || x) (join l k)) (sym (kept-same c t))
-      (h .0, in-order-same c (labelOfB (join l (keptIn vs arrs c)) b || x) (join l (keptIn vs arrs c)) t (h .1))
+      in-order-loop n b c x l t (λ y m. in-order-same c y m t) h
   in-order-same (read n v a i) x l s h = tt
   in-order-same (write n a i e) x l s h = tt
 

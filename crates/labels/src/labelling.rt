@@ -1,9 +1,17 @@
 // Labellings in code: the label of a variable or an array, setting one, joins and comparison.
 use awhile::Labelling;
 ghost use Prim.Native.Nat.{_<_};
+ghost use mathlib.Core.Bool.{_||_};
 ghost use mathlib.Core.Path.{_≡_};
 ghost use Rattle.labels.specs.Masks.{bit, putBit};
 ghost use Rattle.labels.specs.Labellings.{variableMark, arrayMark, labelOf, setLabel, join as joined, same as isSame};
+
+// The join of two labels.
+pub fn either(a: bool, b: bool) -> bool
+    ensures { λ r. ⌜ r ≡ (a || b) ⌝ }
+{
+    if a { true } else { b }
+}
 
 // Whether digit n of a mask is set. No mask has a digit from 64 up.
 fn digit(mask: u64, n: usize) -> bool

@@ -6,3 +6,10 @@ pub mod Runs
 pub mod Notes
 pub mod Traces
 pub mod Cells
+pub mod Words
+pub mod DirectiveLists
+pub mod Room
+pub mod Numbering
+pub mod NodeKinds
+pub mod Evaluation
+pub mod Actions

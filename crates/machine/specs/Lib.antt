@@ -6,3 +6,6 @@ pub mod Steps
 pub mod Runs
 pub mod Memory
 pub mod Prefixes
+pub mod Listed
+pub mod Evaluation
+pub mod Actions

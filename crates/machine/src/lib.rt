@@ -1,5 +1,9 @@
 // The plain and the guessing machine.
 
+pub mod action;
+pub mod directives;
+pub mod evaluate;
+
 // What the attacker picks for one shown step.
 pub enum Directive {
     Step,

@@ -2,6 +2,9 @@
 pub mod Open
 pub mod Examples
 pub mod Decisions
+pub mod Growth
+pub mod Origins
+pub mod ReadBack
 pub mod SameRunSteps
 pub mod SameRunBudgets
 pub mod SameRun
@@ -11,6 +14,7 @@ pub mod PlainRuns
 pub mod OneStep
 pub mod LockedRuns
 pub mod Security
+pub mod Demands
 pub mod NodeRecords
 pub mod Parts
 pub mod SizeSums

@@ -1,8 +1,8 @@
 // The records of nodes, written into bytes.
-use awhile::Node;
-use bytes_le::put;
 use crate::Record;
 use crate::Size;
+use awhile::Node;
+use bytes_le::put;
 ghost use Prim.Native.Nat.{_+_, _≤_, _<_, _^_};
 ghost use mathlib.Core.List.{_++_};
 ghost use mathlib.Core.Path.{_≡_};
@@ -93,13 +93,21 @@ fn record_of(node: Node) -> Record
             first: condition,
             second: body,
         },
-        Node::Read { variable, array, index } => Record::Three {
+        Node::Read {
+            variable,
+            array,
+            index,
+        } => Record::Three {
             kind: 53,
             first: variable,
             second: array,
             third: index,
         },
-        Node::Write { array, index, value } => Record::Three {
+        Node::Write {
+            array,
+            index,
+            value,
+        } => Record::Three {
             kind: 54,
             first: array,
             second: index,

@@ -56,13 +56,13 @@ returns c =
     let room : at + length (nodeBytes node) ≤ length l = rw length-nodeBytes (start .pre .0) in
     record {
       stored =
-        ap (putMid at (length l - at) l)
-        (c .before .before .put-record .ensures .0
-        ∙ ap (sets (midOf at (length l - at) l) 0) (ap recordBytes made ∙ record-bytes node))
-        ∙ sets-rest l at (nodeBytes node) room;
+          ap (putMid at (length l - at) l)
+          (c .before .before .put-record .ensures .0
+          ∙ ap (sets (midOf at (length l - at) l) 0) (ap recordBytes made ∙ record-bytes node))
+          ∙ sets-rest l at (nodeBytes node) room;
       nodesCounted = refl;
       bytesCounted =
-        ap (λ k. at + k) (c .before .before .put-record .ensures .1 ∙ ap recordSize made ∙ record-size node);
+          ap (λ k. at + k) (c .before .before .put-record .ensures .1 ∙ ap recordSize made ∙ record-size node);
     }
 
 pub append-spec : {M : Type 1} → statement M

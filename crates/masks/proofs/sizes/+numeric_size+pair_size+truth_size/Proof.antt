@@ -334,7 +334,7 @@ truth-size-returns-6 t c =
 
 pub +numeric-size+pair-size+truth-size-spec : {M : Type 1} → statement M
 +numeric-size+pair-size+truth-size-spec =
-    close μ-numeric-size μ-pair-size μ-truth-size (λ t. numeric-size-lts.spec (numeric-size-calls t) 
+    close μ-numeric-size μ-pair-size μ-truth-size (λ t. numeric-size-lts.spec (numeric-size-calls t)
     (numeric-size-at t)
     numeric-size.Post
     (numeric-size-node-at-requires t)
@@ -358,14 +358,14 @@ pub +numeric-size+pair-size+truth-size-spec : {M : Type 1} → statement M
     (numeric-size-returns-5 t)
     (numeric-size-returns-6 t)
     (numeric-size-returns-7 t))
-    (λ t. pair-size-lts.spec (pair-size-calls t) 
+    (λ t. pair-size-lts.spec (pair-size-calls t)
     (pair-size-at t)
     pair-size.Post
     (pair-size-numeric-size-requires t)
     (pair-size-numeric-size-requires-2 t)
     (pair-size-over-two-requires t)
     (pair-size-returns t))
-    λ t. truth-size-lts.spec (truth-size-calls t) 
+    λ t. truth-size-lts.spec (truth-size-calls t)
     (truth-size-at t)
     truth-size.Post
     (truth-size-node-at-requires t)
