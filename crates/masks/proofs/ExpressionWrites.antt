@@ -1,22 +1,22 @@
 -- Expressions written from their parts, each part behind the last.
 use Prim.Native.Nat.{ℕ, zero, suc, _+_, _-_, _^_, _≤_, _<_}
-use native.Mathlib.Nat.{add-assoc}
 use native.Mathlib.Omega.{arith}
 use mathlib.Core.Bool.{cond}
 use lib.Dec.{eqb}
 use mathlib.Core.Path.{_≡_, refl, sym, ap, subst, _∙_}
 use mathlib.Core.List.{List, [], _∷_, _++_, append-assoc}
 use lib.ListN.{length}
-use Rattle.awhile.specs.Language.{AExp, choice, BExp, not, and}
+use Rattle.awhile.specs.Language.{AExp, choice, BExp}
 use Rattle.awhile.specs.Encoding.{nodesOfA, nodesOfB, binary, ternary, writeA, writeB}
 use Rattle.awhile.specs.declared.Node.{Node}
-use Rattle.awhile.specs.declared.Node.the-variants.{Choice, Not, And}
-use Rattle.masks.specs.Sizes.{bytesOfA, bytesOfB, Sized, Few}
+use Rattle.awhile.specs.declared.Node.the-variants.{Choice}
+use Rattle.masks.specs.Sizes.{bytesOfA, bytesOfB, Sized}
 use Rattle.masks.specs.Written.{Appended, Wrote, WrotePair, Both, Room}
 use Rattle.masks.specs.declared.Size.{Size}
 use Rattle.masks.specs.declared.Pair.{Pair}
-use Rattle.masks.proofs.Lengths.{Counted, counted-A, counted-B, counted-append, some-A, some-B, bytes-A, bytes-B}
-use Rattle.masks.proofs.Writers.{sizeIs, restOf, withRest, wrote-sized, wrote-as, wrote-answer, wrote-parent, wrote-rest, room-parent}
+use Rattle.masks.proofs.Lengths.{Counted, counted-A, counted-B, counted-append}
+use Rattle.masks.proofs.Joins.{two-wrote}
+use Rattle.masks.proofs.Writers.{sizeIs, restOf, withRest, wrote-sized, wrote-as, wrote-parent, wrote-rest, room-parent}
 
 -- the expression of a node is what its parts say
 pub wrote-A : (from : ℕ) {e f : AExp} {l m : List ℕ} {r : Size} → e ≡ f → Wrote (writeA from f) l m r → Wrote (writeA from e) l m r
@@ -35,34 +35,14 @@ room-B {from = from} {l} p w = subst (λ e. Room from (nodesOfB e) (bytesOfB e) 
 module _ (from : ℕ) (a b : AExp) {l m rest : List ℕ} {s u : Size} where
   pub wrote-pair : Wrote (writeA from a) l m s → Wrote (writeA (from + s .nodes) b) (restOf (s .bytes) m) rest u → {p : Pair} → Both from s u p
       → bytesOfA a + bytesOfA b ≤ length l → WrotePair from a b l (withRest (s .bytes) m rest) p
-  wrote-pair w v h room =
+  wrote-pair w v added room =
       let first = wrote-sized w (counted-A from a) in
       let second = wrote-sized v (counted-A (from + s .nodes) b) in
-      let fits : s .bytes + u .bytes ≤ length l = omega (arith, first .bytesCounted, second .bytesCounted) in
       record {
-        wrote =
-          wrote-answer
-          (wrote-as (wrote-rest w v fits) (ap (λ k. writeA from a ++ writeA (from + k) b) (first .nodesCounted)))
-          (h .nodesAdd)
-          (h .bytesAdd);
-        leftIs = h .leftLast ∙ ap (λ k. from + k - 1) (first .nodesCounted);
-        rightIs = omega (arith, h .rightLast, first .nodesCounted, second .nodesCounted);
+        wrote = two-wrote from (λ k. writeA k b) w (counted-A from a) v (λ k. counted-A k b) added room;
+        leftIs = omega (arith, added .leftLast, first .nodesCounted);
+        rightIs = omega (arith, added .rightLast, first .nodesCounted, second .nodesCounted);
       }
-
-  -- so much is written, so a parent fits
-  pub both-few : Wrote (writeA from a) l m s → Wrote (writeA (from + s .nodes) b) (restOf (s .bytes) m) rest u
-      → Room from (nodesOfA a + nodesOfA b) (bytesOfA a + bytesOfA b) l
-      → Few (from + s .nodes + u .nodes) (s .bytes + u .bytes) × (0 < s .nodes)
-  both-few w v r =
-      let first = wrote-sized w (counted-A from a) in
-      let second = wrote-sized v (counted-A (from + s .nodes) b) in
-      (
-        record {
-          fewNodes = omega (arith, r .numbers, first .nodesCounted, second .nodesCounted);
-          fewBytes = omega (arith, r .numbers, first .bytesCounted, second .bytesCounted, bytes-A a .short, bytes-A b .short);
-        },
-        omega (arith, first .nodesCounted, some-A a),
-      )
 
 module _ {from : ℕ} {a b : AExp} {l m : List ℕ} {p : Pair} where
   pub pair-parent : {k : List ℕ} {r : Size} (f : ℕ → ℕ → Node) → WrotePair from a b l m p → Appended (p .nodes) (p .bytes) (f (p .left) (p .right)) m k r
@@ -113,57 +93,8 @@ module _ (from : ℕ) (c : BExp) (a b : AExp) {l m k rest : List ℕ} {s r : Siz
         ∙ ap (Choice (from + s .nodes - 1) (from + s .nodes + nodesOfA a - 1)) (v .rightIs))
       ∙ ap whole (first .nodesCounted))
 
--- ---- truths
+-- ---- a constant
 -- a constant is 0 or 1, so it is written as it was
 pub constant-value : (v : ℕ) → v ≤ 1 → cond (eqb v 1) 1 0 ≡ v
 constant-value zero small = refl
 constant-value (suc n) small = let none : n ≡ 0 = omega arith in rw none
-
-module _ (from : ℕ) (b : BExp) {l m k : List ℕ} {s r : Size} where
-  pub wrote-not : Wrote (writeB from b) l m s → {i : ℕ} → i ≡ from + s .nodes - 1 → Appended (s .nodes) (s .bytes) (Not i) m k r → Wrote (writeB from (not b)) l k r
-  unfolding writeB
-  wrote-not w e h =
-      wrote-as (wrote-parent w h)
-      (ap (λ i. writeB from b ++ (Not i ∷ [])) (e ∙ ap (λ j. from + j - 1) (wrote-sized w (counted-B from b) .nodesCounted)))
-
-module _ (from : ℕ) (b c : BExp) {l m rest : List ℕ} {s u : Size} (w : Wrote (writeB from b) l m s) (v : Wrote (writeB (from + s .nodes) c) (restOf (s .bytes) m) rest u) where
-  pub truths-few : Room from (nodesOfB b + nodesOfB c + 1) (bytesOfB b + bytesOfB c + 8) l
-      → Few (from + s .nodes + u .nodes) (s .bytes + u .bytes) × (0 < s .nodes)
-  truths-few r =
-      let first = wrote-sized w (counted-B from b) in
-      let second = wrote-sized v (counted-B (from + s .nodes) c) in
-      (
-        record {
-          fewNodes = omega (arith, r .numbers, first .nodesCounted, second .nodesCounted);
-          fewBytes = omega (arith, r .numbers, first .bytesCounted, second .bytesCounted, bytes-B b .short, bytes-B c .short);
-        },
-        omega (arith, first .nodesCounted, some-B b),
-      )
-
-  pub wrote-both : {p : Pair} → Both from s u p → bytesOfB b + bytesOfB c ≤ length l
-      → Wrote (writeB from b ++ writeB (from + nodesOfB b) c) l (withRest (s .bytes) m rest) (sizeIs (p .nodes) (p .bytes))
-  wrote-both h room =
-      let first = wrote-sized w (counted-B from b) in
-      let second = wrote-sized v (counted-B (from + s .nodes) c) in
-      let fits : s .bytes + u .bytes ≤ length l = omega (arith, first .bytesCounted, second .bytesCounted) in
-      wrote-answer
-      (wrote-as (wrote-rest w v fits) (ap (λ k. writeB from b ++ writeB (from + k) c) (first .nodesCounted)))
-      (h .nodesAdd)
-      (h .bytesAdd)
-
-  pub and-room : {p : Pair} → Both from s u p → Room from (nodesOfB b + nodesOfB c + 1) (bytesOfB b + bytesOfB c + 8) l
-      → (p .bytes + 8 ≤ length (withRest (s .bytes) m rest)) × (p .nodes < 2 ^ 32)
-  and-room h r =
-      room-parent 8 (wrote-both h (omega (arith, r .fits))) (counted-append (counted-B from b) (counted-B (from + nodesOfB b) c)) r (omega arith) (omega arith)
-
-  pub wrote-and : {p : Pair} → Both from s u p → bytesOfB b + bytesOfB c ≤ length l → {k : List ℕ} {r : Size}
-      → Appended (p .nodes) (p .bytes) (And (p .left) (p .right)) (withRest (s .bytes) m rest) k r → Wrote (writeB from (and b c)) l k r
-  unfolding writeB binary
-  wrote-and {p} h room a =
-      let first = wrote-sized w (counted-B from b) in
-      let second = wrote-sized v (counted-B (from + s .nodes) c) in
-      let left : p .left ≡ from + nodesOfB b - 1 = omega (arith, h .leftLast, first .nodesCounted) in
-      let right : p .right ≡ from + nodesOfB b + nodesOfB c - 1 = omega (arith, h .rightLast, first .nodesCounted, second .nodesCounted) in
-      wrote-as (wrote-parent (wrote-both h room) a)
-      (append-assoc (writeB from b) (writeB (from + nodesOfB b) c) (And (p .left) (p .right) ∷ [])
-      ∙ ap (λ n. writeB from b ++ (writeB (from + nodesOfB b) c ++ (n ∷ []))) (ap (λ i. And i (p .right)) left ∙ ap (And (from + nodesOfB b - 1)) right))

@@ -22,4 +22,6 @@ pub mod Lengths
 pub mod Unnamed
 pub mod Descents
 pub mod Writers
+pub mod Joins
 pub mod ExpressionWrites
+pub mod Masking

@@ -23,7 +23,7 @@ pub fn last(from: usize, nodes: usize) -> usize
 }
 
 // Two copies, the second behind the first.
-fn both(from: usize, first: Size, second: Size) -> Pair
+pub fn both(from: usize, first: Size, second: Size) -> Pair
     requires { ⌜ Few (from + first .nodes + second .nodes) (first .bytes + second .bytes) × (0 < first .nodes) ⌝ }
     ensures { λ r. ⌜ Both from first second r ⌝ }
 {

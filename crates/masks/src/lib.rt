@@ -1,5 +1,7 @@
 // The hardened program: what needs masking is masked.
 pub mod copies;
+pub mod deciding;
+pub mod masked;
 pub mod records;
 pub mod sizes;
 

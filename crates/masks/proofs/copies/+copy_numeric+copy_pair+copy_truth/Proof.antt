@@ -9,15 +9,16 @@ use Rattle.awhile.specs.Nodes.{sortOf, sizeOf, form, fieldSize}
 use Rattle.awhile.specs.Encoding.{nodesOfA, nodesOfB, writeA, writeB}
 use Rattle.awhile.specs.Index.{numericIn, truthIn}
 use Rattle.awhile.specs.declared.Node.{Node}
-use Rattle.awhile.specs.declared.Node.the-variants.{Add, Subtract, Multiply, Constant, Equal, Less}
+use Rattle.awhile.specs.declared.Node.the-variants.{Add, Subtract, Multiply, Constant, Equal, Less, Not, And}
 use Rattle.awhile.proofs.Index.{Parts, indexed-parts}
 use Rattle.masks.specs.Sizes.{bytesOfA, bytesOfB}
-use Rattle.masks.proofs.Lengths.{counted-A, counted-B, some-A, some-B}
+use Rattle.masks.proofs.Lengths.{counted-A, counted-B, some-A, some-B, bytes-A, bytes-B}
 use Rattle.masks.proofs.Descents.{lower, lower-pair, first-of-pair, second-of-pair}
 use Rattle.masks.proofs.Unnamed.{never-numeric, never-truth}
 use Rattle.masks.proofs.Writers.{wrote-sized, wrote-as, wrote-node, room-first, room-rest, rest-inside, room-parent, room-leaf}
-use Rattle.masks.proofs.ExpressionWrites.{wrote-A, wrote-B, room-A, room-B, wrote-pair, both-few, pair-parent, pair-sized, pair-room}
-use Rattle.masks.proofs.ExpressionWrites.{choice-room, wrote-choice, constant-value, wrote-not, truths-few, and-room, wrote-and}
+use Rattle.masks.proofs.Joins.{two-few, two-room, two-parent, one-parent, one-last}
+use Rattle.masks.proofs.ExpressionWrites.{wrote-A, wrote-B, room-A, room-B, wrote-pair, pair-parent, pair-sized, pair-room}
+use Rattle.masks.proofs.ExpressionWrites.{choice-room, wrote-choice, constant-value}
 use borrow.Author.Needs.{needs}
 use Prim.Native.Nat.{ℕ, _+_, _-_, _*_, _<_, _≤_, max}
 use borrow.Fn.Kinds.{In}
@@ -257,8 +258,7 @@ copy-numeric-last-requires t c κs =
     let p = numeric-parts t (d .before .before .before .before .before) _ (d .before .before .before .node4 .given .1) in
     let condition = truthIn (now (start .args .table)) (d .before .before .before .node4 .given .0 .0) in
     let room = room-A (p .3) (start .pre .1 .1) in
-    let first = wrote-sized (d .copy-truth .ensures) (counted-B (start .args .from) condition) in
-    (omega (arith, first .nodesCounted, some-B condition), omega (arith, room .numbers, first .nodesCounted))
+    one-last (start .args .from) (d .copy-truth .ensures) (counted-B (start .args .from) condition) room (omega arith) (some-B condition)
 
 copy-numeric-append-requires-6 : (t : ℕ) → copy-numeric-lts.Need-append-requires-6 (copy-numeric-calls t) (copy-numeric-at t) copy-numeric.Post
 unfolding nodesOfA bytesOfA sizeOf form fieldSize sum
@@ -388,7 +388,8 @@ copy-pair-both-requires t c κs =
     let left = numericIn (now (start .args .table)) (start .args .left) in
     let right = numericIn (now (start .args .table)) (start .args .right) in
     let room = start .pre .1 .1 in
-    both-few (start .args .from) left right (d .copy-numeric .ensures) (c .before .before .copy-numeric2 .ensures) room
+    two-few (start .args .from) (λ k. writeA k right) (d .copy-numeric .ensures) (counted-A (start .args .from) left) (c .before .before .copy-numeric2 .ensures)
+    (λ k. counted-A k right) room (omega arith) (some-A left) (bytes-A left) (bytes-A right)
 
 copy-pair-same-length : (t : ℕ) → copy-pair-lts.Need-same-length (copy-pair-calls t) (copy-pair-at t) copy-pair.Post
 copy-pair-same-length t c = search needs
@@ -468,8 +469,7 @@ copy-truth-last-requires t c κs =
     let p = truth-parts t (d .before .before .before .before .before) _ (d .before .before .before .node3 .given .1) in
     let first = truthIn (now (start .args .table)) (d .before .before .before .node3 .given .0 .0) in
     let room = room-B (p .1) (start .pre .1 .1) in
-    let size = wrote-sized (d .copy-truth .ensures) (counted-B (start .args .from) first) in
-    (omega (arith, size .nodesCounted, some-B first), omega (arith, room .numbers, size .nodesCounted))
+    one-last (start .args .from) (d .copy-truth .ensures) (counted-B (start .args .from) first) room (omega arith) (some-B first)
 
 copy-truth-append-requires-4 : (t : ℕ) → copy-truth-lts.Need-append-requires-4 (copy-truth-calls t) (copy-truth-at t) copy-truth.Post
 unfolding nodesOfB bytesOfB sizeOf form fieldSize sum
@@ -547,7 +547,8 @@ copy-truth-both-requires t c κs =
     let first = truthIn (now (start .args .table)) (d .before .before .before .node4 .given .0 .0) in
     let room = room-B (p .2) (start .pre .1 .1) in
     let second = truthIn (now (start .args .table)) (d .before .before .before .node4 .given .0 .1 .0) in
-    truths-few (start .args .from) first second (d .copy-truth2 .ensures) (c .before .before .copy-truth3 .ensures) room
+    two-few (start .args .from) (λ k. writeB k second) (d .copy-truth2 .ensures) (counted-B (start .args .from) first) (c .before .before .copy-truth3 .ensures)
+    (λ k. counted-B k second) room (omega arith) (some-B first) (bytes-B first) (bytes-B second)
 
 copy-truth-append-requires-5 : (t : ℕ) → copy-truth-lts.Need-append-requires-5 (copy-truth-calls t) (copy-truth-at t) copy-truth.Post
 unfolding nodesOfB bytesOfB sizeOf form fieldSize sum
@@ -558,7 +559,8 @@ copy-truth-append-requires-5 t c κs =
     let first = truthIn (now (start .args .table)) (d .before .before .before .node4 .given .0 .0) in
     let room = room-B (p .2) (start .pre .1 .1) in
     let second = truthIn (now (start .args .table)) (d .before .before .before .node4 .given .0 .1 .0) in
-    and-room (start .args .from) first second (d .copy-truth2 .ensures) (c .before .before .before .before .copy-truth3 .ensures) (c .before .both .ensures) room
+    two-room (start .args .from) (λ k. writeB k second) (d .copy-truth2 .ensures) (counted-B (start .args .from) first) (c .before .before .before .before .copy-truth3 .ensures)
+    (λ k. counted-B k second) (c .before .both .ensures) 8 room (omega arith) (omega arith)
 
 copy-truth-same-length : (t : ℕ) → copy-truth-lts.Need-same-length (copy-truth-calls t) (copy-truth-at t) copy-truth.Post
 copy-truth-same-length t c = search needs
@@ -593,20 +595,20 @@ copy-truth-same-length-4 : (t : ℕ) → copy-truth-lts.Need-same-length-4 (copy
 copy-truth-same-length-4 t c = search needs
 
 copy-truth-returns-4 : (t : ℕ) → copy-truth-lts.Need-returns-4 (copy-truth-calls t) (copy-truth-at t) copy-truth.Post
-unfolding nodesOfB bytesOfB
+unfolding nodesOfB bytesOfB writeB
 copy-truth-returns-4 t c =
     let d = c .before .before .before .before .before .before .before in
     let start = d .before .before .before .before .before .before .before .before .before in
     let p = truth-parts t (d .before .before .before .before .before) _ (d .before .before .before .node3 .given .1) in
     let first = truthIn (now (start .args .table)) (d .before .before .before .node3 .given .0 .0) in
     let room = room-B (p .1) (start .pre .1 .1) in
-    wrote-B (start .args .from) (p .1) (wrote-not (start .args .from) first (d .copy-truth .ensures) (c .before .before .before .last .ensures) (c .before .before .append4 .ensures))
+    wrote-B (start .args .from) (p .1) (one-parent (start .args .from) Not (d .copy-truth .ensures) (counted-B (start .args .from) first) (c .before .before .before .last .ensures) (c .before .before .append4 .ensures))
 
 copy-truth-same-length-5 : (t : ℕ) → copy-truth-lts.Need-same-length-5 (copy-truth-calls t) (copy-truth-at t) copy-truth.Post
 copy-truth-same-length-5 t c = search needs
 
 copy-truth-returns-5 : (t : ℕ) → copy-truth-lts.Need-returns-5 (copy-truth-calls t) (copy-truth-at t) copy-truth.Post
-unfolding nodesOfB bytesOfB
+unfolding nodesOfB bytesOfB writeB
 copy-truth-returns-5 t c =
     let d = c .before .before .before .before .before .before .before .before .before .before .before .before in
     let start = d .before .before .before .before .before .before .before .before .before in
@@ -615,8 +617,8 @@ copy-truth-returns-5 t c =
     let room = room-B (p .2) (start .pre .1 .1) in
     let second = truthIn (now (start .args .table)) (d .before .before .before .node4 .given .0 .1 .0) in
     wrote-B (start .args .from) (p .2)
-    (wrote-and (start .args .from) first second (d .copy-truth2 .ensures) (c .before .before .before .before .before .before .before .copy-truth3 .ensures) (c .before .before .before .before .both .ensures) (omega (arith, room .fits))
-    (c .before .before .append5 .ensures))
+    (two-parent (start .args .from) (λ k. writeB k second) (d .copy-truth2 .ensures) (counted-B (start .args .from) first) (c .before .before .before .before .before .before .before .copy-truth3 .ensures)
+    (λ k. counted-B k second) (c .before .before .before .before .both .ensures) And (omega (arith, room .fits)) (c .before .before .append5 .ensures))
 
 copy-truth-returns-6 : (t : ℕ) → copy-truth-lts.Need-returns-6 (copy-truth-calls t) (copy-truth-at t) copy-truth.Post
 copy-truth-returns-6 t c =
