@@ -3,13 +3,19 @@ use Prim.Native.Nat.{ℕ, _+_, _-_}
 use native.Mathlib.Omega.{arith}
 use mathlib.Core.Bool.{Bool, true, false, cond, _||_}
 use mathlib.Core.Bool.{not as negated}
-use mathlib.Core.List.{List, [], _∷_, _++_}
+use mathlib.Core.List.{List, [], _∷_, _++_, append-assoc}
 use mathlib.Core.Path.{_≡_, refl, ap, _∙_}
 use Rattle.awhile.specs.Language.{AExp, number, variable, choice, BExp, equal, and}
-use Rattle.awhile.specs.Encoding.{nodesOfA, nodesOfB, binary, ternary, writeA, writeB}
+use Rattle.awhile.specs.Encoding.{nodesOfA, nodesOfB, nodesOf, binary, ternary, writeA, writeB, writeC}
+use Rattle.awhile.specs.Lists.{sum}
+use Rattle.awhile.specs.Nodes.{form, fieldSize, sizeOf}
 use Rattle.awhile.specs.declared.Node.{Node}
-use Rattle.awhile.specs.declared.Node.the-variants.{Number, Variable, Choice, Equal}
-use Rattle.masks.specs.Hardening.{maskedCondition, zeroIfGuessing, maskedIndex}
+use Rattle.awhile.specs.declared.Node.the-variants.{Number, Variable, Choice, Equal, Assign}
+use Rattle.masks.specs.Hardening.{maskedCondition, zeroIfGuessing, maskedIndex, flagIfTrue, flagIfFalse, maskValueOf}
+use Rattle.masks.specs.InMemory.{flagUpdate, guardNodes}
+use Rattle.masks.specs.Sizes.{bytesOfA, bytesOfB, bytesOf}
+use Rattle.masks.specs.Written.{Room}
+use Rattle.masks.proofs.Lengths.{Counted, counted-node, counted-append, counted-B}
 
 -- ---- a value is masked where index, array and context are public
 module _ (index array context : Bool) where
@@ -51,3 +57,54 @@ test-nodes from f v =
     let left : from + 1 - 1 ≡ from = omega arith in
     let right : from + 1 + 1 - 1 ≡ from + 1 = omega arith in
     rw (left, right)
+
+-- ---- the nodes of (f = 1) ? 0 : e
+pub counted-guard : (from f : ℕ) → Counted (guardNodes from f) 4 30
+unfolding guardNodes nodesOfB bytesOfB nodesOfA bytesOfA sizeOf form fieldSize sum
+counted-guard from f = counted-append (counted-B from (equal (variable f) (number 1))) (counted-node (Number 0))
+
+pub index-nodes : (from f : ℕ) (i : AExp)
+    → guardNodes from f ++ (writeA (from + 4) i ++ (binary (λ l r. Choice (from + 2) (from + 3) r) from 4 (nodesOfA i) ∷ []))
+    ≡ writeA from (choice (equal (variable f) (number 1)) (number 0) i)
+unfolding guardNodes writeA writeB binary ternary nodesOfA nodesOfB
+index-nodes from f i =
+    let a : from + 3 + 1 ≡ from + 4 = omega arith in
+    let b : from + 3 - 1 ≡ from + 2 = omega arith in
+    let c : from + 3 + 1 - 1 ≡ from + 3 = omega arith in
+    rw (b, c, a)
+
+pub value-nodes : (from f x : ℕ)
+    → ((guardNodes from f ++ (Variable x ∷ [])) ++ (Choice (from + 2) (from + 3) (from + 4) ∷ [])) ++ (Assign x (from + 5) ∷ [])
+    ≡ writeC from (maskValueOf f x)
+unfolding guardNodes maskValueOf zeroIfGuessing writeA writeB writeC binary ternary nodesOfA nodesOfB
+value-nodes from f x =
+    let b : from + 3 - 1 ≡ from + 2 = omega arith in
+    let c : from + 3 + 1 - 1 ≡ from + 3 = omega arith in
+    let d : from + 3 + 1 + 1 - 1 ≡ from + 4 = omega arith in
+    let e : from + 6 - 1 ≡ from + 5 = omega arith in
+    rw (b, c, d, e)
+
+-- ---- the flag's update
+-- the flag where it is kept, and 1 where it is not
+abbrev pub keptNode : Bool → (f : ℕ) → Node
+keptNode kept f = cond kept (Variable f) (Number 1)
+
+pub flag-room : (taken : Bool) (f from : ℕ) (b : BExp) {l : List ℕ} → Room from (nodesOf (flagUpdate f taken b)) (bytesOf (flagUpdate f taken b)) l
+    → Room from (nodesOfB b + 4) (bytesOfB b + sizeOf (keptNode taken f) + sizeOf (keptNode (negated taken) f) + 18) l
+unfolding flagUpdate flagIfTrue flagIfFalse nodesOf bytesOf nodesOfA bytesOfA sizeOf form fieldSize sum
+flag-room true f from b r = record { numbers = omega (arith, r .numbers); fits = omega (arith, r .fits) }
+flag-room false f from b r = record { numbers = omega (arith, r .numbers); fits = omega (arith, r .fits) }
+
+pub flag-nodes : (taken : Bool) (from f : ℕ) (b : BExp) {i j k v : ℕ} → i ≡ from + nodesOfB b - 1 → j ≡ from + (nodesOfB b + 1) - 1
+    → k ≡ from + (nodesOfB b + 1 + 1) - 1 → v ≡ from + (nodesOfB b + 1 + 1 + 1) - 1
+    → (((writeB from b ++ (keptNode taken f ∷ [])) ++ (keptNode (negated taken) f ∷ [])) ++ (Choice i j k ∷ [])) ++ (Assign f v ∷ [])
+    ≡ writeC from (flagUpdate f taken b)
+unfolding flagUpdate flagIfTrue flagIfFalse writeA writeC ternary nodesOfA
+flag-nodes true from f b p q r s =
+    let q′ : from + (nodesOfB b + 1) - 1 ≡ from + nodesOfB b + 1 - 1 = omega arith in
+    let r′ : from + (nodesOfB b + 1 + 1) - 1 ≡ from + nodesOfB b + 1 + 1 - 1 = omega arith in
+    rw (p, q, r, s, q′, r′) (simp append-assoc)
+flag-nodes false from f b p q r s =
+    let q′ : from + (nodesOfB b + 1) - 1 ≡ from + nodesOfB b + 1 - 1 = omega arith in
+    let r′ : from + (nodesOfB b + 1 + 1) - 1 ≡ from + nodesOfB b + 1 + 1 - 1 = omega arith in
+    rw (p, q, r, s, q′, r′) (simp append-assoc)

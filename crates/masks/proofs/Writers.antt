@@ -83,6 +83,10 @@ module _ {ns : List Node} {l m : List ℕ} {s : Size} (w : Wrote ns l m s) where
         bytesCounted = rw (flatMap-append nodeBytes ns ms, length-append) (omega (arith, w .bytesCounted, v .bytesCounted));
       }
 
+-- the same node by another name
+pub appended-as : {i j : ℕ} {n m : Node} {l k : List ℕ} {r : Size} → n ≡ m → Appended i j n l k r → Appended i j m l k r
+appended-as {i} {j} {l = l} {k} {r} e a = subst (λ m. Appended i j m l k r) e a
+
 -- one node alone
 pub wrote-node : {n : Node} {l m : List ℕ} {r : Size} → Appended 0 0 n l m r → Wrote (n ∷ []) l m r
 unfolding flatMap
