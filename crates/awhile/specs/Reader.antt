@@ -1,11 +1,12 @@
 -- What the parts of the reader answer, given what the definitions of reading do.
-use Prim.Native.Nat.{ℕ}
-use mathlib.Core.List.{List}
+use Prim.Native.Nat.{ℕ, zero, suc}
+use mathlib.Core.List.{List, [], _∷_}
 use Rattle.awhile.specs.Lists.{sum}
 use Rattle.awhile.specs.Refusals.{Answer, refused, got}
+use Rattle.awhile.specs.Nodes.{Field, word, constant, variable, array, child}
 use Rattle.awhile.specs.Tables.{Header}
-use Rattle.awhile.specs.declared.frames.Framed.{Framed}
-use Rattle.awhile.specs.declared.frames.Framed.the-variants.{Refused as FrameRefused, Whole}
+use Rattle.awhile.specs.declared.checks.Checked.{Checked}
+use Rattle.awhile.specs.declared.checks.Checked.the-variants.{Refused as CheckRefused, Passed}
 use Rattle.awhile.specs.declared.declarations.HeaderRead.{HeaderRead}
 use Rattle.awhile.specs.declared.declarations.HeaderRead.the-variants.{Refused as HeaderRefused, Header as HeaderGot}
 use Rattle.awhile.specs.declared.declarations.LabelsRead.{LabelsRead}
@@ -15,10 +16,13 @@ use Rattle.awhile.specs.declared.declarations.CountRead.the-variants.{Re
 use Rattle.awhile.specs.declared.declarations.CellsRead.{CellsRead}
 use Rattle.awhile.specs.declared.declarations.CellsRead.the-variants.{Refused as CellsRefused, Cells as CellsGot}
 use Rattle.awhile.specs.declared.Labelling.{Labelling}
+use Rattle.awhile.specs.declared.fields.Field.{Field as FieldRead}
+use Rattle.awhile.specs.declared.fields.Field.the-variants.{Word, Constant, Variable, Array, Child}
+use Rattle.awhile.specs.declared.fields.Fields.{Fields}
 
-unfoldable pub framedAs : Answer (Unit {0}) → Framed
-framedAs (refused r) = FrameRefused r
-framedAs (got w) = Whole
+unfoldable pub checkedAs : Answer (Unit {0}) → Checked
+checkedAs (refused r) = CheckRefused r
+checkedAs (got w) = Passed
 
 unfoldable pub headerAs : Answer Header → HeaderRead
 headerAs (refused r) = HeaderRefused r
@@ -36,3 +40,21 @@ countAs (got n) = CountGot n
 unfoldable pub cellsAs : Answer (List ℕ) → CellsRead
 cellsAs (refused r) = CellsRefused r
 cellsAs (got ns) = CellsGot (sum ns)
+
+-- ---- the fields of a record
+-- the field that the code's field is
+abbrev pub fieldOf : FieldRead → Field
+fieldOf (Word n) = word n
+fieldOf (Constant n) = constant n
+fieldOf (Variable x) = variable x
+fieldOf (Array a) = array a
+fieldOf (Child s n) = child s n
+
+abbrev pub fieldsOf : Fields → List Field
+fieldsOf fs = fieldOf (fs .first) ∷ fieldOf (fs .second) ∷ fieldOf (fs .third) ∷ []
+
+-- fields with words 0 after them, up to a number: of a word nothing is asked
+abbrev pub padded : (count : ℕ) → List Field → List Field
+padded zero fs = fs
+padded (suc count) [] = word 0 ∷ padded count []
+padded (suc count) (f ∷ fs) = f ∷ padded count fs

@@ -1,7 +1,8 @@
 // The language AWHILE as a table of records: what a record can be, and why a table is refused.
+pub mod checks;
 pub mod declarations;
 pub mod decode;
-pub mod frames;
+pub mod fields;
 pub mod lookup;
 
 // The limits of document 01.
