@@ -128,17 +128,21 @@ module _ (s : List ℕ) where
       ≡ got h → HeaderFits h
   header-test h version variables arrays nodes e =
       let read : Header = record { variables = variables; arrays = arrays; nodes = nodes } in
-      let test = check-test (BeyondLimit 0) (eqb version 1 && leb variables maxVariables && leb arrays maxArrays && ltb 0 nodes && leb nodes maxNodes) (got read) h e in
-      let same : read ≡ h = got-same read h (check-rest (BeyondLimit 0) (eqb version 1 && leb variables maxVariables && leb arrays maxArrays && ltb 0 nodes && leb nodes maxNodes) (got read) h e) in
-      let four = and-first (eqb version 1 && leb variables maxVariables && leb arrays maxArrays && ltb 0 nodes) (leb nodes maxNodes) test in
-      let three = and-first (eqb version 1 && leb variables maxVariables && leb arrays maxArrays) (ltb 0 nodes) four in
-      let two = and-first (eqb version 1 && leb variables maxVariables) (leb arrays maxArrays) three in
+      let two : Bool = eqb version 1 && leb variables maxVariables in
+      let three : Bool = two && leb arrays maxArrays in
+      let four : Bool = three && ltb 0 nodes in
+      let all : Bool = four && leb nodes maxNodes in
+      let test : all ≡ true = check-test (BeyondLimit 0) all (got read) h e in
+      let same : read ≡ h = got-same read h (check-rest (BeyondLimit 0) all (got read) h e) in
+      let toFour : four ≡ true = and-first four (leb nodes maxNodes) test in
+      let toThree : three ≡ true = and-first three (ltb 0 nodes) toFour in
+      let toTwo : two ≡ true = and-first two (leb arrays maxArrays) toThree in
       rw (← same)
       (record {
-        variablesFit = leb-true variables maxVariables (and-second (eqb version 1) (leb variables maxVariables) two);
-        arraysFit = leb-true arrays maxArrays (and-second (eqb version 1 && leb variables maxVariables) (leb arrays maxArrays) three);
-        hasNodes = ltb-true 0 nodes (and-second (eqb version 1 && leb variables maxVariables && leb arrays maxArrays) (ltb 0 nodes) four);
-        nodesFit = leb-true nodes maxNodes (and-second (eqb version 1 && leb variables maxVariables && leb arrays maxArrays && ltb 0 nodes) (leb nodes maxNodes) test);
+        variablesFit = leb-true variables maxVariables (and-second (eqb version 1) (leb variables maxVariables) toTwo);
+        arraysFit = leb-true arrays maxArrays (and-second two (leb arrays maxArrays) toThree);
+        hasNodes = ltb-true 0 nodes (and-second three (ltb 0 nodes) toFour);
+        nodesFit = leb-true nodes maxNodes (and-second four (leb nodes maxNodes) test);
       })
 
   header-fits : (h : Header) → readHeader s ≡ got h → HeaderFits h
@@ -283,7 +287,8 @@ module _ (s : List ℕ) where
         go (refused r) f = absurd (refused-got r nodes (sym (nodes-refused s at h before left r f) ∙ e))
         go (got n) f = next n f (sym (nodes-next s at h before left n f) ∙ e)
 
-    nodes-add : (left at : ℕ) (n : Node) (before nodes : List Node) → NodeRead at before n → NodesRead left (at + sizeOf n) (before ++ (n ∷ [])) nodes → NodesRead (suc left) at before nodes
+    nodes-add : (left at : ℕ) (n : Node) (before nodes : List Node) → NodeRead at before n
+        → NodesRead left (at + sizeOf n) (before ++ (n ∷ [])) nodes → NodesRead (suc left) at before nodes
     nodes-add left at n before nodes first rest =
         record {
           more = n ∷ rest .more;
@@ -334,9 +339,10 @@ module _ (s : List ℕ) (bytes : Below 256 s) where
         there = rw (← arrays, nodes .whole) (nodes .there);
       }
 
-  pub records-read : (t : Table) → readRecords s ≡ got t → RecordsRead s t
+  -- what is known as soon as the records were read
+  pub records-known : (t : Table) → readRecords s ≡ got t → RecordsRead s t
   unfolding readRecords sum
-  records-read t e =
+  records-known t e =
       let Q : Type 0 = RecordsRead s t in
       then-got Q (readHeader s) _ t e
       (λ h eh e₁.
@@ -347,7 +353,9 @@ module _ (s : List ℕ) (bytes : Below 256 s) where
       then-got Q (readNodes (h .nodes) h s (nodesStart (h .arrays)) []) _ t e₃
       (λ ns en e₄.
       rw (← got-same _ t e₄)
-      (records-put h l cs ns (header-fits s h eh) (labels-fit s h l el) (counts-fit s (h .arrays) 20 [] cs (omega arith) ec) (nodes-fit s bytes h (h .nodes) (nodesStart (h .arrays)) [] ns en))))))
+      (records-put h l cs ns (header-fits s h eh) (labels-fit s h l el)
+      (counts-fit s (h .arrays) 20 [] cs (omega arith) ec)
+      (nodes-fit s bytes h (h .nodes) (nodesStart (h .arrays)) [] ns en))))))
 
   -- what reads as a table was read, is one tree and has no bytes after it
   record Accepted (t : Table) : Type 0 where
@@ -378,7 +386,7 @@ module _ (s : List ℕ) (bytes : Below 256 s) where
   pub accepted-well-formed : (t : Table) → readTable s ≡ accepted t → WellFormed t
   accepted-well-formed t e =
       let a = table-accepted t e in
-      let r = records-read t (a .read) in
+      let r = records-known t (a .read) in
       record {
         declared = r .declared;
         hasNodes = r .hasNodes;
@@ -390,7 +398,7 @@ module _ (s : List ℕ) (bytes : Below 256 s) where
   -- each node's record stands at its offset and decodes to it, as soon as the records were read
   pub node-there : (t : Table) → readRecords s ≡ got t → (i : ℕ) → i < length (t .nodes) → NodeAt s (offsetOf t i) (getD (t .nodes) i Skip)
   unfolding offsetOf
-  node-there t e i inside = nodes-at s (nodesStart (length (t .counts))) (t .nodes) (records-read t e .there) i inside
+  node-there t e i inside = nodes-at s (nodesStart (length (t .counts))) (t .nodes) (records-known t e .there) i inside
 
   -- an accepted table's records were read
   pub accepted-read : (t : Table) → readTable s ≡ accepted t → readRecords s ≡ got t
@@ -400,7 +408,7 @@ module _ (s : List ℕ) (bytes : Below 256 s) where
   pub accepted-ends : (t : Table) → readTable s ≡ accepted t → length s ≡ offsetOf t (length (t .nodes))
   accepted-ends t e =
       let a = table-accepted t e in
-      let some = records-read t (a .read) .hasNodes in
+      let some = records-known t (a .read) .hasNodes in
       let last : ℕ = length (t .nodes) - 1 in
       let end : offsetOf t (length (t .nodes)) ≡ offsetOf t last + sizeOf (getD (t .nodes) last Skip) =
       ap (offsetOf t) (omega arith) ∙ offset-next t last (omega arith) in

@@ -9,9 +9,13 @@ pub mod Reading
 pub mod Children
 pub mod Trees
 pub mod PostOrder
+pub mod OwnFields
 pub mod Orders
 pub mod Writing
 pub mod Accepted
 pub mod Index
 pub mod Passing
 pub mod Declaring
+pub mod Sums
+pub mod Size
+pub mod Ranges

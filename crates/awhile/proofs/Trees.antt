@@ -4,7 +4,7 @@ use native.Mathlib.Omega.{arith}
 use mathlib.Core.Path.{_≡_, refl, sym, ap, _∙_}
 use mathlib.Core.List.{List, [], _∷_, _++_}
 use lib.ListN.{length, getD, take, drop, length-append, take-append-drop, List·getD-append}
-use lib.Seq.{getD-at, length-take-le, split-at}
+use lib.Seq.{getD-at, length-take-le, split-at, getD-take}
 use Rattle.awhile.specs.Language.{Com, noteOf}
 use Rattle.awhile.specs.Nodes.{form, sortOf}
 use Rattle.awhile.specs.Trees.{Tree, numeric, truth, command, asNumeric, asTruth, asCommand, treeOf, treeAt, growTrees, trees}
@@ -55,6 +55,7 @@ treeSort (numeric a) = Numeric
 treeSort (truth b) = Truth
 treeSort (command c) = Command
 
+-- the tree of a node is of its sort
 pub treeSort-treeOf : (t : ℕ → Tree) (i : ℕ) (n : Node) → treeSort (treeOf t i n) ≡ sortOf n
 unfolding treeSort treeOf sortOf form
 treeSort-treeOf t i (Number v) = refl
@@ -127,12 +128,14 @@ numeric-tree (numeric a) e = refl
 numeric-tree (truth b) e = cc
 numeric-tree (command c) e = cc
 
+-- the same of a truth
 pub truth-tree : (t : Tree) → treeSort t ≡ Truth → t ≡ truth (asTruth t)
 unfolding treeSort asTruth
 truth-tree (numeric a) e = cc
 truth-tree (truth b) e = refl
 truth-tree (command c) e = cc
 
+-- the same of a command
 pub command-tree : (t : Tree) → treeSort t ≡ Command → t ≡ command (asCommand t)
 unfolding treeSort asCommand
 command-tree (numeric a) e = cc
@@ -141,6 +144,7 @@ command-tree (command c) e = refl
 
 -- ---- the trees of a table's nodes
 module _ (ns : List Node) where
+  -- there is a tree for each node
   pub length-trees : length (trees ns) ≡ length ns
   unfolding trees
   length-trees = omega (arith, length-grow [] ns)
@@ -181,3 +185,12 @@ module _ (ns : List Node) where
       ∙ treeOf-agree (treeAt (trees (take i ns))) (treeAt (trees ns)) i (getD ns i Skip)
       (fit-children vs arrs (take i ns) (λ s c. treeAt (trees (take i ns)) c ≡ treeAt (trees ns) c) (getD ns i Skip) fits
       (λ s c below e. trees-take i c (omega arith) (omega (arith, length-take-le i ns (omega arith)))))
+
+  -- the children of node i are lower and their trees are of the wanted sorts
+  pub tree-children : (vs arrs i : ℕ) → i < length ns → NodeFits vs arrs (take i ns) (getD ns i Skip) → (P : Sort → ℕ → Type 0)
+      → ((s : Sort) (c : ℕ) → c < i → treeSort (treeAt (trees ns) c) ≡ s → P s c) → EachChild P (form (getD ns i Skip) .fields)
+  tree-children vs arrs i inside fits P each =
+      fit-children vs arrs (take i ns) P (getD ns i Skip) fits
+      (λ s c below e.
+      let lower : c < i = omega (arith, length-take-le i ns (omega arith)) in
+      each s c lower (tree-sort c (omega arith) ∙ ap sortOf (sym (getD-take i ns c Skip lower)) ∙ e))
