@@ -16,6 +16,7 @@ pub mod Accepted
 pub mod Index
 pub mod Passing
 pub mod Declaring
+pub mod Sorting
 pub mod Sums
 pub mod Size
 pub mod Ranges

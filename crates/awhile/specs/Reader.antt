@@ -1,10 +1,13 @@
 -- What the parts of the reader answer, given what the definitions of reading do.
-use Prim.Native.Nat.{ℕ, zero, suc}
+use Prim.Native.Nat.{ℕ, zero, suc, _<_}
+use mathlib.Core.Bool.{true}
+use mathlib.Core.Path.{_≡_}
+use lib.ListN.{length, getD}
 use mathlib.Core.List.{List, [], _∷_}
-use Rattle.awhile.specs.Lists.{sum}
-use Rattle.awhile.specs.Refusals.{Answer, refused, got}
-use Rattle.awhile.specs.Nodes.{Field, word, constant, variable, array, child}
-use Rattle.awhile.specs.Tables.{Header}
+use Rattle.awhile.specs.Lists.{sum, all}
+use Rattle.awhile.specs.Refusals.{Answer, refused, got, check}
+use Rattle.awhile.specs.Nodes.{Field, word, constant, variable, array, child, sortOf, decodeAt, fieldInRange, fieldSorted}
+use Rattle.awhile.specs.Tables.{Header, readNode}
 use Rattle.awhile.specs.declared.checks.Checked.{Checked}
 use Rattle.awhile.specs.declared.checks.Checked.the-variants.{Refused as CheckRefused, Passed}
 use Rattle.awhile.specs.declared.declarations.HeaderRead.{HeaderRead}
@@ -16,6 +19,13 @@ use Rattle.awhile.specs.declared.declarations.CountRead.the-variants.{Re
 use Rattle.awhile.specs.declared.declarations.CellsRead.{CellsRead}
 use Rattle.awhile.specs.declared.declarations.CellsRead.the-variants.{Refused as CellsRefused, Cells as CellsGot}
 use Rattle.awhile.specs.declared.Labelling.{Labelling}
+use Rattle.awhile.specs.declared.Sort.{Sort}
+use Rattle.awhile.specs.declared.Node.{Node}
+use Rattle.awhile.specs.declared.Node.the-variants.{Skip}
+use Rattle.awhile.specs.declared.Decoded.the-variants.{Known}
+use Rattle.awhile.specs.declared.Refusal.the-variants.{WrongSort}
+use Rattle.awhile.specs.declared.walk.NodeRead.{NodeRead}
+use Rattle.awhile.specs.declared.walk.NodeRead.the-variants.{Refused as NodeRefused, Node as NodeGot}
 use Rattle.awhile.specs.declared.fields.Field.{Field as FieldRead}
 use Rattle.awhile.specs.declared.fields.Field.the-variants.{Word, Constant, Variable, Array, Child}
 use Rattle.awhile.specs.declared.fields.Fields.{Fields}
@@ -58,3 +68,26 @@ abbrev pub padded : (count : ℕ) → List Field → List Field
 padded zero fs = fs
 padded (suc count) [] = word 0 ∷ padded count []
 padded (suc count) (f ∷ fs) = f ∷ padded count fs
+
+-- ---- the nodes
+unfoldable pub nodeAs : Answer Node → NodeRead
+nodeAs (refused r) = NodeRefused r
+nodeAs (got n) = NodeGot n
+
+-- the sort of the node that the record at an offset decodes to
+pub record SortAt (s : List ℕ) (at : ℕ) (r : Sort) : Type 0 where
+  pub isSort : (n : Node) → decodeAt s at ≡ Known n → r ≡ sortOf n
+
+-- the offsets of an index lead to the records of these nodes
+pub record Leads (s index : List ℕ) (ns : List Node) : Type 0 where
+  pub decoded : (i : ℕ) → i < length ns → decodeAt s (getD index i 0) ≡ Known (getD ns i Skip)
+
+-- whether the children that fields name are of the wanted sorts, by an index of the nodes before
+pub record SortsChecked (s index : List ℕ) (at : ℕ) (fs : List Field) (r : Checked) : Type 0 where
+  pub isChecked : (vs arrs : ℕ) (ns : List Node) → Leads s index ns → all (fieldInRange vs arrs (length ns)) fs ≡ true
+      → r ≡ checkedAs (check (all (fieldSorted ns) fs) (WrongSort at) (got tt))
+
+-- what reading the next node answers, by an index of the nodes before
+pub record NodeChecked (s index : List ℕ) (vs arrs n at : ℕ) (r : NodeRead) : Type 0 where
+  pub isRead : (before : List Node) → length before ≡ n → Leads s index before
+      → (nodes : ℕ) → r ≡ nodeAs (readNode (record { variables = vs; arrays = arrs; nodes = nodes }) s at before)

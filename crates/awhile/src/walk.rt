@@ -1,0 +1,116 @@
+// The node records, one after the other.
+ghost use Prim.Native.Nat.{_+_, _^_, _<_};
+ghost use mathlib.Core.Path.{_≡_};
+ghost use mathlib.Core.List.{[], _∷_};
+ghost use lib.ListN.{getD};
+ghost use Rattle.awhile.specs.Refusals.{refused, got, check};
+ghost use Rattle.awhile.specs.Nodes.{sameSort};
+ghost use Rattle.awhile.specs.Tables.{framed};
+ghost use Rattle.awhile.specs.Reader.{checkedAs, fieldOf, fieldsOf, SortAt, SortsChecked, NodeChecked};
+ghost use Rattle.awhile.specs.declared.Node.the-variants.{Skip};
+ghost use Rattle.awhile.specs.declared.Refusal.the-variants.{WrongSort};
+use crate::Decoded;
+use crate::Node;
+use crate::Refusal;
+use crate::Sort;
+use crate::checks;
+use crate::checks::Checked;
+use crate::decode;
+use crate::fields;
+use crate::fields::Field;
+use crate::fields::Fields;
+
+pub enum NodeRead {
+    Refused { refusal: Refusal },
+    Node { node: Node },
+}
+
+// The offset that an index has for a number; 0 past its end.
+pub fn offset_at(index: &[u16], n: usize) -> usize
+    ensures { λ r. ⌜ (r ≡ getD (now (index .entry)) n 0) × (r < 65536) ⌝ }
+{
+    if n < index.len() {
+        index[n] as usize
+    } else {
+        0
+    }
+}
+
+// The sort of the node whose record stands at an offset; of no account where none does.
+pub fn sort_at(table: &[u8], at: usize) -> Sort
+    requires { ⌜ at + 8 < 2 ^ 64 ⌝ }
+    ensures { λ r. ⌜ SortAt (now (table .entry)) at r ⌝ }
+{
+    let Decoded::Known { node } = decode::decode_at(table, at) else {
+        return Sort::Command;
+    };
+    decode::sort_of(node)
+}
+
+// A child's sort is the wanted one; where it is not, reading stops at the parent's record.
+fn check_sort(sort: Sort, wanted: Sort, at: usize) -> Checked
+    ensures { λ r. ⌜ r ≡ checkedAs (check (sameSort sort wanted) (WrongSort at) (got tt)) ⌝ }
+{
+    match wanted {
+        Sort::Numeric => {
+            let Sort::Numeric = sort else {
+                return Checked::Refused {
+                    refusal: Refusal::WrongSort { at },
+                };
+            };
+        }
+        Sort::Truth => {
+            let Sort::Truth = sort else {
+                return Checked::Refused {
+                    refusal: Refusal::WrongSort { at },
+                };
+            };
+        }
+        Sort::Command => {
+            let Sort::Command = sort else {
+                return Checked::Refused {
+                    refusal: Refusal::WrongSort { at },
+                };
+            };
+        }
+    }
+    Checked::Passed
+}
+
+// A child that a field names is of the wanted sort.
+fn check_field(table: &[u8], index: &[u16], field: Field, at: usize) -> Checked
+    ensures { λ r. ⌜ SortsChecked (now (table .entry)) (now (index .entry)) at (fieldOf field ∷ []) r ⌝ }
+{
+    let Field::Child { sort, node } = field else {
+        return Checked::Passed;
+    };
+    check_sort(sort_at(table, offset_at(index, node)), sort, at)
+}
+
+// All children that the fields name are of the wanted sorts.
+fn check_fields(table: &[u8], index: &[u16], fields: Fields, at: usize) -> Checked
+    ensures { λ r. ⌜ SortsChecked (now (table .entry)) (now (index .entry)) at (fieldsOf fields) r ⌝ }
+{
+    let first = fields.first;
+    let second = fields.second;
+    let third = fields.third;
+    if let Checked::Refused { refusal } = check_field(table, index, first, at) {
+        return Checked::Refused { refusal };
+    }
+    if let Checked::Refused { refusal } = check_field(table, index, second, at) {
+        return Checked::Refused { refusal };
+    }
+    check_field(table, index, third, at)
+}
+
+// Why a record of no kind is refused: its head is cut, or it is the wrong record.
+fn refuse_kind(table: &[u8], at: usize) -> Refusal
+    requires { ⌜ at + 4 < 2 ^ 64 ⌝ }
+    ensures { λ r. ⌜ framed (now (table .entry)) at 0 (got Skip) ≡ refused r ⌝ }
+{
+    if table.len() < at + 4 {
+        Refusal::Cut { at }
+    } else {
+        Refusal::WrongRecord { at }
+    }
+}
