@@ -114,3 +114,35 @@ fn refuse_kind(table: &[u8], at: usize) -> Refusal
         Refusal::WrongRecord { at }
     }
 }
+
+// The record of node n, by an index of the nodes before it: its kind and frame, its fields' ranges, its children's sorts.
+fn read_node(
+    table: &[u8],
+    index: &[u16],
+    variables: usize,
+    arrays: usize,
+    n: usize,
+    at: usize,
+) -> NodeRead
+    requires { ⌜ at + 10 < 2 ^ 64 ⌝ }
+    ensures { λ r. ⌜ NodeChecked (now (table .entry)) (now (index .entry)) variables arrays n at r ⌝ }
+{
+    let Decoded::Known { node } = decode::decode_at(table, at) else {
+        return NodeRead::Refused {
+            refusal: refuse_kind(table, at),
+        };
+    };
+    if let Checked::Refused { refusal } = checks::frame(table, at, decode::size_of(node)) {
+        return NodeRead::Refused { refusal };
+    }
+    let fields = fields::fields_of(node);
+    if !fields::in_range(fields, variables, arrays, n) {
+        return NodeRead::Refused {
+            refusal: Refusal::OutOfRange { at },
+        };
+    }
+    if let Checked::Refused { refusal } = check_fields(table, index, fields, at) {
+        return NodeRead::Refused { refusal };
+    }
+    NodeRead::Node { node }
+}

@@ -21,7 +21,7 @@ check-sort-requires : tie.Need-check-sort-requires
 check-sort-requires c κs = search needs
 
 returns-2 : tie.Need-returns-2
-returns-2 c = 
+returns-2 c =
     let start = c .before .before .before .before .before .before .before .before in
     let wanted = c .before .before .before .before .field .given .0 .0 in
     let node = c .before .before .before .before .field .given .0 .1 .0 in
