@@ -239,9 +239,9 @@ module _ (s : List ℕ) where
   -- ---- the nodes
   module _ (bytes : Below 256 s) (h : Header) where
     -- a node that was read fits, and its record stands there
-    record NodeRead (at : ℕ) (before : List Node) (n : Node) : Type 0 where
-      fits : NodeFits (h .variables) (h .arrays) before n
-      there : NodeAt s at n
+    pub record NodeRead (at : ℕ) (before : List Node) (n : Node) : Type 0 where
+      pub fits : NodeFits (h .variables) (h .arrays) before n
+      pub there : NodeAt s at n
 
     known-read : (at : ℕ) (before : List Node) (m n : Node) → decodeAt s at ≡ Known m
         → framed s at (sizeOf m) (check (inRange (h .variables) (h .arrays) (length before) m) (OutOfRange at) (check (sorted before m) (WrongSort at) (got m))) ≡ got n
@@ -265,7 +265,7 @@ module _ (s : List ℕ) where
           there = record { isLength = passed .isLength; decoded = d; inside = passed .inside };
         })
 
-    node-read : (at : ℕ) (before : List Node) (n : Node) → readNode h s at before ≡ got n → NodeRead at before n
+    pub node-read : (at : ℕ) (before : List Node) (n : Node) → readNode h s at before ≡ got n → NodeRead at before n
     node-read at before n e = go (decodeAt s at) refl
       where
         go : (d : Decoded) → decodeAt s at ≡ d → NodeRead at before n

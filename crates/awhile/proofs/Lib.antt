@@ -17,6 +17,7 @@ pub mod Index
 pub mod Passing
 pub mod Declaring
 pub mod Sorting
+pub mod Tally
 pub mod Sums
 pub mod Size
 pub mod Ranges

@@ -52,15 +52,27 @@ not-command Numeric h = refl
 not-command Truth h = refl
 not-command Command h = absurd (⊎-elim (λ e. omega arith) (λ e. omega arith) h)
 
--- a field that names no child asks for no sort
+-- a field that is a child is not one of the others
+never-child : (s : Sort) (n : ℕ) → OneOf (0 ∷ 1 ∷ 2 ∷ 3 ∷ []) (tagOf field.the-type (Child s n)) → ⊥
+never-child s n h = ⊎-elim (λ e. omega arith) (λ r. ⊎-elim (λ e. omega arith) (λ q. ⊎-elim (λ e. omega arith) (λ e. omega arith) q) r) h
+
+-- another field asks for no sort
 pub not-child : (f : FieldRead) → OneOf (0 ∷ 1 ∷ 2 ∷ 3 ∷ []) (tagOf field.the-type f) → (ns : List Node) → fieldSorted ns (fieldOf f) ≡ true
 unfolding fieldSorted
 not-child (Word n) h ns = refl
 not-child (Constant n) h ns = refl
 not-child (Variable x) h ns = refl
 not-child (Array a) h ns = refl
-not-child (Child s n) h ns =
-    absurd (⊎-elim (λ e. omega arith) (λ r. ⊎-elim (λ e. omega arith) (λ q. ⊎-elim (λ e. omega arith) (λ e. omega arith) q) r) h)
+not-child (Child s n) h ns = absurd (never-child s n h)
+
+-- and names no child
+pub no-children : (f : FieldRead) → OneOf (0 ∷ 1 ∷ 2 ∷ 3 ∷ []) (tagOf field.the-type f) → fieldChildren (fieldOf f) ≡ []
+unfolding fieldChildren
+no-children (Word n) h = refl
+no-children (Constant n) h = refl
+no-children (Variable x) h = refl
+no-children (Array a) h = refl
+no-children (Child s n) h = absurd (never-child s n h)
 
 -- ---- fields checked one after the other
 module _ (x r : Refusal) (c : Bool) where

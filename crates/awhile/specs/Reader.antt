@@ -1,8 +1,9 @@
 -- What the parts of the reader answer, given what the definitions of reading do.
-use Prim.Native.Nat.{ℕ, zero, suc, _<_}
-use mathlib.Core.Bool.{true}
+use Prim.Native.Nat.{ℕ, zero, suc, _+_, _<_}
+use mathlib.Core.Bool.{Bool, true}
 use mathlib.Core.Path.{_≡_}
-use lib.ListN.{length, getD}
+use lib.ListN.{length, getD, set}
+use lib.Dec.{ltb}
 use mathlib.Core.List.{List, [], _∷_}
 use Rattle.awhile.specs.Lists.{sum, all}
 use Rattle.awhile.specs.Refusals.{Answer, refused, got, check}
@@ -91,3 +92,17 @@ pub record SortsChecked (s index : List ℕ) (at : ℕ) (fs : List Field) (r : C
 pub record NodeChecked (s index : List ℕ) (vs arrs n at : ℕ) (r : NodeRead) : Type 0 where
   pub isRead : (before : List Node) → length before ≡ n → Leads s index before
       → (nodes : ℕ) → r ≡ nodeAs (readNode (record { variables = vs; arrays = arrs; nodes = nodes }) s at before)
+
+-- ---- how often a node is a child
+-- counts with one more for each of these numbers
+unfoldable pub tally : List ℕ → List ℕ → List ℕ
+tally counts [] = counts
+tally counts (n ∷ ns) = tally (set counts n (getD counts n 0 + 1)) ns
+
+-- every number is below a bound
+unfoldable pub allBelow : (bound : ℕ) → List ℕ → Bool
+allBelow bound ns = all (λ n. ltb n bound) ns
+
+-- every count is below a bound
+pub record CountsBelow (bound : ℕ) (counts : List ℕ) : Type 0 where
+  pub each : (n : ℕ) → getD counts n 0 < bound
