@@ -18,6 +18,7 @@ pub mod Passing
 pub mod Declaring
 pub mod Sorting
 pub mod Tally
+pub mod Walking
 pub mod Sums
 pub mod Size
 pub mod Ranges

@@ -2,13 +2,13 @@
 use Prim.Native.Nat.{ℕ, zero, suc, _+_, _<_}
 use mathlib.Core.Bool.{Bool, true}
 use mathlib.Core.Path.{_≡_}
-use lib.ListN.{length, getD, set}
+use lib.ListN.{length, getD, set, take}
 use lib.Dec.{ltb}
-use mathlib.Core.List.{List, [], _∷_}
+use mathlib.Core.List.{List, [], _∷_, map}
 use Rattle.awhile.specs.Lists.{sum, all}
 use Rattle.awhile.specs.Refusals.{Answer, refused, got, check}
-use Rattle.awhile.specs.Nodes.{Field, word, constant, variable, array, child, sortOf, decodeAt, fieldInRange, fieldSorted}
-use Rattle.awhile.specs.Tables.{Header, readNode}
+use Rattle.awhile.specs.Nodes.{Field, word, constant, variable, array, child, sizeOf, sortOf, decodeAt, fieldInRange, fieldSorted}
+use Rattle.awhile.specs.Tables.{Header, nodesStart, readNode, readNodes, usesOf}
 use Rattle.awhile.specs.declared.checks.Checked.{Checked}
 use Rattle.awhile.specs.declared.checks.Checked.the-variants.{Refused as CheckRefused, Passed}
 use Rattle.awhile.specs.declared.declarations.HeaderRead.{HeaderRead}
@@ -25,6 +25,9 @@ use Rattle.awhile.specs.declared.Node.{Node}
 use Rattle.awhile.specs.declared.Node.the-variants.{Skip}
 use Rattle.awhile.specs.declared.Decoded.the-variants.{Known}
 use Rattle.awhile.specs.declared.Refusal.the-variants.{WrongSort}
+use Rattle.awhile.specs.declared.Refusal.{Refusal}
+use Rattle.awhile.specs.declared.walk.NodesRead.{NodesRead}
+use Rattle.awhile.specs.declared.walk.NodesRead.the-variants.{Refused as NodesRefused, Nodes as NodesGot}
 use Rattle.awhile.specs.declared.walk.NodeRead.{NodeRead}
 use Rattle.awhile.specs.declared.walk.NodeRead.the-variants.{Refused as NodeRefused, Node as NodeGot}
 use Rattle.awhile.specs.declared.fields.Field.{Field as FieldRead}
@@ -106,3 +109,17 @@ allBelow bound ns = all (λ n. ltb n bound) ns
 -- every count is below a bound
 pub record CountsBelow (bound : ℕ) (counts : List ℕ) : Type 0 where
   pub each : (n : ℕ) → getD counts n 0 < bound
+
+-- ---- all nodes
+-- what was kept of nodes that were read: offsets that lead to their records, and how often each number is a child
+pub record Kept (s index uses : List ℕ) (start : ℕ) (ns : List Node) : Type 0 where
+  pub leads : Leads s index ns
+  pub offsets : (i : ℕ) → i < length ns → getD index i 0 ≡ start + sum (map sizeOf (take i ns))
+  pub used : (n : ℕ) → getD uses n 0 ≡ usesOf ns n
+
+-- what walking all node records answers and keeps
+pub data NodesWalked (s : List ℕ) (vs arrs nodes : ℕ) (index uses : List ℕ) (r : NodesRead) : Type 0 where
+  stopped : (x : Refusal) → readNodes nodes (record { variables = vs; arrays = arrs; nodes = nodes }) s (nodesStart arrs) [] ≡ refused x
+      → r ≡ NodesRefused x → NodesWalked s vs arrs nodes index uses r
+  ended : (ns : List Node) → readNodes nodes (record { variables = vs; arrays = arrs; nodes = nodes }) s (nodesStart arrs) [] ≡ got ns
+      → r ≡ NodesGot (nodesStart arrs + sum (map sizeOf ns)) → Kept s index uses (nodesStart arrs) ns → NodesWalked s vs arrs nodes index uses r

@@ -1,12 +1,12 @@
 // The node records, one after the other.
-ghost use Prim.Native.Nat.{_+_, _^_, _<_};
+ghost use Prim.Native.Nat.{_+_, _^_, _≤_, _<_};
 ghost use mathlib.Core.Path.{_≡_};
 ghost use mathlib.Core.List.{[], _∷_};
-ghost use lib.ListN.{getD};
+ghost use lib.ListN.{length, getD};
 ghost use Rattle.awhile.specs.Refusals.{refused, got, check};
 ghost use Rattle.awhile.specs.Nodes.{sameSort};
-ghost use Rattle.awhile.specs.Tables.{framed};
-ghost use Rattle.awhile.specs.Reader.{checkedAs, fieldOf, fieldsOf, SortAt, SortsChecked, NodeChecked};
+ghost use Rattle.awhile.specs.Tables.{maxArrays, maxNodes, framed};
+ghost use Rattle.awhile.specs.Reader.{checkedAs, fieldOf, fieldsOf, SortAt, SortsChecked, NodeChecked, CountsBelow, NodesWalked};
 ghost use Rattle.awhile.specs.declared.Node.the-variants.{Skip};
 ghost use Rattle.awhile.specs.declared.Refusal.the-variants.{WrongSort};
 use crate::Decoded;
@@ -19,6 +19,7 @@ use crate::decode;
 use crate::fields;
 use crate::fields::Field;
 use crate::fields::Fields;
+use crate::uses;
 
 pub enum NodeRead {
     Refused { refusal: Refusal },
@@ -145,4 +146,37 @@ fn read_node(
         return NodeRead::Refused { refusal };
     }
     NodeRead::Node { node }
+}
+
+pub enum NodesRead {
+    Refused { refusal: Refusal },
+    Nodes { end: usize },
+}
+
+// All node records: their offsets go into the index, and how often each is a child into the counts, which start at 0.
+pub fn read_nodes(
+    table: &[u8],
+    variables: usize,
+    arrays: usize,
+    nodes: usize,
+    index: &mut [u16],
+    uses: &mut [u16],
+) -> NodesRead
+    requires { ⌜ (arrays ≤ maxArrays) × (nodes ≤ maxNodes) × (nodes ≤ length (now index)) × (nodes ≤ length (now uses)) × CountsBelow 1 (now uses) ⌝ }
+    ensures { λ r. ⌜ NodesWalked (now (table .entry)) variables arrays nodes (now (index .exit)) (now (uses .exit)) r ⌝ }
+{
+    let mut at = 20 + 6 * arrays;
+    let mut n = 0;
+    while n < nodes {
+        match read_node(table, &*index, variables, arrays, n, at) {
+            NodeRead::Refused { refusal } => return NodesRead::Refused { refusal },
+            NodeRead::Node { node } => {
+                index[n] = at as u16;
+                uses::count_fields(&mut *uses, fields::fields_of(node));
+                at += decode::size_of(node);
+            }
+        }
+        n += 1;
+    }
+    NodesRead::Nodes { end: at }
 }
