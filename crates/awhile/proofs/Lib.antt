@@ -19,6 +19,7 @@ pub mod Declaring
 pub mod Sorting
 pub mod Tally
 pub mod Walking
+pub mod Searching
 pub mod Sums
 pub mod Size
 pub mod Ranges

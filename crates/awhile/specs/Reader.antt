@@ -1,6 +1,6 @@
 -- What the parts of the reader answer, given what the definitions of reading do.
-use Prim.Native.Nat.{ℕ, zero, suc, _+_, _<_}
-use mathlib.Core.Bool.{Bool, true}
+use Prim.Native.Nat.{ℕ, zero, suc, _+_, _-_, _<_}
+use mathlib.Core.Bool.{Bool, true, false}
 use mathlib.Core.Path.{_≡_}
 use lib.ListN.{length, getD, set, take}
 use lib.Dec.{ltb}
@@ -8,7 +8,7 @@ use mathlib.Core.List.{List, [], _∷_, map}
 use Rattle.awhile.specs.Lists.{sum, all}
 use Rattle.awhile.specs.Refusals.{Answer, refused, got, check}
 use Rattle.awhile.specs.Nodes.{Field, word, constant, variable, array, child, sizeOf, sortOf, decodeAt, fieldInRange, fieldSorted}
-use Rattle.awhile.specs.Tables.{Header, nodesStart, readNode, readNodes, usesOf}
+use Rattle.awhile.specs.Tables.{Header, nodesStart, readNode, readNodes, usesOf, inOrder, allInOrder}
 use Rattle.awhile.specs.declared.checks.Checked.{Checked}
 use Rattle.awhile.specs.declared.checks.Checked.the-variants.{Refused as CheckRefused, Passed}
 use Rattle.awhile.specs.declared.declarations.HeaderRead.{HeaderRead}
@@ -26,6 +26,8 @@ use Rattle.awhile.specs.declared.Node.the-variants.{Skip}
 use Rattle.awhile.specs.declared.Decoded.the-variants.{Known}
 use Rattle.awhile.specs.declared.Refusal.the-variants.{WrongSort}
 use Rattle.awhile.specs.declared.Refusal.{Refusal}
+use Rattle.awhile.specs.declared.uses.Broken.{Broken}
+use Rattle.awhile.specs.declared.uses.Broken.the-variants.{At, Nowhere}
 use Rattle.awhile.specs.declared.walk.NodesRead.{NodesRead}
 use Rattle.awhile.specs.declared.walk.NodesRead.the-variants.{Refused as NodesRefused, Nodes as NodesGot}
 use Rattle.awhile.specs.declared.walk.NodeRead.{NodeRead}
@@ -123,3 +125,13 @@ pub data NodesWalked (s : List ℕ) (vs arrs nodes : ℕ) (index uses : List ℕ
       → r ≡ NodesRefused x → NodesWalked s vs arrs nodes index uses r
   ended : (ns : List Node) → readNodes nodes (record { variables = vs; arrays = arrs; nodes = nodes }) s (nodesStart arrs) [] ≡ got ns
       → r ≡ NodesGot (nodesStart arrs + sum (map sizeOf ns)) → Kept s index uses (nodesStart arrs) ns → NodesWalked s vs arrs nodes index uses r
+
+-- ---- the nodes as one tree
+-- a node that is not in order, or that all are
+abbrev pub OrderFound : List Node → Broken → Type 0
+OrderFound ns (At n) = (n < length ns) × (inOrder ns n ≡ false)
+OrderFound ns Nowhere = allInOrder ns (length ns) ≡ true
+
+-- what looking through the counts finds, where they are those of nodes and the root's sort is the last node's
+pub record OrderSearched (uses : List ℕ) (nodes : ℕ) (root : Sort) (r : Broken) : Type 0 where
+  pub found : (ns : List Node) → length ns ≡ nodes → ((n : ℕ) → getD uses n 0 ≡ usesOf ns n) → sortOf (getD ns (nodes - 1) Skip) ≡ root → OrderFound ns r

@@ -1,10 +1,12 @@
 // How often each node is a child.
+ghost use Prim.Native.Nat.{_≤_, _<_};
 ghost use mathlib.Core.Bool.{true};
 ghost use mathlib.Core.Path.{_≡_};
 ghost use mathlib.Core.List.{flatMap};
 ghost use lib.ListN.{length};
 ghost use Rattle.awhile.specs.Nodes.{fieldChildren};
-ghost use Rattle.awhile.specs.Reader.{fieldOf, fieldsOf, tally, allBelow, CountsBelow};
+ghost use Rattle.awhile.specs.Reader.{fieldOf, fieldsOf, tally, allBelow, CountsBelow, OrderSearched};
+use crate::Sort;
 use crate::fields::Field;
 use crate::fields::Fields;
 
@@ -30,4 +32,27 @@ pub fn count_fields(uses: &mut [u16], fields: Fields)
     count_field(&mut *uses, first);
     count_field(&mut *uses, second);
     count_field(&mut *uses, third);
+}
+
+pub enum Broken {
+    At { node: usize },
+    Nowhere,
+}
+
+// The lowest-numbered node that is not in order: one but the last that is not a child exactly once, or a last one that is no command.
+pub fn find_broken(uses: &[u16], nodes: usize, root: Sort) -> Broken
+    requires { ⌜ (0 < nodes) × (nodes ≤ length (now uses)) ⌝ }
+    ensures { λ r. ⌜ OrderSearched (now (uses .entry)) nodes root r ⌝ }
+{
+    let mut n = 0;
+    while n < nodes - 1 {
+        if uses[n] != 1 {
+            return Broken::At { node: n };
+        }
+        n += 1;
+    }
+    let Sort::Command = root else {
+        return Broken::At { node: n };
+    };
+    Broken::Nowhere
 }
