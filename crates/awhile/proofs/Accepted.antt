@@ -145,7 +145,8 @@ module _ (s : List ℕ) where
         nodesFit = leb-true nodes maxNodes (and-second four (leb nodes maxNodes) test);
       })
 
-  header-fits : (h : Header) → readHeader s ≡ got h → HeaderFits h
+  -- a header that was read is within the limits
+  pub header-fits : (h : Header) → readHeader s ≡ got h → HeaderFits h
   unfolding readHeader
   header-fits h e = header-test h (leAt 2 s 4) (leAt 1 s 6) (leAt 1 s 7) (leAt 2 s 8) (framed-rest s 0 (lengthOfKind 1 headerSize s 0) _ h e)
 
@@ -188,10 +189,10 @@ module _ (s : List ℕ) where
       })
 
   -- the counts read after others: so many, each positive, within the sum
-  record CountsFit (left : ℕ) (before counts : List ℕ) : Type 0 where
-    more : List ℕ
-    whole : counts ≡ before ++ more
-    counted : length more ≡ left
+  pub record CountsFit (left : ℕ) (before counts : List ℕ) : Type 0 where
+    pub more : List ℕ
+    pub whole : counts ≡ before ++ more
+    pub counted : length more ≡ left
     positive : (i : ℕ) → i < length more → 0 < getD more i 0
     total : sum before + sum more ≤ maxCells
 
@@ -219,7 +220,7 @@ module _ (s : List ℕ) where
       positive zero inside = first .positive
       positive (suc i) inside = rest .positive i (omega arith)
 
-  counts-fit : (left at : ℕ) (before counts : List ℕ) → sum before ≤ maxCells → readCounts left s at before ≡ got counts → CountsFit left before counts
+  pub counts-fit : (left at : ℕ) (before counts : List ℕ) → sum before ≤ maxCells → readCounts left s at before ≡ got counts → CountsFit left before counts
   unfolding readCounts sum
   counts-fit zero at before counts small e =
       record {

@@ -20,6 +20,7 @@ pub mod Sorting
 pub mod Tally
 pub mod Walking
 pub mod Searching
+pub mod Answering
 pub mod Sums
 pub mod Size
 pub mod Ranges

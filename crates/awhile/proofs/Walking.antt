@@ -186,4 +186,4 @@ module _ (s : List ℕ) (vs arrs nodes : ℕ) where
     unfolding readNodes
     nodes-done all-read =
         let none : nodes - n ≡ 0 = omega arith in
-        ended (h .before) (h .same ∙ ap (λ k. readNodes k header s at (h .before)) none) (ap NodesGot (h .place)) (h .kept)
+        ended (h .before) (h .same ∙ ap (λ k. readNodes k header s at (h .before)) none) (omega (arith, h .counted, h .few)) (ap NodesGot (h .place)) (h .kept)

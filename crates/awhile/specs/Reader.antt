@@ -124,7 +124,7 @@ pub data NodesWalked (s : List ℕ) (vs arrs nodes : ℕ) (index uses : List ℕ
   stopped : (x : Refusal) → readNodes nodes (record { variables = vs; arrays = arrs; nodes = nodes }) s (nodesStart arrs) [] ≡ refused x
       → r ≡ NodesRefused x → NodesWalked s vs arrs nodes index uses r
   ended : (ns : List Node) → readNodes nodes (record { variables = vs; arrays = arrs; nodes = nodes }) s (nodesStart arrs) [] ≡ got ns
-      → r ≡ NodesGot (nodesStart arrs + sum (map sizeOf ns)) → Kept s index uses (nodesStart arrs) ns → NodesWalked s vs arrs nodes index uses r
+      → length ns ≡ nodes → r ≡ NodesGot (nodesStart arrs + sum (map sizeOf ns)) → Kept s index uses (nodesStart arrs) ns → NodesWalked s vs arrs nodes index uses r
 
 -- ---- the nodes as one tree
 -- a node that is not in order, or that all are
