@@ -4,7 +4,7 @@ use native.Mathlib.Omega.{arith}
 use mathlib.Core.Bool.{Bool, true, false, cond}
 use mathlib.Core.Path.{_≡_, refl, sym, ap, _∙_}
 use mathlib.Core.List.{List, [], _∷_, _++_, flatMap, append-nil}
-use lib.ListN.{length, getD, set, length-set, length-append}
+use lib.ListN.{length, getD, set, replicate, length-set, length-append}
 use lib.Seq.{getD-set-same, getD-set-other}
 use lib.Dec.{eqb, ltb}
 use borrow.Author.Tests.{ltb-true, lt-ltb, eqb-true, eqb-false}
@@ -51,6 +51,15 @@ occurrences-most k (n ∷ ns) = go (eqb k n) (occurrences-most k ns)
     go : (b : Bool) → occurrences k ns ≤ length ns → cond b 1 0 + occurrences k ns ≤ suc (length ns)
     go true h = omega arith
     go false h = omega arith
+
+-- counts that start at 0 are below 1
+pub zeros-below : (length : ℕ) → CountsBelow 1 (replicate length 0)
+zeros-below length = record { each = each length }
+  where
+    each : (length n : ℕ) → getD (replicate length 0) n 0 < 1
+    each zero n = omega arith
+    each (suc length) zero = omega arith
+    each (suc length) (suc n) = each length n
 
 -- ---- counting part after part
 -- there are counts for all these numbers, and each is below a bound

@@ -1,38 +1,33 @@
+-- `read` reads the header, then what follows.
+use mathlib.Core.Path.{sym, _∙_}
+use denote.Ref.{now}
+use Rattle.awhile.proofs.Answering.{header-stop, header-limits, header-on}
 use borrow.Author.Needs.{needs}
 use Rattle.awhile.proofs.reader.read.Statement.{statement}
 use Rattle.awhile.proofs.reader.read.Tie as tie
-use Rattle.awhile.proofs.reader.read.Reads as reads
-use Rattle.awhile.proofs.reader.read.Lts as lts
-use Rattle.awhile.proofs.declarations.read_header.Reads as read-header-reads
-use Rattle.awhile.proofs.reader.read_declared.Reads as read-declared-reads
 
--- src/reader.rt:120:11
 read-header-requires : tie.Need-read-header-requires
 read-header-requires c κs = search needs
 
--- src/reader.rt:121:31
 enum-known-refusal : tie.Need-enum-known-refusal
 enum-known-refusal c = search needs
 
--- src/reader.rt:123:13
 enum-known-variables : tie.Need-enum-known-variables
 enum-known-variables c = search needs
 
--- src/reader.rt:126:14
 read-declared-requires : tie.Need-read-declared-requires
-read-declared-requires c κs = ?
+read-declared-requires c κs =
+    let f = header-limits (now (c .before .before .before .before .before .before .before .args .table)) (now (c .before .before .before .before .before .before .before .args .index)) (c .before .before .variables .given .0 .0) (c .before .before .variables .given .0 .1 .0) (c .before .before .variables .given .0 .1 .1 .0) (sym (c .before .before .variables .given .1) ∙ c .before .before .before .before .read-header .ensures) in
+    (f .variablesFit, f .arraysFit, f .hasNodes, f .nodesFit, c .before .before .before .before .before .before .before .pre)
 
--- src/reader.rt:116:1
 returns : tie.Need-returns
-returns c = ?
+returns c = header-stop (now (c .before .before .before .before .before .before .args .table)) (now (c .before .before .before .before .before .before .args .index)) (c .before .refusal .given .0 .0) (sym (c .before .refusal .given .1) ∙ c .before .before .before .read-header .ensures)
 
--- src/reader.rt:116:1
 same-length : tie.Need-same-length
 same-length c = search needs
 
--- src/reader.rt:116:1
 returns-2 : tie.Need-returns-2
-returns-2 c = ?
+returns-2 c = header-on (now (c .before .before .before .before .before .before .before .before .before .before .args .table)) (c .before .before .read-declared .last .1 .0) (c .before .before .before .before .before .variables .given .0 .0) (c .before .before .before .before .before .variables .given .0 .1 .0) (c .before .before .before .before .before .variables .given .0 .1 .1 .0) (c .before .before .read-declared .result) (sym (c .before .before .before .before .before .variables .given .1) ∙ c .before .before .before .before .before .before .before .read-header .ensures) (c .before .before .read-declared .ensures)
 
 pub read-spec : {M : Type 1} → statement M
 read-spec =

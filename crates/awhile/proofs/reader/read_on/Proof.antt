@@ -1,50 +1,47 @@
+-- `read_on` walks the nodes, then finishes.
+use native.Mathlib.Omega.{arith}
+use denote.Ref.{now}
+use Rattle.awhile.proofs.Tally.{zeros-below}
+use Rattle.awhile.proofs.Answering.{on-refused, on-finished}
 use borrow.Author.Needs.{needs}
 use Rattle.awhile.proofs.reader.read_on.Statement.{statement}
 use Rattle.awhile.proofs.reader.read_on.Tie as tie
-use Rattle.awhile.proofs.reader.read_on.Reads as reads
-use Rattle.awhile.proofs.reader.read_on.Lts as lts
-use Rattle.awhile.proofs.reader.finish.Reads as finish-reads
-use Rattle.awhile.proofs.walk.read_nodes.Reads as read-nodes-reads
 
--- src/reader.rt:71:74
 slice-aggregate-read-nodes : tie.Need-slice-aggregate-read-nodes
 slice-aggregate-read-nodes c = search needs
 
--- src/reader.rt:71:11
 read-nodes-requires : tie.Need-read-nodes-requires
-read-nodes-requires c κs = ?
+read-nodes-requires c κs =
+    let p = c .before .before .before .before .pre in
+    (p .0, p .2, omega arith, p .2, zeros-below 4096)
 
--- src/reader.rt:72:30
 enum-known-refusal : tie.Need-enum-known-refusal
 enum-known-refusal c = search needs
 
--- src/reader.rt:73:28
 enum-known-end : tie.Need-enum-known-end
 enum-known-end c = search needs
 
--- src/reader.rt:76:13
 slice-aggregate-finish : tie.Need-slice-aggregate-finish
 slice-aggregate-finish c = search needs
 
--- src/reader.rt:73:37
 finish-requires : tie.Need-finish-requires
 finish-requires c κs = search needs
 
--- src/reader.rt:58:1
 same-length : tie.Need-same-length
 same-length c = search needs
 
--- src/reader.rt:58:1
 returns : tie.Need-returns
-returns c = ?
+returns c =
+    let a = c .before .before .before .before .before .before .before .before .before .before .before .args in
+    on-refused (now (a .table)) (a .variables) (a .arrays) (a .nodes) (c .before .before .before .before .before .before .read-nodes .last .1 .1 .1 .1 .0) (c .before .before .before .before .before .before .read-nodes .last .1 .1 .1 .1 .1 .0) (a .cells) (a .labels) (c .before .refusal .given .0 .0) (rw (c .before .refusal .given .1) at (c .before .before .before .before .before .before .read-nodes .ensures))
 
--- src/reader.rt:58:1
 same-length-2 : tie.Need-same-length-2
 same-length-2 c = search needs
 
--- src/reader.rt:58:1
 returns-2 : tie.Need-returns-2
-returns-2 c = ?
+returns-2 c =
+    let a = c .before .before .before .before .before .before .before .before .before .before .before .before .before .before .args in
+    on-finished (now (a .table)) (a .variables) (a .arrays) (a .nodes) (c .before .before .before .before .before .before .before .before .before .read-nodes .last .1 .1 .1 .1 .0) (c .before .before .before .before .before .before .before .before .before .read-nodes .last .1 .1 .1 .1 .1 .0) (a .cells) (a .labels) (c .before .before .before .before .end .given .0 .0) (c .finish .result) (rw (c .before .before .before .before .end .given .1) at (c .before .before .before .before .before .before .before .before .before .read-nodes .ensures)) (c .finish .ensures)
 
 pub read-on-spec : {M : Type 1} → statement M
 read-on-spec =
