@@ -3,3 +3,4 @@ pub mod commands;
 pub mod expressions;
 pub mod labelling;
 pub mod noting;
+pub mod sheet;
