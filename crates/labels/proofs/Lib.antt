@@ -19,3 +19,4 @@ pub mod SheetRecords
 pub mod SheetNodes
 pub mod Stored
 pub mod SheetLengths
+pub mod WholeProgram

@@ -69,3 +69,11 @@ pub record Sheetable (table index vs arrs : List ℕ) : Type 0 where
   pub indexed : Indexed table index
   pub room : NoteRoom table vs arrs
   pub notes : Noted vs arrs (annotated (tableOf table))
+
+-- what the analysis of a whole program requires: room for the notes, which are all zero
+pub record Fresh (table index vs arrs : List ℕ) : Type 0 where
+  pub indexed : Indexed table index
+  pub variables : nodesIn table ≤ length vs
+  pub arrays : nodesIn table ≤ length arrs
+  pub noVariables : (p : ℕ) → getD vs p 0 ≡ 0
+  pub noArrays : (p : ℕ) → getD arrs p 0 ≡ 0
