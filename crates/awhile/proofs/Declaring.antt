@@ -13,12 +13,12 @@ use Rattle.awhile.specs.Lists.{sum}
 use Rattle.awhile.specs.Refusals.{Answer, refused, got, check}
 use Rattle.awhile.specs.Tables.{Header, maxVariables, maxArrays, maxNodes, maxCells, headerSize, labelsSize, arraySize}
 use Rattle.awhile.specs.Tables.{framed, lengthOfKind, readHeader, readLabels, readCount, readCounts}
-use Rattle.awhile.specs.Reader.{framedAs, countAs, cellsAs}
+use Rattle.awhile.specs.Reader.{checkedAs, countAs, cellsAs}
 use Rattle.awhile.proofs.Lists.{sum-append}
 use Rattle.awhile.proofs.Cases.{counts-next, counts-refused}
 use Rattle.awhile.proofs.Accepted.{count-fits}
-use Rattle.awhile.proofs.Passing.{framed-refused, framed-whole}
-use Rattle.awhile.specs.declared.frames.Framed.the-variants.{Refused, Whole}
+use Rattle.awhile.proofs.Passing.{framed-refused, framed-passed-on}
+use Rattle.awhile.specs.declared.checks.Checked.the-variants.{Refused, Passed}
 use Rattle.awhile.specs.declared.declarations.CellsRead.the-variants.{Cells}
 use Rattle.awhile.specs.declared.declarations.CountRead.the-variants.{Refused as CountRefused, Count}
 use Rattle.awhile.specs.declared.Refusal.{Refusal}
@@ -47,37 +47,37 @@ count-not-got (got m) r e = cc
 
 module _ (s : List ℕ) where
   -- ---- the header
-  pub header-refused : (r : Refusal) → framedAs (framed s 0 (lengthOfKind 1 headerSize s 0) (got tt)) ≡ Refused r → readHeader s ≡ refused r
+  pub header-refused : (r : Refusal) → checkedAs (framed s 0 (lengthOfKind 1 headerSize s 0) (got tt)) ≡ Refused r → readHeader s ≡ refused r
   unfolding readHeader
   header-refused r e = framed-refused s 0 (lengthOfKind 1 headerSize s 0) _ r e
 
-  pub header-tested : (b : Bool) → framedAs (framed s 0 (lengthOfKind 1 headerSize s 0) (got tt)) ≡ Whole
+  pub header-tested : (b : Bool) → checkedAs (framed s 0 (lengthOfKind 1 headerSize s 0) (got tt)) ≡ Passed
       → (eqb (leAt 2 s 4) 1 && leb (leAt 1 s 6) maxVariables && leb (leAt 1 s 7) maxArrays && ltb 0 (leAt 2 s 8) && leb (leAt 2 s 8) maxNodes) ≡ b
       → readHeader s ≡ check b (BeyondLimit 0) (got (record { variables = leAt 1 s 6; arrays = leAt 1 s 7; nodes = leAt 2 s 8 }))
   unfolding readHeader
-  header-tested b whole e = framed-whole s 0 (lengthOfKind 1 headerSize s 0) _ whole ∙ rw e
+  header-tested b whole e = framed-passed-on s 0 (lengthOfKind 1 headerSize s 0) _ whole ∙ rw e
 
   -- ---- the labels
-  pub labels-refused : (h : Header) (r : Refusal) → framedAs (framed s 10 (lengthOfKind 3 labelsSize s 10) (got tt)) ≡ Refused r → readLabels s h ≡ refused r
+  pub labels-refused : (h : Header) (r : Refusal) → checkedAs (framed s 10 (lengthOfKind 3 labelsSize s 10) (got tt)) ≡ Refused r → readLabels s h ≡ refused r
   unfolding readLabels
   labels-refused h r e = framed-refused s 10 (lengthOfKind 3 labelsSize s 10) _ r e
 
-  pub labels-tested : (h : Header) (a b : Bool) → framedAs (framed s 10 (lengthOfKind 3 labelsSize s 10) (got tt)) ≡ Whole
+  pub labels-tested : (h : Header) (a b : Bool) → checkedAs (framed s 10 (lengthOfKind 3 labelsSize s 10) (got tt)) ≡ Passed
       → ltb (leAt 4 s 14) (2 ^ h .variables) ≡ a → ltb (leAt 2 s 18) (2 ^ h .arrays) ≡ b
       → readLabels s h ≡ check (a && b) (BeyondLimit 10) (got (record { variables = leAt 4 s 14; arrays = leAt 2 s 18 }))
   unfolding readLabels
-  labels-tested h a b whole p q = framed-whole s 10 (lengthOfKind 3 labelsSize s 10) _ whole ∙ rw (p, q)
+  labels-tested h a b whole p q = framed-passed-on s 10 (lengthOfKind 3 labelsSize s 10) _ whole ∙ rw (p, q)
 
   -- ---- the arrays
   module _ (at before : ℕ) where
-    pub count-refused : (r : Refusal) → framedAs (framed s at (lengthOfKind 2 arraySize s at) (got tt)) ≡ Refused r → readCount s at before ≡ refused r
+    pub count-refused : (r : Refusal) → checkedAs (framed s at (lengthOfKind 2 arraySize s at) (got tt)) ≡ Refused r → readCount s at before ≡ refused r
     unfolding readCount
     count-refused r e = framed-refused s at (lengthOfKind 2 arraySize s at) _ r e
 
-    pub count-tested : (n : ℕ) (a b : Bool) → framedAs (framed s at (lengthOfKind 2 arraySize s at) (got tt)) ≡ Whole → leAt 2 s (at + 4) ≡ n
+    pub count-tested : (n : ℕ) (a b : Bool) → checkedAs (framed s at (lengthOfKind 2 arraySize s at) (got tt)) ≡ Passed → leAt 2 s (at + 4) ≡ n
         → ltb 0 n ≡ a → leb (before + n) maxCells ≡ b → readCount s at before ≡ check (a && b) (BeyondLimit at) (got n)
     unfolding readCount
-    count-tested n a b whole e p q = framed-whole s at (lengthOfKind 2 arraySize s at) _ whole ∙ rw (e, p, q)
+    count-tested n a b whole e p q = framed-passed-on s at (lengthOfKind 2 arraySize s at) _ whole ∙ rw (e, p, q)
 
   -- ---- all arrays
   -- what is left to read from here is what is to be read of all arrays

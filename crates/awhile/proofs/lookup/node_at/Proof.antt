@@ -1,11 +1,11 @@
 -- `node_at` decodes the record at the index's offset, which is the node's.
-use Prim.Native.Nat.{ℕ}
 use native.Mathlib.Omega.{arith}
 use mathlib.Core.Path.{_≡_, _∙_}
 use denote.Ref.{now}
 use borrow.Author.Needs.{needs}
 use Rattle.bytes_le.proofs.Numbers.{slice-bytes}
 use Rattle.awhile.specs.Index.{nodeIn}
+use Rattle.awhile.proofs.Cases.{decoded-same, decoded-apart}
 use Rattle.awhile.proofs.Index.{indexed-node}
 use Rattle.awhile.specs.declared.Decoded.the-variants.{Known}
 use Rattle.awhile.proofs.lookup.node_at.Statement.{statement}
@@ -38,16 +38,10 @@ enum-told : tie.Need-enum-told
 enum-told c = search needs
 
 returns : tie.Need-returns
-returns c =
-    let e = decoded (c .before .before) in
-    let f = c .enum-told .given .1 in
-    absurd (let z : _≡_ {A = ℕ} 0 1 = cc in omega arith)
+returns c = absurd (decoded-apart _ _ (c .enum-told .given .1) (decoded (c .before .before)))
 
 returns-2 : tie.Need-returns-2
-returns-2 c =
-    let e = decoded (c .before .before .before) in
-    let f = c .before .node .given .1 in
-    cc
+returns-2 c = decoded-same _ _ _ (c .before .node .given .1) (decoded (c .before .before .before))
 
 pub node-at-spec : {M : Type 1} → statement M
 node-at-spec =

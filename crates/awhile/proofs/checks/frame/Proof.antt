@@ -8,10 +8,10 @@ use borrow.Author.Tests.{lt-leb, le-leb, lt-ltb, eq-eqb, ne-eqb}
 use Rattle.bytes_le.specs.Numbers.{leAt}
 use Rattle.awhile.specs.Refusals.{check}
 use Rattle.awhile.specs.Tables.{framed}
-use Rattle.awhile.specs.Reader.{framedAs}
+use Rattle.awhile.specs.Reader.{checkedAs}
 use borrow.Author.Needs.{needs}
-use Rattle.awhile.proofs.frames.frame.Statement.{statement}
-use Rattle.awhile.proofs.frames.frame.Tie as tie
+use Rattle.awhile.proofs.checks.frame.Statement.{statement}
+use Rattle.awhile.proofs.checks.frame.Tie as tie
 
 add-if1 : tie.Need-add-if1
 add-if1 c = search needs
@@ -21,7 +21,7 @@ positive : (n : ℕ) → ¬ (n ≡ 0) → 0 < n
 positive n other = omega arith
 
 returns : tie.Need-returns
-unfolding framed check framedAs
+unfolding framed check checkedAs
 returns c =
     let s = now (c .before .before .args .table) in
     let at = c .before .before .args .at in
@@ -29,7 +29,7 @@ returns c =
     rw (lt-leb (at + 4) (length s) (c .if1 .taken))
 
 returns-2 : tie.Need-returns-2
-unfolding framed check framedAs
+unfolding framed check checkedAs
 returns-2 c =
     let s = now (c .before .before .before .args .table) in
     let at = c .before .before .before .args .at in
@@ -40,7 +40,7 @@ u16-at-requires : tie.Need-u16-at-requires
 u16-at-requires c κs = search needs
 
 returns-3 : tie.Need-returns-3
-unfolding framed check framedAs
+unfolding framed check checkedAs
 returns-3 c =
     let s = now (c .before .before .before .before .before .args .table) in
     let at = c .before .before .before .before .before .args .at in
@@ -53,7 +53,7 @@ add-if4 : tie.Need-add-if4
 add-if4 c = search needs
 
 returns-4 : tie.Need-returns-4
-unfolding framed check framedAs
+unfolding framed check checkedAs
 returns-4 c =
     let s = now (c .before .before .before .before .before .before .args .table) in
     let at = c .before .before .before .before .before .before .args .at in
@@ -63,7 +63,7 @@ returns-4 c =
     rw (le-leb (at + 4) (length s) (c .before .before .before .before .if1 .left), lt-ltb 0 wanted some, eq-eqb (leAt 2 s at) wanted same, lt-leb (at + wanted) (length s) (c .if4 .taken))
 
 returns-5 : tie.Need-returns-5
-unfolding framed check framedAs
+unfolding framed check checkedAs
 returns-5 c =
     let s = now (c .before .before .before .before .before .before .args .table) in
     let at = c .before .before .before .before .before .before .args .at in

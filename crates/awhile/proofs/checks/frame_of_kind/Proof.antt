@@ -3,8 +3,8 @@ use mathlib.Core.Path.{sym, _∙_}
 use borrow.Author.Tests.{eq-eqb, ne-eqb}
 use Rattle.awhile.specs.Tables.{lengthOfKind}
 use borrow.Author.Needs.{needs}
-use Rattle.awhile.proofs.frames.frame_of_kind.Statement.{statement}
-use Rattle.awhile.proofs.frames.frame_of_kind.Tie as tie
+use Rattle.awhile.proofs.checks.frame_of_kind.Statement.{statement}
+use Rattle.awhile.proofs.checks.frame_of_kind.Tie as tie
 
 add-u16-at : tie.Need-add-u16-at
 add-u16-at c = search needs
