@@ -13,7 +13,11 @@ pub mod OwnFields
 pub mod Orders
 pub mod Writing
 pub mod Accepted
+pub mod Sums
+pub mod Size
+pub mod Ranges
 pub mod Index
+pub mod LongInput
 pub mod Passing
 pub mod Declaring
 pub mod Sorting
@@ -21,6 +25,3 @@ pub mod Tally
 pub mod Walking
 pub mod Searching
 pub mod Answering
-pub mod Sums
-pub mod Size
-pub mod Ranges

@@ -1,5 +1,5 @@
 -- A node's record decodes to the node: all its fields stand where the decoder reads them.
-use Prim.Native.Nat.{ℕ, zero, suc, _+_, _^_, _≤_, _<_}
+use Prim.Native.Nat.{ℕ, zero, suc, _+_, _*_, _^_, _≤_, _<_}
 use native.Mathlib.Nat.{add-zero, add-assoc}
 use native.Mathlib.Omega.{arith}
 use mathlib.Core.Bool.{Bool, true}
@@ -131,6 +131,12 @@ head-fits (If b c d) = omega arith
 head-fits (While b c) = omega arith
 head-fits (Read x a i) = omega arith
 head-fits (Write a i e) = omega arith
+
+-- records of nodes have at most 10 bytes each
+pub sizes-most : (ns : List Node) → sum (map sizeOf ns) ≤ 10 * length ns
+unfolding sum
+sizes-most [] = omega arith
+sizes-most (n ∷ ns) = omega (arith, head-fits n, sizes-most ns)
 
 -- a record is as long as its size says: its head and its fields
 size-fields : (n : Node) → sizeOf n ≡ 4 + length (flatMap fieldBytes (form n .fields))

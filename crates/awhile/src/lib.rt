@@ -4,6 +4,7 @@ pub mod declarations;
 pub mod decode;
 pub mod fields;
 pub mod lookup;
+pub mod reader;
 pub mod tables;
 pub mod uses;
 pub mod walk;

@@ -19,6 +19,7 @@ use crate::decode;
 use crate::fields;
 use crate::fields::Field;
 use crate::fields::Fields;
+use crate::reader;
 use crate::uses;
 
 pub enum NodeRead {
@@ -128,7 +129,7 @@ fn read_node(
     requires { ⌜ at + 10 < 2 ^ 64 ⌝ }
     ensures { λ r. ⌜ NodeChecked (now (table .entry)) (now (index .entry)) variables arrays n at r ⌝ }
 {
-    let Decoded::Known { node } = decode::decode_at(table, at) else {
+    let Decoded::Known { node } = reader::decoded_at(table, at) else {
         return NodeRead::Refused {
             refusal: refuse_kind(table, at),
         };

@@ -6,3 +6,16 @@ pub mod Runs
 pub mod Notes
 pub mod Traces
 pub mod Cells
+pub mod Words
+pub mod DirectiveLists
+pub mod Room
+pub mod Numbering
+pub mod NodeKinds
+pub mod Counts
+pub mod CellPlaces
+pub mod Guides
+pub mod ShownSteps
+pub mod NextSteps
+pub mod Effects
+pub mod Evaluation
+pub mod Actions

@@ -1,5 +1,5 @@
 -- A run does not depend on the notes that commands carry: it commutes with a change of notes.
-use Prim.Native.Nat.{ℕ, zero, suc, _+_}
+use Prim.Native.Nat.{ℕ, _+_}
 use mathlib.Core.Path.{_≡_, refl, sym, ap, _∙_}
 use mathlib.Core.Bool.{Bool, true, false, cond}
 use mathlib.Core.Option.{Option, none, some, Option·map}
@@ -40,6 +40,7 @@ module _ {A B : Type 0} (f : A → B) where
   unfoldable pub mapOutcome : Outcome A → Outcome B
   mapOutcome o = record { end = o .end; machine = mapMachine (o .machine) }
 
+  -- a command's note, changed
   pub noteOf-mapped : (c : Com A) → noteOf (mapNotes f c) ≡ f (noteOf c)
   unfolding noteOf mapNotes
   noteOf-mapped (skip n) = refl
@@ -130,7 +131,8 @@ module _ {A B : Type 0} (f : A → B) where
     nextOf-mapped : (cs : List (Com A)) → nextOf counts room (mapMachine m) (mapPending cs) ≡ mapNext (nextOf counts room m cs)
     unfolding nextOf mapPending mapNext mapMachine mapState
     nextOf-mapped [] = refl
-    nextOf-mapped (c ∷ rest) = ap (stepOf counts room (mapMachine m)) (look-mapped c rest (m .state .variables)) ∙ stepOf-mapped (look c rest (m .state .variables))
+    nextOf-mapped (c ∷ rest) =
+        ap (stepOf counts room (mapMachine m)) (look-mapped c rest (m .state .variables)) ∙ stepOf-mapped (look c rest (m .state .variables))
 
     -- the next step commutes with a change of notes
     pub next-mapped : next counts room (mapMachine m) ≡ mapNext (next counts room m)
@@ -163,6 +165,10 @@ module _ {A B : Type 0} (f : A → B) where
   unfolding started mapMachine mapState mapPending
   started-mapped c vs cs g = refl
 
+-- no note
+unfoldable pub noNote : {A : Type 0} → A → Unit {0}
+noNote n = tt
+
 -- outcomes that differ in their notes alone
 pub record EqualButNotes {A B : Type 0} (o : Outcome A) (o′ : Outcome B) : Type 0 where
   pub end : o .end ≡ o′ .end
@@ -173,10 +179,7 @@ pub record EqualButNotes {A B : Type 0} (o : Outcome A) (o′ : Outcome B) : Typ
   pub cells : o .machine .state .cells ≡ o′ .machine .state .cells
   pub flag : o .machine .state .flag ≡ o′ .machine .state .flag
   pub guide : o .machine .guide ≡ o′ .machine .guide
-
--- no note
-unfoldable pub noNote : {A : Type 0} → A → Unit {0}
-noNote n = tt
+  pub pending : mapPending noNote (o .machine .state .pending) ≡ mapPending noNote (o′ .machine .state .pending)
 
 -- outcomes that are equal without their notes
 pub equal-without : {A B : Type 0} (o : Outcome A) (o′ : Outcome B) → mapOutcome noNote o ≡ mapOutcome noNote o′ → EqualButNotes o o′
@@ -191,6 +194,7 @@ equal-without o o′ e =
       cells = ap (λ x. x .machine .state .cells) e;
       flag = ap (λ x. x .machine .state .flag) e;
       guide = ap (λ x. x .machine .guide) e;
+      pending = ap (λ x. x .machine .state .pending) e;
     }
 
 module _ {A B : Type 0} (counts : List ℕ) (room : Room) (budget : ℕ) where

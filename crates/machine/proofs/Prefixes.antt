@@ -5,7 +5,7 @@ use mathlib.Core.Logic.{_⊎_, inl, inr, ⊎-map, ⊎-elim}
 use Rattle.machine.specs.Prefixes.{Begins, OneBegins}
 
 module _ {A : Type 0} where
-  -- a list begins what it begins
+  -- a list begins itself with something after it
   pub begins-append : (xs after : List A) → Begins xs (xs ++ after)
   begins-append xs after = record { after = after; whole = refl }
 
@@ -13,9 +13,11 @@ module _ {A : Type 0} where
   pub begins-equal : {xs ys : List A} → xs ≡ ys → Begins xs ys
   begins-equal {xs} e = record { after = []; whole = sym e ∙ sym (append-nil xs) }
 
+  -- a list begins itself
   pub begins-refl : (xs : List A) → Begins xs xs
   begins-refl xs = begins-equal refl
 
+  -- what begins a list begins what that list begins
   pub begins-trans : {xs ys zs : List A} → Begins xs ys → Begins ys zs → Begins xs zs
   begins-trans {xs} b c =
       record { after = b .after ++ c .after; whole = c .whole ∙ (ap (λ l. l ++ c .after) (b .whole) ∙ append-assoc xs (b .after) (c .after)) }

@@ -4,22 +4,22 @@ use native.Mathlib.Nat.{suc-add, zero-add, add-comm}
 use mathlib.Core.Path.{_≡_, refl, sym, ap, subst, _∙_}
 use mathlib.Core.Bool.{Bool, true, false, cond, true≢false}
 use mathlib.Core.Option.{Option, none, some}
-use mathlib.Core.List.{List, [], _∷_, _++_}
+use mathlib.Core.List.{List, [], _∷_}
 use lib.ListN.{length}
 use lib.Dec.{eqb}
 use borrow.Author.Tests.{eq-eqb}
 use Rattle.awhile.specs.Language.{Com}
 use Rattle.machine.specs.Observations.{Observation, branch, readAt, writeAt, observationBytes, shownBytes}
-use Rattle.machine.specs.Prefixes.{Begins, OneBegins}
+use Rattle.machine.specs.Prefixes.{Begins}
 use Rattle.machine.specs.Steps.{State, quietly, atFork, atGet, atPut}
 use Rattle.machine.specs.Look.{Look, quiet, fork, get, put, look}
-use Rattle.machine.specs.Runs.{Room, holds, Guide, plain, guessing, Machine, Next, over, goes, Outcome}
-use Rattle.machine.specs.Runs.{moved, shownIf, shownStep, stepOf, nextOf, next, endNumber, endWithout, run, started}
+use Rattle.machine.specs.Runs.{Room, holds, Guide, plain, guessing, Machine, Next, over, goes}
+use Rattle.machine.specs.Runs.{moved, shownIf, shownStep, stepOf, nextOf, next, endNumber, endWithout, run}
 use Rattle.machine.specs.declared.Directive.{Directive}
 use Rattle.machine.specs.declared.Directive.the-variants.{Step}
 use Rattle.machine.specs.declared.End.{End}
 use Rattle.machine.specs.declared.End.the-variants.{Finished, Spent, OutOfDirectives, Stuck, Full}
-use Rattle.machine.proofs.Prefixes.{begins-append, begins-equal, begins-refl, begins-trans, common-begins}
+use Rattle.machine.proofs.Prefixes.{begins-append, begins-equal, begins-refl, begins-trans}
 
 -- what a next step can be: not taken, for a reason that is not the budget, or one step further with some observations
 pub data Moves {Note : Type 0} (m : Machine Note) : Next Note → Type 0 where
@@ -61,6 +61,7 @@ module _ {Note : Type 0} (m : Machine Note) where
     nextOf-moves [] = ended (ends-differ Finished Spent refl)
     nextOf-moves (c ∷ rest) = stepOf-moves (look c rest (m .state .variables))
 
+    -- what the next step of a machine can be
     pub next-moves : Moves m (next counts room m)
     unfolding next
     next-moves = nextOf-moves (m .state .pending)
@@ -132,7 +133,9 @@ module _ {Note : Type 0} (counts : List ℕ) (room : Room) where
   run-ended k =
       along-run
       (λ n m. (run counts room n m .end ≡ Spent → ⊥) → run counts room (n + k) m ≡ run counts room n m)
-      (λ m h. let empty : m .state .pending ≡ [] = endWithout-nothing (m .state .pending) h in run-nothing (zero + k) m empty ∙ sym (run-nothing zero m empty))
+      (λ m h.
+      let empty : m .state .pending ≡ [] = endWithout-nothing (m .state .pending) h in
+      run-nothing (zero + k) m empty ∙ sym (run-nothing zero m empty))
       (λ n m e eq h. rw suc-add (run-over (n + k) m eq ∙ sym (run-over n m eq)))
       (λ n m m′ eq rest h.
       rw suc-add (run-goes (n + k) m eq ∙ (rest (λ s. h (ap (λ o. o .end) (run-goes n m eq) ∙ s)) ∙ sym (run-goes n m eq))))
@@ -145,7 +148,8 @@ module _ {Note : Type 0} (counts : List ℕ) (room : Room) where
 
   -- a run that was cut by its budget goes on from where it was cut
   pub run-continues :
-      (k n : ℕ) (m : Machine Note) → run counts room n m .end ≡ Spent → run counts room (n + k) m ≡ run counts room k (run counts room n m .machine)
+      (k n : ℕ) (m : Machine Note) → run counts room n m .end ≡ Spent
+      → run counts room (n + k) m ≡ run counts room k (run counts room n m .machine)
   unfolding run
   run-continues k =
       along-run

@@ -1,10 +1,27 @@
 -- Laws of the hardened program, in reading order.
 pub mod Open
 pub mod Examples
+pub mod Decisions
+pub mod Growth
+pub mod Origins
+pub mod ReadBack
 pub mod SameRunSteps
+pub mod SameRunBudgets
 pub mod SameRun
 pub mod Locked
 pub mod Agreement
 pub mod PlainRuns
 pub mod OneStep
 pub mod LockedRuns
+pub mod Security
+pub mod Demands
+pub mod NodeRecords
+pub mod Parts
+pub mod SizeSums
+pub mod Lengths
+pub mod Unnamed
+pub mod Descents
+pub mod Writers
+pub mod Joins
+pub mod ExpressionWrites
+pub mod Masking

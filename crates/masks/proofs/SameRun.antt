@@ -1,243 +1,30 @@
 -- Without guessing, a hardened program runs as the original does.
-use Prim.Native.Nat.{ℕ, zero, suc, _+_, _<_}
-use mathlib.Core.Path.{_≡_, refl, sym, ap, subst, _∙_}
+use Prim.Native.Nat.{ℕ}
+use mathlib.Core.Path.{_≡_, refl, sym, ap, ap₂, subst, _∙_}
 use mathlib.Core.Logic.{_↔_}
-use mathlib.Core.Bool.{Bool, true, false, cond}
-use mathlib.Core.Option.{Option, none, some}
-use mathlib.Core.List.{List, [], _∷_, _++_, append-nil}
-use lib.ListN.{length, getD, set, length-set}
+use mathlib.Core.Bool.{Bool, false}
+use mathlib.Core.Option.{some}
+use mathlib.Core.List.{List, [], _∷_, _++_}
+use lib.ListN.{length, getD}
 use lib.Seq.{getD-at}
-use Rattle.awhile.specs.Language.{Com, noteOf, mapNotes}
-use Rattle.machine.specs.Observations.{Observation, branch, readAt, writeAt}
-use Rattle.machine.specs.Look.{Look, quiet, fork, get, put, look}
-use Rattle.machine.specs.Steps.{State, inside, cellPlace, onlyIf, quietly, turned, loaded, stored, atFork, atGet, atPut}
-use Rattle.machine.specs.Runs.{endless, holds, plain, Machine, Next, over, goes, Outcome}
-use Rattle.machine.specs.Runs.{moved, shownIf, shownStep, stepOf, nextOf, next, endNumber, endWithout, run, started}
-use Rattle.machine.specs.declared.Directive.the-variants.{Step}
+use Rattle.awhile.specs.Language.{Com, skip, assign, sequence, if, while, read, write, mapNotes}
+use Rattle.awhile.specs.Tables.{Table}
+use Rattle.awhile.specs.Trees.{rootOf}
+use Rattle.awhile.specs.declared.Labelling.{Labelling}
+use Rattle.labels.specs.Annotation.{annotate}
+use Rattle.labels.specs.Sheet.{annotated}
+use Rattle.machine.specs.Runs.{Outcome, endless, plain, endNumber, run, started}
 use Rattle.machine.specs.declared.End.{End}
 use Rattle.machine.specs.declared.End.the-variants.{Finished, Spent, Stuck}
-use Rattle.machine.proofs.Runs.{run-over, run-goes, run-nothing, ends-once, ends-differ}
 use Rattle.machine.proofs.Prefixes.{begins-equal}
+use Rattle.machine.proofs.Runs.{ends-once, ends-differ}
 use Rattle.machine.proofs.Notes.{noteOf-mapped, mapPending, mapState, mapMachine, mapOutcome, run-mapped, started-mapped}
-use Rattle.masks.specs.Decisions.{Decision}
-use Rattle.masks.specs.Hardening.{Origin, harden}
+use Rattle.masks.specs.Decisions.{Decision, decide}
+use Rattle.masks.specs.Hardening.{Origin, harden, hardenedProgram}
 use Rattle.masks.specs.SameRun.{AssignsBelow, plainRun, nextNote, AtSome, SameResult, NextIsCopy, SameRun}
-use Rattle.masks.proofs.SameRunSteps.{withFlag, set-withFlag, Silently, now, soon, silently-then, Copies, done, whole, LookCopied, quiets, forks, gets, puts, Ready, nothing, copied, copies-ready}
-
--- a machine that does not guess, between two steps
-abbrev plainAt : {Note : Type 0} → List (Com Note) → (variables cells : List ℕ) → (steps used : ℕ) → List Observation → Machine Note
-plainAt cs vs cells k u os =
-    record { state = record { pending = cs; variables = vs; cells = cells; flag = false }; guide = plain; steps = k; used = u; shown = os }
-
--- the original and the hardened program at corresponding places, perhaps with added commands before the next copy
-data Meets (f : ℕ) : Machine Decision → Machine Origin → Type 0 where
-  meets :
-      {cs : List (Com Decision)} {hs : List (Com Origin)} {vs cells : List ℕ} {k u k′ u′ : ℕ} {os : List Observation}
-      → length vs ≡ f → Silently (withFlag vs) (Ready f vs cs) hs → Meets f (plainAt cs vs cells k u os) (plainAt hs (withFlag vs) cells k′ u′ os)
-
--- the original's pending list, its notes being node numbers
-unfoldable numbers : List (Com Decision) → List (Com ℕ)
-numbers cs = mapPending (λ n. n .node) cs
-
-next-is-copy :
-    (c : Com Decision) (cs : List (Com Decision)) (h : Com Origin) (hs : List (Com Origin)) → noteOf h ≡ some (noteOf c .node)
-    → NextIsCopy (numbers (c ∷ cs)) (h ∷ hs)
-unfolding numbers mapPending nextNote
-next-is-copy c cs h hs note = record { node = noteOf c .node; next = ap some (noteOf-mapped (λ n. n .node) c); copy = ap some note }
-
--- the next steps of both: not taken for one reason, or taken to corresponding places
-data NextCopied (f : ℕ) (m : Machine Decision) (h : Machine Origin) : Next Decision → Next Origin → Type 0 where
-  both-over : {e : End} → (e ≡ Stuck → NextIsCopy (numbers (m .state .pending)) (h .state .pending)) → NextCopied f m h (over e) (over e)
-  both-go : {m′ : Machine Decision} {h′ : Machine Origin} → Meets f m′ h′ → NextCopied f m h (goes m′) (goes h′)
-
-module _ (f : ℕ) (counts : List ℕ) where
-  meets-copies :
-      {cs : List (Com Decision)} {hs : List (Com Origin)} {vs cells : List ℕ} {k u k′ u′ : ℕ} {os : List Observation}
-      → length vs ≡ f → Silently (withFlag vs) (Copies f cs) hs → Meets f (plainAt cs vs cells k u os) (plainAt hs (withFlag vs) cells k′ u′ os)
-  meets-copies {cs} {vs = vs} width s =
-      meets width (silently-then (withFlag vs) (Copies f cs) (Ready f vs cs) (λ hs. copies-ready f vs width {hs = hs}) s)
-
-  module _ (m : Machine Decision) (h : Machine Origin) (copy : NextIsCopy (numbers (m .state .pending)) (h .state .pending)) where
-    shown-copied :
-        (o : Observation) (fits : Bool) (s : State Decision) (s′ : State Origin) → Meets f (moved m s plain 0 (o ∷ [])) (moved h s′ plain 0 (o ∷ []))
-        → NextCopied f m h (shownIf endless m o plain 0 (onlyIf fits s)) (shownIf endless h o plain 0 (onlyIf fits s′))
-    unfolding shownIf onlyIf holds
-    shown-copied o true s s′ meet = both-go meet
-    shown-copied o false s s′ meet = both-over (λ e. copy)
-
-  -- at a copy both programs take the same step, or both do not
-  step-copied :
-      (cs : List (Com Decision)) (hs : List (Com Origin)) (vs cells : List ℕ) (k u k′ u′ : ℕ) (os : List Observation) → length vs ≡ f
-      → NextIsCopy (numbers cs) hs → {l : Look Decision} {l′ : Look Origin} → LookCopied f vs l l′
-      → NextCopied
-      f
-      (plainAt cs vs cells k u os)
-      (plainAt hs (withFlag vs) cells k′ u′ os)
-      (stepOf counts endless (plainAt cs vs cells k u os) l)
-      (stepOf counts endless (plainAt hs (withFlag vs) cells k′ u′ os) l′)
-  unfolding stepOf moved quietly shownStep shownIf holds atFork turned atGet atPut onlyIf loaded stored
-  step-copied cs hs vs cells k u k′ u′ os width copy (quiets e width′ s) = rw e (both-go (meets-copies width′ s))
-  step-copied cs hs vs cells k u k′ u′ os width copy (forks e s) = rw e (both-go (meets-copies width s))
-  step-copied cs hs vs cells k u k′ u′ os width copy (gets {x} {a} {i} e below s) =
-      let v : ℕ = getD cells (cellPlace counts a i) 0 in
-      rw (e, set-withFlag f vs width x v below) (shown-copied _ _ copy (readAt a i) (inside counts a i) _ _ (meets-copies (length-set vs x v ∙ width) (s v)))
-  step-copied cs hs vs cells k u k′ u′ os width copy (puts {a} {i} e e′ s) =
-      rw (e, e′) (shown-copied _ _ copy (writeAt a i) (inside counts a i) _ _ (meets-copies width s))
-
-  ready-copied :
-      {cs : List (Com Decision)} {hs : List (Com Origin)} (vs cells : List ℕ) (k u k′ u′ : ℕ) (os : List Observation) → length vs ≡ f
-      → Ready f vs cs hs
-      → NextCopied
-      f
-      (plainAt cs vs cells k u os)
-      (plainAt hs (withFlag vs) cells k′ u′ os)
-      (next counts endless (plainAt cs vs cells k u os))
-      (next counts endless (plainAt hs (withFlag vs) cells k′ u′ os))
-  unfolding next nextOf endNumber
-  ready-copied vs cells k u k′ u′ os width nothing = both-over (λ e. absurd (ends-differ Finished Stuck refl e))
-  ready-copied vs cells k u k′ u′ os width (copied {c} {cs} {h} {hs} note l) = step-copied (c ∷ cs) (h ∷ hs) vs cells k u k′ u′ os width (next-is-copy c cs h hs note) l
-
-  -- an added command is one silent step of the hardened program alone
-  next-added :
-      (h : Com Origin) (hs hs′ : List (Com Origin)) (vs cells : List ℕ) (k u : ℕ) (os : List Observation) → look h hs vs ≡ quiet hs′ vs
-      → next counts endless (plainAt (h ∷ hs) vs cells k u os) ≡ goes (plainAt hs′ vs cells (k + 1) (u + 0) os)
-  unfolding next nextOf stepOf quietly moved
-  next-added h hs hs′ vs cells k u os e = rw (e, stepOf, append-nil)
-
--- what holds of two runs at corresponding places
-record Paired (f : ℕ) (o : Outcome ℕ) (h : Outcome Origin) : Type 0 where
-  result : SameResult o h
-  width : length (o .machine .state .variables) ≡ f
-  unset : h .machine .state .flag ≡ false
-
-record SameEnd (o : Outcome ℕ) (h : Outcome Origin) : Type 0 where
-  end : h .end ≡ o .end
-  stuck : h .end ≡ Stuck → NextIsCopy (o .machine .state .pending) (h .machine .state .pending)
-
--- the hardened run at a budget against the original's at the right one: the ends agree unless the hardened run was cut
-record Follows (f : ℕ) (o : Outcome ℕ) (h : Outcome Origin) : Type 0 where
-  paired : Paired f o h
-  ended : (h .end ≡ Spent → ⊥) → SameEnd o h
-
--- the other way round, they always agree
-record Leads (f : ℕ) (o : Outcome ℕ) (h : Outcome Origin) : Type 0 where
-  paired : Paired f o h
-  ended : SameEnd o h
-
--- one step earlier
-module _ {Note : Type 0} (counts : List ℕ) (P : Outcome Note → Type 0) (m : Machine Note) where
-  earlier : {m′ : Machine Note} → next counts endless m ≡ goes m′ → AtSome P (λ b. run counts endless b m′) → AtSome P (λ b. run counts endless b m)
-  earlier e later = record { budget = suc (later .budget); holds = subst P (sym (run-goes counts endless (later .budget) m e)) (later .holds) }
-
-numbered : Outcome Decision → Outcome ℕ
-numbered o = mapOutcome (λ n. n .node) o
-
-paired-meets : {f : ℕ} {m : Machine Decision} {h : Machine Origin} (e e′ : End) → Meets f m h → Paired f (numbered (record { end = e; machine = m })) (record { end = e′; machine = h })
-unfolding numbered mapOutcome mapMachine mapState
-paired-meets e e′ (meets width s) =
-    record {
-      result = record { shown = refl; variables = refl; cells = refl };
-      width = width;
-      unset = refl;
-    }
-
-module _ (f : ℕ) (counts : List ℕ) where
-  -- right before a copy, with no budget left: both finished, or both cut
-  leads-zero :
-      {cs : List (Com Decision)} {hs : List (Com Origin)} (vs cells : List ℕ) (k u k′ u′ : ℕ) (os : List Observation) → length vs ≡ f
-      → Ready f vs cs hs
-      → Leads f (numbered (run counts endless 0 (plainAt cs vs cells k u os))) (run counts endless 0 (plainAt hs (withFlag vs) cells k′ u′ os))
-  unfolding run endWithout endNumber numbered numbers mapOutcome mapMachine mapState
-  leads-zero vs cells k u k′ u′ os width nothing =
-      record {
-        paired = paired-meets _ _ (meets width (now nothing));
-        ended = record { end = refl; stuck = λ e. absurd (ends-differ Finished Stuck refl e) };
-      }
-  leads-zero vs cells k u k′ u′ os width (copied {c} {cs} {h} {hs} note l) =
-      record {
-        paired = paired-meets _ _ (meets width (now (copied note l)));
-        ended = record { end = refl; stuck = λ e. next-is-copy c cs h hs note };
-      }
-
-  -- with budget left, where both are over
-  leads-over :
-      (n n′ : ℕ) (m : Machine Decision) (h : Machine Origin) {e : End} → Meets f m h → next counts endless m ≡ over e → next counts endless h ≡ over e
-      → (e ≡ Stuck → NextIsCopy (numbers (m .state .pending)) (h .state .pending))
-      → Leads f (numbered (run counts endless (suc n) m)) (run counts endless (suc n′) h)
-  unfolding numbered numbers mapOutcome mapMachine mapState
-  leads-over n n′ m h {e} meet eq eq′ copy =
-      rw (run-over counts endless n m eq, run-over counts endless n′ h eq′)
-      (record { paired = paired-meets e e meet; ended = record { end = refl; stuck = copy } })
-
-  -- what leads also follows
-  leads-follows : {o : Outcome ℕ} {h : Outcome Origin} → Leads f o h → Follows f o h
-  leads-follows l = record { paired = l .paired; ended = λ e. l .ended }
-
-  -- a run of the hardened program from right before a copy, by the next steps
-  follow-copied :
-      (n : ℕ) (m : Machine Decision) (h : Machine Origin) {x : Next Decision} {y : Next Origin} → Meets f m h → next counts endless m ≡ x
-      → next counts endless h ≡ y → NextCopied f m h x y
-      → ((m′ : Machine Decision) (h′ : Machine Origin) → Meets f m′ h′
-      → AtSome (λ o. Follows f (numbered o) (run counts endless n h′)) (λ b. run counts endless b m′))
-      → AtSome (λ o. Follows f (numbered o) (run counts endless (suc n) h)) (λ b. run counts endless b m)
-  follow-copied n m h meet e e′ (both-over copy) rest = record { budget = 1; holds = leads-follows (leads-over 0 n m h meet e e′ copy) }
-  follow-copied n m h meet e e′ (both-go {m′} {h′} meet′) rest =
-      earlier counts (λ o. Follows f (numbered o) (run counts endless (suc n) h)) m e (rw (run-goes counts endless n h e′) (rest m′ h′ meet′))
-
-  -- for each budget of the hardened program there is one of the original with a corresponding run
-  follow :
-      (n : ℕ) {m : Machine Decision} {h : Machine Origin} → Meets f m h
-      → AtSome (λ o. Follows f (numbered o) (run counts endless n h)) (λ b. run counts endless b m)
-  unfolding run endWithout
-  follow zero (meets width (soon e s)) =
-      record { budget = 0; holds = record { paired = paired-meets _ _ (meets width (soon e s)); ended = λ cut. absurd (cut refl) } }
-  follow zero (meets {vs} {cells} {k} {u} {k′} {u′} {os} width (now r)) =
-      record { budget = 0; holds = leads-follows (leads-zero vs cells k u k′ u′ os width r) }
-  follow (suc n) (meets {cs} {vs} {cells} {k} {u} {k′} {u′} {os} width (soon {h} {hs} {hs′} e s)) =
-      rw
-      (run-goes counts endless n (plainAt (h ∷ hs) (withFlag vs) cells k′ u′ os) (next-added f counts h hs hs′ (withFlag vs) cells k′ u′ os e))
-      (follow n (meets width s))
-  follow (suc n) (meets {vs} {cells} {k} {u} {k′} {u′} {os} width (now r)) =
-      follow-copied n _ _ (meets width (now r)) refl refl (ready-copied f counts vs cells k u k′ u′ os width r) (λ m′ h′. follow n {m = m′} {h = h′})
-
-  -- the other way round, from right before a copy
-  lead-copied :
-      (n : ℕ) (m : Machine Decision) (h : Machine Origin) {x : Next Decision} {y : Next Origin} → Meets f m h → next counts endless m ≡ x
-      → next counts endless h ≡ y → NextCopied f m h x y
-      → ((m′ : Machine Decision) (h′ : Machine Origin) → Meets f m′ h′
-      → AtSome (Leads f (numbered (run counts endless n m′))) (λ b. run counts endless b h′))
-      → AtSome (Leads f (numbered (run counts endless (suc n) m))) (λ b. run counts endless b h)
-  lead-copied n m h meet e e′ (both-over copy) rest = record { budget = 1; holds = leads-over n 0 m h meet e e′ copy }
-  lead-copied n m h meet e e′ (both-go {m′} {h′} meet′) rest =
-      rw (run-goes counts endless n m e) (earlier counts (Leads f (numbered (run counts endless n m′))) h e′ (rest m′ h′ meet′))
-
-  -- what holds at some budget from right before a copy does so with added commands in front
-  lead-silently :
-      (P : Outcome Origin → Type 0) (R : List (Com Origin) → Type 0) (vs cells : List ℕ) (os : List Observation)
-      → ((hs : List (Com Origin)) (k u : ℕ) → R hs → AtSome P (λ b. run counts endless b (plainAt hs vs cells k u os)))
-      → {hs : List (Com Origin)} → Silently vs R hs → (k u : ℕ) → AtSome P (λ b. run counts endless b (plainAt hs vs cells k u os))
-  lead-silently P R vs cells os ready (now {hs} r) k u = ready hs k u r
-  lead-silently P R vs cells os ready (soon {h} {hs} {hs′} e s) k u =
-      earlier counts P _ (next-added f counts h hs hs′ vs cells k u os e) (lead-silently P R vs cells os ready s (k + 1) (u + 0))
-
-  -- for each budget of the original there is one of the hardened program with a corresponding run
-  lead :
-      (n : ℕ) {m : Machine Decision} {h : Machine Origin} → Meets f m h
-      → AtSome (Leads f (numbered (run counts endless n m))) (λ b. run counts endless b h)
-  lead zero (meets {cs} {vs = vs} {cells} {k} {u} {k′} {u′} {os} width s) =
-      lead-silently _ (Ready f vs cs) (withFlag vs) cells os (λ hs k′ u′ r. record { budget = 0; holds = leads-zero vs cells k u k′ u′ os width r }) s k′ u′
-  lead (suc n) (meets {cs} {vs = vs} {cells} {k} {u} {k′} {u′} {os} width s) =
-      lead-silently
-      _
-      (Ready f vs cs)
-      (withFlag vs)
-      cells
-      os
-      (λ hs k′ u′ r.
-      lead-copied n _ _ (meets width (now r)) refl refl (ready-copied f counts vs cells k u k′ u′ os width r) (λ m′ h′. lead n {m = m′} {h = h′}))
-      s
-      k′
-      u′
+use Rattle.masks.proofs.SameRunSteps.{withFlag, now, done, whole}
+use Rattle.masks.proofs.Decisions.{program-decided}
+use Rattle.masks.proofs.SameRunBudgets.{numbered, itself, SameEnd, Follows, Leads, Meets, meets-copies, follow, lead}
 
 -- runs that follow and lead one another are the same run, where the original's end in one way
 module _
@@ -269,7 +56,7 @@ module _
           (once (l .budget) m (not-cut (o (l .budget)) (sym (same .end) ∙ is′)) (not-cut (o m) is))
           (record { paired = l .holds .paired; ended = same })
 
-    same-runs : SameRun f o h
+    same-runs : SameRun f itself o h
     unfolding endNumber
     same-runs =
         record {
@@ -280,38 +67,128 @@ module _
           stuckAt = λ m n is is′. ends-alike Stuck (ends-differ Stuck Spent refl) m n is is′ .ended .stuck is′;
           begins = λ n. record { budget = followed n .budget; holds = begins-equal (followed n .holds .paired .result .shown) };
           begun = λ m. record { budget = led m .budget; holds = begins-equal (sym (led m .holds .paired .result .shown)) };
-          zero =
+          variableFlag =
               λ n.
               ap (λ vs. getD vs f 0) (followed n .holds .paired .result .variables)
               ∙ getD-at (o (followed n .budget) .machine .state .variables) 0 [] 0 f (followed n .holds .paired .width);
-          unset = λ n. followed n .holds .paired .unset;
+          machineFlag = λ n. followed n .holds .paired .unset;
         }
 
+-- the runs of a program with other notes
+plainRun-mapped :
+    {A B : Type 0} (g : A → B) (counts : List ℕ) (c : Com A) (vs cells : List ℕ) (n : ℕ)
+    → plainRun counts (mapNotes g c) vs cells n ≡ mapOutcome g (plainRun counts c vs cells n)
+unfolding plainRun
+plainRun-mapped g counts c vs cells n =
+    ap (run counts endless n) (sym (started-mapped g c vs cells plain)) ∙ run-mapped g counts endless n (started c vs cells plain)
+
 module _ (f : ℕ) (counts : List ℕ) (d : Com Decision) (vs cells : List ℕ) where
+  starts-meet : AssignsBelow f d → length vs ≡ f → Meets f (started d vs cells plain) (started (harden f d) (withFlag vs) cells plain)
+  unfolding started
+  starts-meet below width = meets-copies width (now (whole below done))
+
   -- the original's run is that of the command with the decisions, but for the notes
   original-run : (n : ℕ) → numbered (run counts endless n (started d vs cells plain)) ≡ plainRun counts (mapNotes (λ n. n .node) d) vs cells n
   unfolding numbered plainRun
-  original-run n =
-      sym (run-mapped (λ n. n .node) counts endless n (started d vs cells plain))
-      ∙ ap (run counts endless n) (started-mapped (λ n. n .node) d vs cells plain)
+  original-run n = sym (plainRun-mapped (λ n. n .node) counts d vs cells n)
 
-  start-meets : AssignsBelow f d → length vs ≡ f → Meets f (started d vs cells plain) (started (harden f d) (withFlag vs) cells plain)
-  unfolding started
-  start-meets below width = meets-copies f counts width (now (whole below done))
-
-  -- Without guessing, from flag 0, a hardened program runs as the original does, whatever is masked.
-  pub same-run :
+  -- the same with the notes that hardening gives
+  pub same-run-itself :
       AssignsBelow f d → length vs ≡ f
-      → SameRun f (plainRun counts (mapNotes (λ n. n .node) d) vs cells) (plainRun counts (harden f d) (vs ++ (0 ∷ [])) cells)
+      → SameRun f itself (plainRun counts (mapNotes (λ n. n .node) d) vs cells) (plainRun counts (harden f d) (withFlag vs) cells)
   unfolding plainRun
-  same-run below width =
-      let hardened : ℕ → Outcome Origin = plainRun counts (harden f d) (vs ++ (0 ∷ [])) cells in
+  same-run-itself below width =
+      let hardened : ℕ → Outcome Origin = plainRun counts (harden f d) (withFlag vs) cells in
       same-runs
       f
       (plainRun counts (mapNotes (λ n. n .node) d) vs cells)
       hardened
       (λ m n. ends-once counts endless m n (started (mapNotes (λ n. n .node) d) vs cells plain))
       (λ n.
-      let l = follow f counts n (start-meets below width) in
+      let l = follow f counts n (starts-meet below width) in
       record { budget = l .budget; holds = subst (λ x. Follows f x (hardened n)) (original-run (l .budget)) (l .holds) })
-      (λ m. subst (λ x. AtSome (Leads f x) hardened) (original-run m) (lead f counts m (start-meets below width)))
+      (λ m. subst (λ x. AtSome (Leads f x) hardened) (original-run m) (lead f counts m (starts-meet below width)))
+
+-- a same run does not depend on the notes of the hardened program
+module _ {Note : Type 0} (f : ℕ) (origin : Note → Origin) (o : ℕ → Outcome ℕ) (h : ℕ → Outcome Note) where
+  next-renoted : (cs : List (Com ℕ)) (hs : List (Com Note)) → NextIsCopy itself cs (mapPending origin hs) → NextIsCopy origin cs hs
+  unfolding mapPending nextNote
+  next-renoted cs [] n = record { node = n .node; next = n .next; copy = n .copy }
+  next-renoted cs (h ∷ hs) n = record { node = n .node; next = n .next; copy = sym (ap some (noteOf-mapped origin h)) ∙ n .copy }
+
+  result-renoted : (m n : ℕ) → SameResult (o m) (mapOutcome origin (h n)) → SameResult (o m) (h n)
+  unfolding mapOutcome mapMachine mapState
+  result-renoted m n r = record { shown = r .shown; variables = r .variables; cells = r .cells }
+
+  ends-renoted :
+      (e : End) → AtSome (λ x. x .end ≡ e) o ↔ AtSome (λ x. x .end ≡ e) (λ n. mapOutcome origin (h n))
+      → AtSome (λ x. x .end ≡ e) o ↔ AtSome (λ x. x .end ≡ e) h
+  unfolding mapOutcome
+  ends-renoted e both =
+      ((λ a. record { budget = both .0 a .budget; holds = both .0 a .holds }), (λ a. both .1 (record { budget = a .budget; holds = a .holds })))
+
+  renoted : SameRun f itself o (λ n. mapOutcome origin (h n)) → SameRun f origin o h
+  unfolding mapOutcome mapMachine mapState
+  renoted s =
+      record {
+        finishes = ends-renoted Finished (s .finishes);
+        finished = λ m n is is′. result-renoted m n (s .finished m n is is′);
+        sticks = ends-renoted Stuck (s .sticks);
+        stuck = λ m n is is′. result-renoted m n (s .stuck m n is is′);
+        stuckAt = λ m n is is′. next-renoted _ _ (s .stuckAt m n is is′);
+        begins = s .begins;
+        begun = λ m. record { budget = s .begun m .budget; holds = s .begun m .holds };
+        variableFlag = s .variableFlag;
+        machineFlag = s .machineFlag;
+      }
+
+module _ {Note : Type 0} (origin : Note → Origin) (h : Com Note) (vs cells : List ℕ) where
+  -- Without guessing, from flag 0, a hardened program runs as the original does, whatever is masked.
+  pub same-run :
+      (f : ℕ) (counts : List ℕ) (d : Com Decision) → mapNotes origin h ≡ harden f d → AssignsBelow f d → length vs ≡ f
+      → SameRun f origin (plainRun counts (mapNotes (λ n. n .node) d) vs cells) (plainRun counts h (vs ++ (0 ∷ [])) cells)
+  same-run f counts d hardened below width =
+      renoted
+      f
+      origin
+      (plainRun counts (mapNotes (λ n. n .node) d) vs cells)
+      (plainRun counts h (withFlag vs) cells)
+      (subst
+      (SameRun f itself (plainRun counts (mapNotes (λ n. n .node) d) vs cells))
+      (λ i n. (ap (λ c. plainRun counts c (withFlag vs) cells n) (sym hardened) ∙ plainRun-mapped origin counts h (withFlag vs) cells n) i)
+      (same-run-itself f counts d vs cells below width))
+
+-- what a command assigns does not depend on its notes
+below-mapped : {A B : Type 0} (g : A → B) (f : ℕ) (c : Com A) → AssignsBelow f (mapNotes g c) → AssignsBelow f c
+unfolding mapNotes
+below-mapped g f (skip n) below = below
+below-mapped g f (assign n x e) below = below
+below-mapped g f (sequence n c d) below = (below-mapped g f c (below .0), below-mapped g f d (below .1))
+below-mapped g f (if n b c d) below = (below-mapped g f c (below .0), below-mapped g f d (below .1))
+below-mapped g f (while n b c) below = below-mapped g f c below
+below-mapped g f (read n x a i) below = below
+below-mapped g f (write n a i e) below = below
+
+module _ {Note : Type 0} (origin : Note → Origin) (h : Com Note) (vs cells : List ℕ) where
+  -- The same for a table's program.
+  pub same-run-of-table :
+      (t : Table) → mapNotes origin h ≡ hardenedProgram t → AssignsBelow (t .variables) (rootOf t) → length vs ≡ t .variables
+      → SameRun (t .variables) origin (plainRun (t .counts) (rootOf t) vs cells) (plainRun (t .counts) h (vs ++ (0 ∷ [])) cells)
+  unfolding hardenedProgram annotated
+  same-run-of-table t hardened below width =
+      let d : Com Decision = decide (annotated t) in
+      let program : mapNotes (λ n. n .node) d ≡ rootOf t = program-decided (rootOf t) false (t .labels) in
+      subst
+      (λ p. SameRun (t .variables) origin (plainRun (t .counts) p vs cells) (plainRun (t .counts) h (vs ++ (0 ∷ [])) cells))
+      program
+      (same-run
+      origin
+      h
+      vs
+      cells
+      (t .variables)
+      (t .counts)
+      d
+      hardened
+      (below-mapped (λ n. n .node) (t .variables) d (subst (AssignsBelow (t .variables)) (sym program) below))
+      width)

@@ -1,15 +1,15 @@
 -- One step of a hardened program without guessing, against the step of the original that it copies.
-use Prim.Native.Nat.{ℕ, zero, suc, _+_, _<_}
-use mathlib.Core.Path.{_≡_, refl, sym, ap, ap₂, subst, _∙_}
+use Prim.Native.Nat.{ℕ, zero, suc, _<_}
+use mathlib.Core.Path.{_≡_, refl, ap, _∙_}
 use mathlib.Core.Bool.{Bool, true, false, cond}
-use mathlib.Core.Option.{Option, none, some}
-use mathlib.Core.List.{List, [], _∷_, _++_, append-nil}
+use mathlib.Core.Option.{none, some}
+use mathlib.Core.List.{List, [], _∷_, _++_}
 use lib.ListN.{length, getD, set, length-set}
 use lib.Seq.{getD-at, set-getD, set-append-left}
 use native.Mathlib.Omega.{arith}
-use Rattle.awhile.specs.Language.{AExp, number, variable, add, subtract, multiply, choice, BExp, constant, equal, less, not, and, valueOf, truthOf}
+use Rattle.awhile.specs.Language.{AExp, number, variable, add, subtract, multiply, choice, valueOf}
+use Rattle.awhile.specs.Language.{BExp, constant, equal, less, not, and, truthOf}
 use Rattle.awhile.specs.Language.{Com, skip, assign, sequence, if, while, read, write, noteOf}
-use Rattle.machine.specs.Observations.{Observation}
 use Rattle.machine.specs.Look.{Look, quiet, fork, get, put, look}
 use Rattle.masks.specs.Decisions.{Decision}
 use Rattle.masks.specs.Hardening.{Origin, maskedCondition, zeroIfGuessing, maskedIndex, flagIfTrue, flagIfFalse, maskValueOf, harden}
@@ -20,7 +20,7 @@ abbrev pub withFlag : List ℕ → List ℕ
 withFlag vs = vs ++ (0 ∷ [])
 
 -- A variable that is not there has the value 0, so the flag's 0 at the end changes no value.
-get-withFlag : (vs : List ℕ) (x : ℕ) → getD (withFlag vs) x 0 ≡ getD vs x 0
+pub get-withFlag : (vs : List ℕ) (x : ℕ) → getD (withFlag vs) x 0 ≡ getD vs x 0
 get-withFlag [] zero = refl
 get-withFlag [] (suc x) = refl
 get-withFlag (v ∷ vs) zero = refl
@@ -89,11 +89,16 @@ pub silently-then :
 silently-then vs R Q more (now {hs} r) = more hs r
 silently-then vs R Q more (soon e s) = soon e (silently-then vs R Q more s)
 
--- a loop's copy without the flag update after it
+-- the copies of a command's condition and index
+abbrev conditionCopy : (f : ℕ) → Decision → BExp → BExp
+conditionCopy f n b = maskedCondition f (n .maskCondition) b
+
+abbrev indexCopy : (f : ℕ) → Decision → AExp → AExp
+indexCopy f n i = maskedIndex f (n .maskIndex) i
+
+-- a loop's copy, without the flag update after it
 abbrev loopCopy : (f : ℕ) → Decision → BExp → Com Decision → Com Origin
-loopCopy f n b c =
-    let b′ : BExp = maskedCondition f (n .maskCondition) b in
-    while (some (n .node)) b′ (sequence none (flagIfTrue f b′) (harden f c))
+loopCopy f n b c = while (some (n .node)) (conditionCopy f n b) (sequence none (flagIfTrue f (conditionCopy f n b)) (harden f c))
 
 -- a hardened pending list: each command hardened, or a loop that is under way with the flag update that comes after it
 pub data Copies (f : ℕ) : List (Com Decision) → List (Com Origin) → Type 0 where
@@ -103,7 +108,7 @@ pub data Copies (f : ℕ) : List (Com Decision) → List (Com Origin) → Type 0
       → Copies f (c ∷ cs) (harden f c ∷ hs)
   underway :
       {n : Decision} {b : BExp} {c : Com Decision} {cs : List (Com Decision)} {hs : List (Com Origin)} → AssignsBelow f c → Copies f cs hs
-      → Copies f (while n b c ∷ cs) (loopCopy f n b c ∷ flagIfFalse f (maskedCondition f (n .maskCondition) b) ∷ hs)
+      → Copies f (while n b c ∷ cs) (loopCopy f n b c ∷ flagIfFalse f (conditionCopy f n b) ∷ hs)
 
 -- the hardened program's next step does what the original's does, and its pending list is then, after added commands, a hardened one
 pub data LookCopied (f : ℕ) (vs : List ℕ) : Look Decision → Look Origin → Type 0 where
@@ -127,65 +132,82 @@ pub data Ready (f : ℕ) (vs : List ℕ) : List (Com Decision) → List (Com Ori
       {c : Com Decision} {cs : List (Com Decision)} {h : Com Origin} {hs : List (Com Origin)} → noteOf h ≡ some (noteOf c .node)
       → LookCopied f vs (look c cs vs) (look h hs (withFlag vs)) → Ready f vs (c ∷ cs) (h ∷ hs)
 
-module _ (f : ℕ) (vs : List ℕ) (width : length vs ≡ f) where
-  -- after a branch the added command keeps the flag, since the condition has the value that was shown
+module _ (f : ℕ) (vs : List ℕ) (width : length vs ≡ f) {cs : List (Com Decision)} {hs : List (Com Origin)} (rest : Copies f cs hs) where
+  -- right after a branch its condition has the value that was shown, so the added commands keep the flag
   sides-copied :
-      (b : BExp) (c d : Com Decision) (cs : List (Com Decision)) (hs : List (Com Origin)) → AssignsBelow f c → AssignsBelow f d → Copies f cs hs
-      → (v : Bool) → truthOf b (withFlag vs) ≡ v
+      (b : BExp) (c d : Com Decision) → AssignsBelow f c → AssignsBelow f d → (v : Bool) → truthOf b (withFlag vs) ≡ v
       → Silently
       (withFlag vs)
       (Copies f (cond v (c ∷ cs) (d ∷ cs)))
       (cond v (sequence none (flagIfTrue f b) (harden f c) ∷ hs) (sequence none (flagIfFalse f b) (harden f d) ∷ hs))
   unfolding look
-  sides-copied b c d cs hs below below′ r true e = soon refl (soon (flag-kept-true f vs width _ b e) (now (whole below r)))
-  sides-copied b c d cs hs below below′ r false e = soon refl (soon (flag-kept-false f vs width _ b e) (now (whole below′ r)))
+  sides-copied b c d below below′ true e = soon refl (soon (flag-kept-true f vs width _ b e) (now (whole below rest)))
+  sides-copied b c d below below′ false e = soon refl (soon (flag-kept-false f vs width _ b e) (now (whole below′ rest)))
 
-  loop-copied :
-      (n : Decision) (b : BExp) (c : Com Decision) (cs : List (Com Decision)) (hs : List (Com Origin)) → AssignsBelow f c → Copies f cs hs
-      → (v : Bool) → truthOf (maskedCondition f (n .maskCondition) b) (withFlag vs) ≡ v
-      → Silently
-      (withFlag vs)
-      (Copies f (cond v (c ∷ while n b c ∷ cs) cs))
-      (cond
-      v
-      (sequence none (flagIfTrue f (maskedCondition f (n .maskCondition) b)) (harden f c) ∷ loopCopy f n b c ∷ flagIfFalse f (maskedCondition f (n .maskCondition) b) ∷ hs)
-      (flagIfFalse f (maskedCondition f (n .maskCondition) b) ∷ hs))
-  unfolding look
-  loop-copied n b c cs hs below r true e = soon refl (soon (flag-kept-true f vs width _ _ e) (now (whole below (underway below r))))
-  loop-copied n b c cs hs below r false e = soon (flag-kept-false f vs width _ _ e) (now r)
+  module _ (n : Decision) (b : BExp) (c : Com Decision) (below : AssignsBelow f c) where
+    passes-copied :
+        (v : Bool) → truthOf (conditionCopy f n b) (withFlag vs) ≡ v
+        → Silently
+        (withFlag vs)
+        (Copies f (cond v (c ∷ while n b c ∷ cs) cs))
+        (cond
+        v
+        (sequence none (flagIfTrue f (conditionCopy f n b)) (harden f c) ∷ loopCopy f n b c ∷ flagIfFalse f (conditionCopy f n b) ∷ hs)
+        (flagIfFalse f (conditionCopy f n b) ∷ hs))
+    unfolding look
+    passes-copied true e = soon refl (soon (flag-kept-true f vs width _ _ e) (now (whole below (underway below rest))))
+    passes-copied false e = soon (flag-kept-false f vs width _ _ e) (now rest)
 
-  loop-ready :
-      (n : Decision) (b : BExp) (c : Com Decision) (cs : List (Com Decision)) (hs : List (Com Origin)) → AssignsBelow f c → Copies f cs hs
-      → Ready f vs (while n b c ∷ cs) (loopCopy f n b c ∷ flagIfFalse f (maskedCondition f (n .maskCondition) b) ∷ hs)
-  unfolding look noteOf
-  loop-ready n b c cs hs below r =
-      copied refl (forks (condition-masked f vs width (n .maskCondition) b) (loop-copied n b c cs hs below r (truthOf b vs) (condition-masked f vs width (n .maskCondition) b)))
+    loop-ready : Ready f vs (while n b c ∷ cs) (loopCopy f n b c ∷ flagIfFalse f (conditionCopy f n b) ∷ hs)
+    unfolding look noteOf
+    loop-ready =
+        let value : truthOf (conditionCopy f n b) (withFlag vs) ≡ truthOf b vs = condition-masked f vs width (n .maskCondition) b in
+        copied refl (forks value (passes-copied (truthOf b vs) value))
 
   read-ready :
-      (n : Decision) (x a : ℕ) (i : AExp) (cs : List (Com Decision)) (hs : List (Com Origin)) → x < f → Copies f cs hs → (mask : Bool)
+      (n : Decision) (x a : ℕ) (i : AExp) → x < f → (mask : Bool)
       → Silently
       (withFlag vs)
       (Ready f vs (read n x a i ∷ cs))
       (cond
       mask
-      (sequence none (read (some (n .node)) x a (maskedIndex f (n .maskIndex) i)) (maskValueOf f x))
-      (read (some (n .node)) x a (maskedIndex f (n .maskIndex) i))
+      (sequence none (read (some (n .node)) x a (indexCopy f n i)) (maskValueOf f x))
+      (read (some (n .node)) x a (indexCopy f n i))
       ∷ hs)
   unfolding look noteOf
-  read-ready n x a i cs hs below r true =
-      soon refl (now (copied refl (gets (index-masked f vs width (n .maskIndex) i) below (λ v. soon (value-kept f (set vs x v) (length-set vs x v ∙ width) hs x) (now r)))))
-  read-ready n x a i cs hs below r false =
-      now (copied refl (gets (index-masked f vs width (n .maskIndex) i) below (λ v. now r)))
+  read-ready n x a i below true =
+      soon
+      refl
+      (now
+      (copied
+      refl
+      (gets
+      (index-masked f vs width (n .maskIndex) i)
+      below
+      (λ v. soon (value-kept f (set vs x v) (length-set vs x v ∙ width) hs x) (now rest)))))
+  read-ready n x a i below false = now (copied refl (gets (index-masked f vs width (n .maskIndex) i) below (λ v. now rest)))
 
-  -- before the next copy stand added commands that change nothing
-  pub copies-ready : {cs : List (Com Decision)} {hs : List (Com Origin)} → Copies f cs hs → Silently (withFlag vs) (Ready f vs cs) hs
+  -- a command's hardened form comes, after added commands that change nothing, to its copy
+  whole-ready : (c : Com Decision) → AssignsBelow f c → Silently (withFlag vs) (Ready f vs (c ∷ cs)) (harden f c ∷ hs)
   unfolding harden look noteOf
-  copies-ready done = now nothing
-  copies-ready (whole {c = skip n} below r) = now (copied refl (quiets refl width (now r)))
-  copies-ready (whole {c = assign n x e} below r) = now (copied refl (quiets (ap (set (withFlag vs) x) (value-withFlag e vs) ∙ set-withFlag f vs width x (valueOf e vs) below) (length-set vs x (valueOf e vs) ∙ width) (now r)))
-  copies-ready (whole {c = sequence n c d} below r) = now (copied refl (quiets refl width (now (whole (below .0) (whole (below .1) r)))))
-  copies-ready (whole {c = if n b c d} {cs} {hs} below r) = now (copied refl (forks (condition-masked f vs width (n .maskCondition) b) (sides-copied (maskedCondition f (n .maskCondition) b) c d cs hs (below .0) (below .1) r (truthOf b vs) (condition-masked f vs width (n .maskCondition) b))))
-  copies-ready (whole {c = while n b c} {cs} {hs} below r) = soon refl (now (loop-ready n b c cs hs below r))
-  copies-ready (whole {c = read n x a i} {cs} {hs} below r) = read-ready n x a i cs hs below r (n .maskValue)
-  copies-ready (whole {c = write n a i e} below r) = now (copied refl (puts (index-masked f vs width (n .maskIndex) i) (value-withFlag e vs) (now r)))
-  copies-ready (underway {n} {b} {c} {cs} {hs} below r) = now (loop-ready n b c cs hs below r)
+  whole-ready (skip n) below = now (copied refl (quiets refl width (now rest)))
+  whole-ready (assign n x e) below =
+      let assigned : set (withFlag vs) x (valueOf e (withFlag vs)) ≡ withFlag (set vs x (valueOf e vs)) =
+      ap (set (withFlag vs) x) (value-withFlag e vs) ∙ set-withFlag f vs width x (valueOf e vs) below
+      in
+      now (copied refl (quiets assigned (length-set vs x (valueOf e vs) ∙ width) (now rest)))
+  whole-ready (sequence n c d) below = now (copied refl (quiets refl width (now (whole (below .0) (whole (below .1) rest)))))
+  whole-ready (if n b c d) below =
+      let value : truthOf (conditionCopy f n b) (withFlag vs) ≡ truthOf b vs = condition-masked f vs width (n .maskCondition) b in
+      now (copied refl (forks value (sides-copied (conditionCopy f n b) c d (below .0) (below .1) (truthOf b vs) value)))
+  whole-ready (while n b c) below = soon refl (now (loop-ready n b c below))
+  whole-ready (read n x a i) below = read-ready n x a i below (n .maskValue)
+  whole-ready (write n a i e) below = now (copied refl (puts (index-masked f vs width (n .maskIndex) i) (value-withFlag e vs) (now rest)))
+
+-- before the next copy stand added commands that change nothing
+pub copies-ready :
+    (f : ℕ) (vs : List ℕ) → length vs ≡ f → {cs : List (Com Decision)} {hs : List (Com Origin)} → Copies f cs hs
+    → Silently (withFlag vs) (Ready f vs cs) hs
+copies-ready f vs width done = now nothing
+copies-ready f vs width (whole {c} below rest) = whole-ready f vs width rest c below
+copies-ready f vs width (underway {n} {b} {c} below rest) = now (loop-ready f vs width rest n b c below)

@@ -3,3 +3,11 @@ pub mod Decisions
 pub mod Hardening
 pub mod Covering
 pub mod SameRun
+pub mod Security
+pub mod Growth
+pub mod ReadBack
+pub mod Demands
+pub mod Records
+pub mod Written
+pub mod Sizes
+pub mod InMemory

@@ -4,7 +4,7 @@ use Prim.Native.Nat.{ℕ, _<_}
 use mathlib.Core.Path.{_≡_}
 use mathlib.Core.Logic.{_↔_}
 use mathlib.Core.Bool.{false}
-use mathlib.Core.Option.{Option, none, some}
+use mathlib.Core.Option.{Option, none, some, Option·map}
 use mathlib.Core.List.{List, [], _∷_, _++_}
 use lib.ListN.{getD}
 use Rattle.awhile.specs.Language.{Com, skip, assign, sequence, if, while, read, write, noteOf}
@@ -39,30 +39,34 @@ module _ {Note : Type 0} where
     pub budget : ℕ
     pub holds : P (runs budget)
 
--- the same observations, variables and cells; the hardened program has its flag f = 0 after the original's variables
-pub record SameResult (original : Outcome ℕ) (hardened : Outcome Origin) : Type 0 where
-  pub shown : hardened .machine .shown ≡ original .machine .shown
-  pub variables : hardened .machine .state .variables ≡ original .machine .state .variables ++ (0 ∷ [])
-  pub cells : hardened .machine .state .cells ≡ original .machine .state .cells
+module _ {Note : Type 0} where
+  -- the same observations, variables and cells; the hardened program has its flag f = 0 after the original's variables
+  pub record SameResult (original : Outcome ℕ) (hardened : Outcome Note) : Type 0 where
+    pub shown : hardened .machine .shown ≡ original .machine .shown
+    pub variables : hardened .machine .state .variables ≡ original .machine .state .variables ++ (0 ∷ [])
+    pub cells : hardened .machine .state .cells ≡ original .machine .state .cells
 
--- the hardened program's next command is the copy of the original's
-pub record NextIsCopy (original : List (Com ℕ)) (hardened : List (Com Origin)) : Type 0 where
-  pub node : ℕ
-  pub next : nextNote original ≡ some node
-  pub copy : nextNote hardened ≡ some (some node)
+  -- the hardened program's next command is the copy of the original's
+  pub record NextIsCopy (origin : Note → Origin) (original : List (Com ℕ)) (hardened : List (Com Note)) : Type 0 where
+    pub node : ℕ
+    pub next : nextNote original ≡ some node
+    pub copy : Option·map origin (nextNote hardened) ≡ some (some node)
 
--- the runs of a program and of its hardened form, from corresponding states
-pub record SameRun (f : ℕ) (original : ℕ → Outcome ℕ) (hardened : ℕ → Outcome Origin) : Type 0 where
-  -- one finishes at some budget exactly if the other does, and with the same result
-  pub finishes : AtSome (λ o. o .end ≡ Finished) original ↔ AtSome (λ o. o .end ≡ Finished) hardened
-  pub finished : (m n : ℕ) → original m .end ≡ Finished → hardened n .end ≡ Finished → SameResult (original m) (hardened n)
-  -- one sticks at some budget exactly if the other does, with the same result, and at the copy of the same command
-  pub sticks : AtSome (λ o. o .end ≡ Stuck) original ↔ AtSome (λ o. o .end ≡ Stuck) hardened
-  pub stuck : (m n : ℕ) → original m .end ≡ Stuck → hardened n .end ≡ Stuck → SameResult (original m) (hardened n)
-  pub stuckAt : (m n : ℕ) → original m .end ≡ Stuck → hardened n .end ≡ Stuck → NextIsCopy (original m .machine .state .pending) (hardened n .machine .state .pending)
-  -- what one has shown at any budget begins what the other shows at some budget
-  pub begins : (n : ℕ) → AtSome (λ o. Begins (hardened n .machine .shown) (o .machine .shown)) original
-  pub begun : (m : ℕ) → AtSome (λ o. Begins (original m .machine .shown) (o .machine .shown)) hardened
-  -- at every budget, the program's flag is 0 and the machine's is not set
-  pub zero : (n : ℕ) → getD (hardened n .machine .state .variables) f 0 ≡ 0
-  pub unset : (n : ℕ) → hardened n .machine .state .flag ≡ false
+  -- the runs of a program and of its hardened form, from corresponding states. The hardened commands may carry any notes, such as their
+  -- numbers in its table, that tell their origin.
+  pub record SameRun (f : ℕ) (origin : Note → Origin) (original : ℕ → Outcome ℕ) (hardened : ℕ → Outcome Note) : Type 0 where
+    -- one finishes at some budget exactly if the other does, and with the same result
+    pub finishes : AtSome (λ o. o .end ≡ Finished) original ↔ AtSome (λ o. o .end ≡ Finished) hardened
+    pub finished : (m n : ℕ) → original m .end ≡ Finished → hardened n .end ≡ Finished → SameResult (original m) (hardened n)
+    -- one sticks at some budget exactly if the other does, with the same result, and at the copy of the same command
+    pub sticks : AtSome (λ o. o .end ≡ Stuck) original ↔ AtSome (λ o. o .end ≡ Stuck) hardened
+    pub stuck : (m n : ℕ) → original m .end ≡ Stuck → hardened n .end ≡ Stuck → SameResult (original m) (hardened n)
+    pub stuckAt :
+        (m n : ℕ) → original m .end ≡ Stuck → hardened n .end ≡ Stuck
+        → NextIsCopy origin (original m .machine .state .pending) (hardened n .machine .state .pending)
+    -- what one has shown at any budget begins what the other shows at some budget
+    pub begins : (n : ℕ) → AtSome (λ o. Begins (hardened n .machine .shown) (o .machine .shown)) original
+    pub begun : (m : ℕ) → AtSome (λ o. Begins (original m .machine .shown) (o .machine .shown)) hardened
+    -- at every budget, the program's flag is 0 and the machine's is not set
+    pub variableFlag : (n : ℕ) → getD (hardened n .machine .state .variables) f 0 ≡ 0
+    pub machineFlag : (n : ℕ) → hardened n .machine .state .flag ≡ false

@@ -1,0 +1,106 @@
+-- A hardened table reads back as the hardened program.
+use Prim.Native.Nat.{ℕ, _+_, _*_, _≤_, _<_}
+use native.Mathlib.Numerals.{add-one}
+use native.Mathlib.Omega.{arith}
+use mathlib.Core.Bool.{false}
+use mathlib.Core.Path.{_≡_, refl, sym, ap, subst}
+use mathlib.Core.List.{List, map}
+use lib.ListN.{length, take}
+use lib.Seq.{take-length}
+use Rattle.awhile.specs.Language.{Com}
+use Rattle.awhile.specs.Lists.{sum}
+use Rattle.awhile.specs.Nodes.{sizeOf}
+use Rattle.awhile.specs.Tables.{Table, maxVariables, maxNodes, nodesStart, offsetOf}
+use Rattle.awhile.specs.Trees.{rootOf}
+use Rattle.awhile.specs.Encoding.{nodesOf, tableBytes}
+use Rattle.awhile.specs.WellFormed.{Declared, WellFormed, Within}
+use Rattle.awhile.specs.declared.Labelling.{Labelling}
+use Rattle.awhile.specs.declared.Node.{Node}
+use Rattle.awhile.proofs.Records.{sizes-most}
+use Rattle.awhile.proofs.Reading.{length-tableBytes}
+use Rattle.awhile.proofs.Writing.{written-length, written-root, written-well-formed, written-reads-back}
+use Rattle.awhile.proofs.Ranges.{root-within}
+use Rattle.awhile.proofs.Size.{root-size}
+use Rattle.labels.specs.Sheet.{annotated}
+use Rattle.labels.specs.Labellings.{labelOf}
+use Rattle.labels.proofs.Masks.{bit-above}
+use Rattle.masks.specs.Decisions.{Decision, decide}
+use Rattle.masks.specs.Hardening.{Origin, harden, hardenedProgram, tableOfHardened, hardenedTable}
+use Rattle.masks.specs.Growth.{MasksLargeConditions}
+use Rattle.masks.specs.ReadBack.{ReadsBack}
+use Rattle.masks.proofs.Decisions.{programFor, program-decided}
+use Rattle.masks.proofs.Growth.{hardened-size, hardened-within, nodesOf-mapped, decide-large}
+
+-- one more variable, not secret, may be declared where there is one free
+declared-more : (v : ℕ) (l : Labelling) (counts : List ℕ) → v < maxVariables → Declared v l counts → Declared (v + 1) l counts
+declared-more v l counts free d =
+    record {
+      variablesFit = omega arith;
+      arraysFit = d .arraysFit;
+      variableMaskFits = rw add-one (omega (arith, d .variableMaskFits));
+      arrayMaskFits = d .arrayMaskFits;
+      countsPositive = d .countsPositive;
+      cellsFit = d .cellsFit;
+    }
+
+-- ---- bytes
+-- a table of so many nodes has at most so many bytes
+pub table-size : (t : Table) → length (tableBytes t) ≤ nodesStart (length (t .counts)) + 10 * length (t .nodes)
+unfolding offsetOf
+table-size t =
+    let all : take (length (t .nodes)) (t .nodes) ≡ t .nodes = take-length (t .nodes) in
+    omega (arith, length-tableBytes t, ap (λ ns. sum (map sizeOf ns)) all, sizes-most (t .nodes))
+
+-- ---- the hardened table of any decisions
+module _ (t : Table) (w : WellFormed t) (free : t .variables < maxVariables) (d : Com Decision) (program : programFor d ≡ rootOf t) where
+  abbrev program′ : Com Origin
+  program′ = harden (t .variables) d
+
+  abbrev table′ : Table
+  table′ = tableOfHardened t program′
+
+  within′ : Within (t .variables + 1) (length (t .counts)) program′
+  within′ =
+      hardened-within (t .variables) (length (t .counts)) d
+      (subst (Within (t .variables) (length (t .counts))) (sym program) (root-within t w))
+
+  -- where masked conditions have at least three nodes, at most 8 nodes come out per node put in
+  pub eightfold : MasksLargeConditions d → nodesOf program′ ≤ 8 * length (t .nodes)
+  eightfold large =
+      omega (arith, hardened-size (t .variables) d large, nodesOf-mapped (λ (n : Decision). n .node) d, ap nodesOf program, root-size t w)
+
+  -- as many nodes as the program has
+  pub hardened-nodes : length (table′ .nodes) ≡ nodesOf program′
+  unfolding tableOfHardened
+  hardened-nodes = written-length table′ program′ refl
+
+  module _ (few : nodesOf program′ ≤ maxNodes) where
+    -- it is well-formed
+    pub hardened-well-formed : WellFormed table′
+    unfolding tableOfHardened
+    hardened-well-formed =
+        written-well-formed table′ program′ refl (declared-more (t .variables) (t .labels) (t .counts) free (w .declared)) within′ few
+
+    -- its bytes read back as the hardened program
+    pub hardened-reads-back : ReadsBack t program′ (tableBytes table′) table′
+    unfolding tableOfHardened labelOf
+    hardened-reads-back =
+        record {
+          accepts =
+              written-reads-back table′ program′ refl (declared-more (t .variables) (t .labels) (t .counts) free (w .declared)) within′ few;
+          variables = refl;
+          flagPublic = bit-above (t .variables) (t .labels .variables) (t .variables) (w .declared .variableMaskFits) (omega arith);
+          labels = refl;
+          counts = refl;
+          nodes = refl;
+          root = written-root table′ program′ refl;
+        }
+
+-- the hardened table by the labels is well-formed
+pub hardened-table-well-formed :
+    (t : Table) → WellFormed t → length (t .nodes) ≤ 512 → t .variables < maxVariables → WellFormed (hardenedTable t)
+unfolding hardenedProgram hardenedTable annotated
+hardened-table-well-formed t w small free =
+    let d : Com Decision = decide (annotated t) in
+    let program : programFor d ≡ rootOf t = program-decided (rootOf t) false (t .labels) in
+    hardened-well-formed t w free d program (omega (arith, eightfold t w free d program (decide-large (annotated t))))

@@ -1,0 +1,102 @@
+-- Demand 3 for the hardened program of any decisions that cover the labels.
+use Prim.Native.Nat.{ℕ, suc, _+_, _<_}
+use native.Mathlib.Omega.{arith}
+use mathlib.Core.Bool.{Bool, true, false}
+use mathlib.Core.List.{List, [], _∷_, _++_}
+use mathlib.Core.Path.{_≡_, refl, sym, ap, subst, subst₂, _∙_}
+use lib.ListN.{length, length-append}
+use Rattle.awhile.specs.Language.{Com, mapNotes}
+use Rattle.awhile.specs.Tables.{Table}
+use Rattle.awhile.specs.Trees.{rootOf}
+use Rattle.labels.specs.Rules.{AgreeOn}
+use Rattle.labels.proofs.Order.{⊑-refl}
+use Rattle.machine.specs.Observations.{Observation}
+use Rattle.machine.specs.Steps.{State}
+use Rattle.machine.specs.Runs.{Room, plain, guessing, run, started}
+use Rattle.machine.specs.Prefixes.{Begins, OneBegins}
+use Rattle.machine.specs.declared.Directive.{Directive}
+use Rattle.machine.proofs.Notes.{noNote, programs-without-notes}
+use Rattle.machine.proofs.Prefixes.{beginnings-related, begins-equal}
+use Rattle.machine.proofs.Traces.{trace, run-shows, run-begins}
+use Rattle.masks.specs.Decisions.{Decision}
+use Rattle.masks.specs.Covering.{Covers, AgreeOnArrays}
+use Rattle.masks.specs.Hardening.{Origin, harden}
+use Rattle.masks.specs.SameRun.{AssignsBelow, SameRun, plainRun}
+use Rattle.masks.specs.Security.{plainlyShown, guessingShown, AgreeingStates, ShowsTheSame}
+use Rattle.masks.proofs.Decisions.{programFor}
+use Rattle.masks.proofs.SameRunSteps.{withFlag, get-withFlag, flag-zero}
+use Rattle.masks.proofs.SameRunBudgets.{itself}
+use Rattle.masks.proofs.SameRun.{same-run-itself}
+use Rattle.masks.proofs.Locked.{WellLabelled, nothing, item, Flagged, stateOf, PlainRelated, straight, Locked, steady}
+use Rattle.masks.proofs.LockedRuns.{runs-related}
+
+-- the start of a hardened program, from states that agree
+start-flagged : (t : Table) (vs cs ws ds : List ℕ) → AgreeingStates t vs cs ws ds → Flagged (t .variables) 0 (t .labels) (withFlag vs) (withFlag ws)
+start-flagged t vs cs ws ds a =
+    record {
+      agree = record { at = λ x e. get-withFlag vs x ∙ (a .onVariables .at x e ∙ sym (get-withFlag ws x)) };
+      left = flag-zero (t .variables) vs (a .leftVariables);
+      right = flag-zero (t .variables) ws (a .rightVariables);
+      lengths = length-append vs (0 ∷ []) ∙ (ap (λ (n : ℕ). n + 1) (a .leftVariables ∙ sym (a .rightVariables)) ∙ sym (length-append ws (0 ∷ [])));
+      declared = omega (arith, length-append vs (0 ∷ []), a .leftVariables);
+    }
+
+module _ (t : Table) (d : Com Decision) (program : programFor d ≡ rootOf t) (below : AssignsBelow (t .variables) d) where
+  -- the original's and the hardened program's runs without guessing
+  pub same-from : (vs cs : List ℕ) → length vs ≡ t .variables
+      → SameRun (t .variables) itself (plainRun (t .counts) (rootOf t) vs cs) (plainRun (t .counts) (harden (t .variables) d) (withFlag vs) cs)
+  same-from vs cs width =
+      subst (λ (c : Com ℕ). SameRun (t .variables) itself (plainRun (t .counts) c vs cs) (plainRun (t .counts) (harden (t .variables) d) (withFlag vs) cs)) program
+      (same-run-itself (t .variables) (t .counts) d vs cs below width)
+
+  module _ (vs cs ws ds : List ℕ) (a : AgreeingStates t vs cs ws ds)
+      (plainly : (n m : ℕ) → OneBegins (plainlyShown t vs cs n) (plainlyShown t ws ds m)) where
+    abbrev startOf : List ℕ → List ℕ → State Origin
+    startOf xs ys = stateOf (harden (t .variables) d ∷ []) (withFlag xs) ys false
+
+    -- the hardened program's plain runs are related because the original's are
+    start-related : PlainRelated (t .counts) (startOf vs cs) (startOf ws ds)
+    unfolding plainlyShown plainRun started
+    start-related =
+        record {
+          at = λ n m.
+              subst₂ OneBegins (run-shows (t .counts) n (started (harden (t .variables) d) (withFlag vs) cs plain))
+              (run-shows (t .counts) m (started (harden (t .variables) d) (withFlag ws) ds plain))
+              (beginnings-related (same-from vs cs (a .leftVariables) .begins n .holds) (same-from ws ds (a .rightVariables) .begins m .holds) (plainly _ _));
+        }
+
+    start-locked : Covers d false (t .labels) → Locked (t .counts) (t .variables) (startOf vs cs) (startOf ws ds)
+    start-locked covers =
+        steady false (t .labels) (harden (t .variables) d ∷ []) (withFlag vs) (withFlag ws) cs ds
+        (item d false (t .labels) (⊑-refl (t .labels)) covers below nothing)
+        (start-flagged t vs cs ws ds a)
+        (straight (a .onArrays) (a .leftCells ∙ sym (a .rightCells)) start-related)
+
+    -- guessing runs of the hardened program under one list, with any two budgets and rooms
+    pub hardened-related : Covers d false (t .labels) → (directives : List Directive) (n m : ℕ) (room other : Room)
+        → OneBegins (run (t .counts) room n (started (harden (t .variables) d) (withFlag vs) cs (guessing directives)) .machine .shown)
+        (run (t .counts) other m (started (harden (t .variables) d) (withFlag ws) ds (guessing directives)) .machine .shown)
+    unfolding started
+    hardened-related covers directives n m room other =
+        beginnings-related
+        (run-begins (t .counts) room n (started (harden (t .variables) d) (withFlag vs) cs (guessing directives)))
+        (run-begins (t .counts) other m (started (harden (t .variables) d) (withFlag ws) ds (guessing directives)))
+        (runs-related (t .counts) (t .variables) n m (startOf vs cs) (startOf ws ds) directives (start-locked covers))
+
+  -- DEMAND 3 for any table whose program is the hardened one, for all decisions that cover the labels
+  pub secure-by : (hardened : Table) → hardened .counts ≡ t .counts → mapNotes noNote (rootOf hardened) ≡ mapNotes noNote (harden (t .variables) d)
+      → Covers d false (t .labels) → ShowsTheSame t hardened
+  unfolding guessingShown
+  secure-by hardened counts same covers =
+      record {
+        related = λ vs cs ws ds a plainly directives n m room other.
+            subst₂ OneBegins (sym (shown room n vs cs directives)) (sym (shown other m ws ds directives))
+            (hardened-related vs cs ws ds a plainly covers directives n m room other);
+      }
+    where
+      shown : (room : Room) (n : ℕ) (xs ys : List ℕ) (directives : List Directive)
+          → run (hardened .counts) room n (started (rootOf hardened) (withFlag xs) ys (guessing directives)) .machine .shown
+          ≡ run (t .counts) room n (started (harden (t .variables) d) (withFlag xs) ys (guessing directives)) .machine .shown
+      shown room n xs ys directives =
+          ap (λ (k : List ℕ). run k room n (started (rootOf hardened) (withFlag xs) ys (guessing directives)) .machine .shown) counts
+          ∙ programs-without-notes (t .counts) room n (rootOf hardened) (harden (t .variables) d) (withFlag xs) ys (guessing directives) same .shown
