@@ -1,22 +1,22 @@
 -- The reader's answer, put together from what its parts answer.
 use Prim.Native.Nat.{ℕ, _+_, _-_, _≤_, _<_}
 use native.Mathlib.Omega.{arith}
-use mathlib.Core.Bool.{true, false}
+use mathlib.Core.Bool.{true}
 use mathlib.Core.Path.{_≡_, refl, sym, ap, _∙_}
-use mathlib.Core.List.{List, [], _∷_, _++_, map}
+use mathlib.Core.List.{List, [], map}
 use lib.ListN.{length, getD, take}
 use lib.Seq.{take-length}
 use borrow.Author.Tests.{le-leb, lt-leb}
 use Rattle.awhile.specs.Lists.{sum}
 use Rattle.awhile.specs.Refusals.{Answer, refused, got, andThen}
 use Rattle.awhile.specs.Nodes.{sizeOf, sortOf}
-use Rattle.awhile.specs.Tables.{Header, Table, maxVariables, maxArrays, maxNodes, nodesStart, offsetOf}
+use Rattle.awhile.specs.Tables.{Header, Table, nodesStart, offsetOf}
 use Rattle.awhile.specs.Tables.{readHeader, readLabels, readCounts, readNodes, readRecords}
-use Rattle.awhile.specs.Tables.{rejected, notATree, accepted, inOrder, allInOrder, checkWhole, readTable}
+use Rattle.awhile.specs.Tables.{accepted, allInOrder, checkWhole, readTable}
 use Rattle.awhile.specs.Reader.{headerAs, labelsAs, cellsAs, SortAt, Kept, NodesWalked, stopped, ended, OrderSearched}
-use Rattle.awhile.specs.Index.{tableOf, nodesIn, Indexed, acceptedAs, Answers, isRejected, isNotATree, isAccepted, Declares, Finishes, ReadsOn, ReadsDeclared}
+use Rattle.awhile.specs.Index.{tableOf, nodesIn, acceptedAs, Answers, isRejected, isNotATree, isAccepted, Declares, Finishes, ReadsOn, ReadsDeclared}
 use Rattle.awhile.proofs.Cases.{table-read, table-refused}
-use Rattle.awhile.proofs.Accepted.{HeaderFits, header-fits, CountsFit, counts-fit}
+use Rattle.awhile.proofs.Accepted.{HeaderFits, header-fits, counts-fit}
 use Rattle.awhile.proofs.Searching.{not-all-in-order}
 use Rattle.awhile.specs.declared.Labelling.{Labelling}
 use Rattle.awhile.specs.declared.Sort.{Sort}

@@ -16,7 +16,7 @@ use Rattle.awhile.specs.Lists.{all}
 use Rattle.awhile.specs.Nodes.{Field, form, sortOf, fieldInRange, inRange, fieldSorted, sorted}
 use Rattle.awhile.specs.Nodes.{word as wordField, constant as constantField, variable as variableField, array as arrayField, child as childField}
 use Rattle.awhile.specs.Tables.{maxNodes}
-use Rattle.awhile.specs.Trees.{numeric, truth, command, asNumeric, asTruth, asCommand, treeOf, trees, rootOf}
+use Rattle.awhile.specs.Trees.{numeric, truth, command, asNumeric, asTruth, asCommand, treeOf, rootOf}
 use Rattle.awhile.specs.WellFormed.{WellFormed}
 use Rattle.awhile.specs.Index.{tableOf, nodesIn, nodeIn, treeIn, numericIn, truthIn, commandIn, Indexed}
 use Rattle.awhile.proofs.Lists.{all-head, all-tail}

@@ -30,7 +30,6 @@ use Rattle.awhile.specs.declared.Refusal.{Refusal}
 use Rattle.awhile.specs.declared.Refusal.the-variants.{OutOfRange, WrongSort}
 use Rattle.awhile.specs.declared.checks.Checked.{Checked}
 use Rattle.awhile.specs.declared.checks.Checked.the-variants.{Refused, Passed}
-use Rattle.awhile.specs.declared.walk.NodeRead.{NodeRead}
 use Rattle.awhile.specs.declared.walk.NodeRead.the-variants.{Refused as NodeRefused, Node as NodeGot}
 
 -- a sort that is not the wanted one
