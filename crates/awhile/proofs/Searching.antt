@@ -31,6 +31,7 @@ module _ (uses : List ℕ) (nodes : ℕ) (root : Sort) where
     pub more : n < nodes
     pub once : (i : ℕ) → i < n → getD uses i 0 ≡ 1
 
+  -- one more that is a child exactly once
   pub once-more : (n : ℕ) → UsedOnce n → n < nodes - 1 → getD uses n 0 ≡ 1 → UsedOnce (n + 1)
   once-more n h inside here = record { more = omega arith; once = once }
     where

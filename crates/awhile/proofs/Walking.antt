@@ -77,6 +77,7 @@ module _ (ns : List Node) (m : Node) where
             let last : i ≡ length ns = omega (arith, ltb-false i (length ns) e, length-append ns (m ∷ [])) in
             rw (last, index-here, take-at ns (m ∷ []) (length ns) refl) place
 
+    -- what is kept of one node more
     pub kept-more : (cs : List ℕ) → cs ≡ childrenOf m → allBelow (length uses) cs ≡ true → decodeAt s at ≡ Known m
         → Kept s (set index (length ns) at) (tally uses cs) start (ns ++ (m ∷ []))
     kept-more cs same below d =
@@ -101,6 +102,7 @@ module _ (s : List ℕ) (vs arrs nodes : ℕ) where
     pub children : length (flatMap childrenOf before) ≤ 3 * n
     pub few : n ≤ nodes
 
+  -- before the first node nothing is kept
   pub nodes-start : (index uses : List ℕ) → CountsBelow 1 uses → NodesLeft index uses (nodesStart arrs) 0
   unfolding sum usesOf occurrences flatMap
   nodes-start index uses none =
