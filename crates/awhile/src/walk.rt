@@ -22,6 +22,7 @@ use crate::fields::Fields;
 use crate::reader;
 use crate::uses;
 
+// What reading one node record answers.
 pub enum NodeRead {
     Refused { refusal: Refusal },
     Node { node: Node },
@@ -149,6 +150,7 @@ fn read_node(
     NodeRead::Node { node }
 }
 
+// What reading all node records answers: where the last one ends.
 pub enum NodesRead {
     Refused { refusal: Refusal },
     Nodes { end: usize },

@@ -4,7 +4,7 @@ use mathlib.Core.Path.{sym, _∙_}
 use denote.Ref.{now}
 use borrow.Author.Tests.{not-true, not-false}
 use Rattle.awhile.specs.Reader.{fieldsOf}
-use Rattle.awhile.proofs.Records.{size-most}
+use Rattle.awhile.proofs.Records.{head-fits}
 use Rattle.awhile.proofs.Sorting.{unknown-read, frame-refused-read, range-refused-read, sort-refused-read, node-got-read}
 use borrow.Author.Needs.{needs}
 use Rattle.awhile.proofs.walk.read_node.Statement.{statement}
@@ -37,7 +37,7 @@ size-of-requires : tie.Need-size-of-requires
 size-of-requires c κs = search needs
 
 frame-requires : tie.Need-frame-requires
-frame-requires c κs = omega (arith, c .size-of .ensures, size-most (c .before .before .node .given .0 .0))
+frame-requires c κs = omega (arith, c .size-of .ensures, head-fits (c .before .before .node .given .0 .0))
 
 enum-known-refusal : tie.Need-enum-known-refusal
 enum-known-refusal c = search needs
