@@ -1,12 +1,12 @@
 -- The analysis of a whole program: what it requires is there where the notes are all zero, and what it leaves is what the sheet is written from.
-use Prim.Native.Nat.{ℕ, _-_}
+use Prim.Native.Nat.{ℕ, zero, suc, _-_, _≤_, _<_}
 use mathlib.Core.Bool.{false}
 use mathlib.Core.List.{List}
-use mathlib.Core.Path.{_≡_, sym, ap, _∙_}
+use mathlib.Core.Path.{_≡_, refl, sym, ap, _∙_}
 use native.Mathlib.Omega.{arith}
-use lib.ListN.{length}
+use lib.ListN.{length, getD, replicate, length-replicate}
 use Rattle.bytes_le.proofs.Numbers.{Below}
-use Rattle.awhile.specs.Index.{tableOf, nodesIn, commandIn}
+use Rattle.awhile.specs.Index.{Indexed, tableOf, nodesIn, commandIn}
 use Rattle.awhile.specs.Trees.{rootOf}
 use Rattle.awhile.specs.declared.Labelling.{Labelling}
 use Rattle.awhile.proofs.Index.{indexed-well-formed, indexed-some, indexed-root, indexed-root-sort}
@@ -54,3 +54,20 @@ module _ {table index vs arrs : List ℕ} (bytes : Below 256 table) (h : Fresh t
           room = same-room fresh-room f g (a .fit);
           notes = rw (indexed-root table index bytes (h .indexed), ← e) (a .notes);
         }
+
+-- every element of zeros is zero
+zero-at : (room p : ℕ) → getD {A = ℕ} (replicate room 0) p 0 ≡ 0
+zero-at zero p = refl
+zero-at (suc room) zero = refl
+zero-at (suc room) (suc p) = zero-at room p
+
+-- notes that were just made are all zero
+pub fresh-zeros : {table index : List ℕ} (room : ℕ) → Indexed table index → nodesIn table ≤ room → Fresh table index (replicate room 0) (replicate room 0)
+fresh-zeros room i h =
+    record {
+      indexed = i;
+      variables = rw (length-replicate {A = ℕ} room 0) h;
+      arrays = rw (length-replicate {A = ℕ} room 0) h;
+      noVariables = zero-at room;
+      noArrays = zero-at room;
+    }
