@@ -17,5 +17,7 @@ pub mod Guides
 pub mod ShownSteps
 pub mod NextSteps
 pub mod Effects
+pub mod Stacks
+pub mod Underway
 pub mod Evaluation
 pub mod Actions

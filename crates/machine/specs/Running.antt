@@ -1,0 +1,37 @@
+-- Whole runs as the code has them: what one is asked, and what it leaves in lent bytes.
+use Prim.Native.Nat.{ℕ, _*_, _-_, _≤_, _<_}
+use mathlib.Core.Bool.{Bool}
+use mathlib.Core.Path.{_≡_}
+use mathlib.Core.List.{List}
+use lib.ListN.{length, drop}
+use Rattle.bytes_le.specs.Numbers.{leAt}
+use Rattle.awhile.specs.Trees.{rootOf}
+use Rattle.awhile.specs.Index.{tableOf, nodesIn}
+use Rattle.machine.specs.Observations.{Observation, shownBytes}
+use Rattle.machine.specs.Runs.{Outcome, bytes, run, started}
+use Rattle.machine.specs.Memory.{writtenOver}
+use Rattle.machine.specs.Evaluation.{variablesIn}
+use Rattle.machine.specs.Guiding.{guideOf}
+use Rattle.machine.specs.Stepping.{startState, cellsIn, machineOf, Holds}
+use Rattle.machine.specs.Actions.{CommandAt}
+use Rattle.machine.specs.declared.run.Stopped.{Stopped}
+
+-- the run that is asked for: from the root of the table, with what stands in the lent bytes
+unfoldable pub runOf : (table list : List ℕ) → (guessing : Bool) → (budget : ℕ) → (variables cells observations : List ℕ) → Outcome ℕ
+runOf table list g budget vs cs os =
+    run (tableOf table .counts) (bytes (length os)) budget (started (rootOf (tableOf table)) (variablesIn table vs) (cellsIn table cs) (guideOf g list 0))
+
+-- all is ready for the first step: the root is pending
+pub record Begun (table index starts list : List ℕ) (budget room : ℕ) (variables cells pending : List ℕ) : Type 0 where
+  pub holds : Holds table index starts list budget room startState variables cells pending
+  pub isRoot : leAt 4 pending 0 ≡ nodesIn table - 1
+
+-- what a run has left in the lent bytes when it is over
+pub record StoppedAs (table list : List ℕ) (guessing : Bool) (budget : ℕ) (vs cs ps os vs′ cs′ ps′ os′ : List ℕ) (r : Stopped) : Type 0 where
+  pub seen : List Observation
+  pub isOutcome : runOf table list guessing budget vs cs os ≡ record { end = r .end; machine = machineOf table list guessing (r .state) vs′ cs′ ps′ seen }
+  pub isShown : length (shownBytes seen) ≡ r .state .shown
+  pub observations : os′ ≡ writtenOver (shownBytes seen) os
+  pub few : r .state .pending ≤ nodesIn table
+  pub entries : (j : ℕ) → j < r .state .pending → CommandAt table (leAt 4 ps′ (4 * j))
+  pub beyond : drop (4 * nodesIn table) ps′ ≡ drop (4 * nodesIn table) ps
