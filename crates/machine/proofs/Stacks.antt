@@ -49,8 +49,10 @@ module _ (table : List ℕ) where
       where
         before : (j : ℕ) → j < k + 1 → j ≤ k
         before j less = omega arith
+
         top : (j : ℕ) → j ≡ k → CommandAt table (leAt 4 (sets ps (4 * k) (le 4 n)) (4 * j))
         top j e = rw (e, leAt-stored 4 n ps (4 * k) small room) new
+
         rest : (j : ℕ) → j < k → CommandAt table (leAt 4 (sets ps (4 * k) (le 4 n)) (4 * j))
         rest j below = rw (leAt-outside 4 (le 4 n) ps (4 * k) (4 * j) (inl (omega arith))) (old j below)
 

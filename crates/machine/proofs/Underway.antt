@@ -210,6 +210,10 @@ module _ (table index starts list : List ℕ) (guessing : Bool) (budget : ℕ) (
         → whole ≡ record { end = e; machine = machineOf table list guessing st vs cs ps (u .seen) }
     underway-over e ends = sym (u .left) ∙ ends .isRun (u .seen) (u .isShown)
 
+    -- the buffer is as long as it was
+    pub underway-room : length os ≡ length os₀
+    underway-room = rw (u .written) (length-written (shownBytes (u .seen)) os₀ (omega (arith, u .isShown, u .holds .shownFit)))
+
     few-nodes : nodesIn table ≤ 4096
     few-nodes = indexed-few table index bytes-below (u .holds .indexed)
 
@@ -240,7 +244,7 @@ module _ (table index starts list : List ℕ) (guessing : Bool) (budget : ℕ) (
 
       -- what is shown fits the buffer
       pub show-fits : st .shown + length (seenBytes seen) ≤ length os
-      show-fits = rw (← seen-bytes seen, u .written, length-written (shownBytes (u .seen)) os₀ (omega (arith, u .isShown, u .holds .shownFit))) (omega (arith, adv .isShown, adv .shownFit))
+      show-fits = rw (← seen-bytes seen, underway-room) (omega (arith, adv .isShown, adv .shownFit))
 
       left-after : (m : Machine ℕ) → m ≡ stepped → run (tableOf table .counts) (bytes (length os₀)) (budget - after .steps) m ≡ whole
       left-after m e =
@@ -259,9 +263,9 @@ module _ (table index starts list : List ℕ) (guessing : Bool) (budget : ℕ) (
         machine-after =
             let m : Machine ℕ = machineOf table list guessing st vs cs ps (u .seen) in
             let state =
-                changed-state table c (pendingOf table ps rest) m (after .flag) (pendingOf table ps′ (after .pending)) (variablesIn table vs′) (cellsIn table cs′) pending-after
-                (rw (p .variables) (changed-variables table c vs m (adv .fits) (p .word) (u .holds .variablesLong) (pendingOf table ps rest) (after .flag) refl))
-                (rw (p .cells) (changed-cells table c cs m (adv .fits) (p .word) (u .holds .cellsLong) (pendingOf table ps rest) (after .flag) refl)) in
+            changed-state table c (pendingOf table ps rest) m (after .flag) (pendingOf table ps′ (after .pending)) (variablesIn table vs′) (cellsIn table cs′) pending-after
+            (rw (p .variables) (changed-variables table c vs m (adv .fits) (p .word) (u .holds .variablesLong) (pendingOf table ps rest) (after .flag) refl))
+            (rw (p .cells) (changed-cells table c cs m (adv .fits) (p .word) (u .holds .cellsLong) (pendingOf table ps rest) (after .flag) refl)) in
             λ i. record { state = state i; guide = guideOf guessing list (after .at); steps = after .steps; used = after .used; shown = u .seen ++ seenList seen }
 
         holds-after : Holds table index starts list budget (length os₀) after vs′ cs′ ps′

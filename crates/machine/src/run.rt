@@ -1,8 +1,10 @@
 // Whole runs, of either machine.
-use crate::memory::{perform, show};
-use crate::state::MachineState;
-use crate::step::{next_step, Next};
 use crate::End;
+use crate::memory::perform;
+use crate::memory::show;
+use crate::state::MachineState;
+use crate::step::Next;
+use crate::step::next_step;
 ghost use lib.ListN.{length};
 ghost use Rattle.machine.specs.Stepping.{startState, Holds};
 ghost use Rattle.machine.specs.Running.{Begun, StoppedAs};
@@ -34,12 +36,28 @@ fn go_on(
     let room = observations.len();
     let mut state = MachineState::start();
     loop {
-        let next = next_step(table, index, starts, directives, guessing, &*variables, &*cells, &*pending, room, budget, state);
+        let next = next_step(
+            table,
+            index,
+            starts,
+            directives,
+            guessing,
+            &*variables,
+            &*cells,
+            &*pending,
+            room,
+            budget,
+            state,
+        );
         match next {
             Next::Over { end } => {
                 return Stopped { end, state };
             }
-            Next::Goes { change, seen, state: after } => {
+            Next::Goes {
+                change,
+                seen,
+                state: after,
+            } => {
                 let at = state.shown;
                 let rest = state.pending - 1;
                 show(&mut *observations, at, seen);

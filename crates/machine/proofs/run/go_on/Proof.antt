@@ -1,79 +1,99 @@
+-- The run goes on until one of the five ends: what is left to run is always the whole run.
+use Prim.Native.Nat.{_-_}
+use native.Mathlib.Omega.{arith}
+use mathlib.Core.Path.{_≡_}
+use denote.Ref.{now}
+use borrow.Author.Needs.{needs}
+use lib.ListN.{length}
+use Rattle.bytes_le.proofs.Numbers.{Below, slice-bytes}
+use Rattle.machine.specs.Stepping.{Ends, Advances}
+use Rattle.machine.specs.Running.{runOf}
+use Rattle.machine.specs.declared.End.{End}
+use Rattle.machine.specs.declared.action.Change.{Change}
+use Rattle.machine.specs.declared.state.MachineState.{MachineState}
+use Rattle.machine.specs.declared.step.Seen.{Seen}
+use Rattle.machine.specs.declared.step.Next.the-variants.{Over, Goes}
+use Rattle.machine.proofs.Underway.{Underway, underway-start, underway-over, underway-next, underway-room, perform-fits, show-fits}
 use Rattle.machine.proofs.run.go_on.Statement.{statement}
 use Rattle.machine.proofs.run.go_on.Tie as tie
-use Rattle.machine.proofs.run.go_on.Reads as reads
-use Rattle.machine.proofs.run.go_on.Lts as lts
-use Rattle.machine.proofs.memory.perform.Reads as perform-reads
-use Rattle.machine.proofs.memory.show.Reads as show-reads
-use Rattle.machine.proofs.state.MachineState.start.Reads as start-reads
-use Rattle.machine.proofs.step.next_step.Reads as next-step-reads
 
 abbrev Inv-loop : tie.InvT-loop
 Inv-loop table index starts directives guessing variables₀ cells₀ pending₀ observations₀ budget room state₀ variables cells pending observations state =
-    ?
+    Underway table index starts directives guessing budget (runOf table directives guessing budget variables₀ cells₀ observations₀) pending₀ observations₀ state variables cells pending observations
 
 abbrev μ-loop : tie.MeasureT-loop
 μ-loop table index starts directives guessing variables₀ cells₀ pending₀ observations₀ budget room state₀ variables cells pending observations state =
-    ?
+    budget - state .steps
 
--- src/run.rt:35:9
+-- what the next step is, by cases
+module _ (n : tie.After-next-step Inv-loop μ-loop) where
+  bytes : Below 256 (now (n .before .before .before .before .before .before .before .before .before .before .before .before .before .before .args .table))
+  bytes = slice-bytes (now (n .before .before .before .before .before .before .before .before .before .before .before .before .before .before .args .table)) (n .before .before .before .before .before .before .before .before .before .before .before .before .before .shared-slice-known .given)
+
+  ends : (e : End) → n .next-step .result ≡ Over e → Ends (now (n .before .before .before .before .before .before .before .before .before .before .before .before .before .before .args .table)) (now (n .before .before .before .before .before .before .before .before .before .before .before .before .before .before .args .directives)) (n .before .before .before .before .before .before .before .before .before .before .before .before .before .before .args .guessing) (n .before .before .before .before .before .before .before .before .before .before .before .before .before .before .args .budget) (length (now (n .before .before .before .before .before .before .before .before .before .before .before .before .before .before .args .observations))) (n .before .before .before .before .loop .state) (n .before .before .before .before .loop .variables) (n .before .before .before .before .loop .cells) (n .before .before .before .before .loop .pending) e
+  ends e is = rw is at (n .next-step .ensures)
+
+  advances : (c : Change) (seen : Seen) (after : MachineState) → n .next-step .result ≡ Goes c seen after → Advances (now (n .before .before .before .before .before .before .before .before .before .before .before .before .before .before .args .table)) (now (n .before .before .before .before .before .before .before .before .before .before .before .before .before .before .args .directives)) (n .before .before .before .before .before .before .before .before .before .before .before .before .before .before .args .guessing) (n .before .before .before .before .before .before .before .before .before .before .before .before .before .before .args .budget) (length (now (n .before .before .before .before .before .before .before .before .before .before .before .before .before .before .args .observations))) (n .before .before .before .before .loop .state) (n .before .before .before .before .loop .variables) (n .before .before .before .before .loop .cells) (n .before .before .before .before .loop .pending) c seen after
+  advances c seen after is = rw is at (n .next-step .ensures)
+
 start-requires : tie.Need-start-requires Inv-loop μ-loop
-start-requires c κs = ?
+start-requires c κs = search needs
 
--- src/run.rt:36:5
 loop-holds : tie.Need-loop-holds Inv-loop μ-loop
-loop-holds c = ?
+loop-holds c = rw (c .start .ensures) (underway-start _ _ _ _ _ _ (slice-bytes _ (c .before .before .before .before .before .before .before .before .shared-slice-known .given)) _ _ _ _ (c .before .before .before .before .before .before .before .before .before .pre))
 
--- src/run.rt:37:13
 next-step-requires : tie.Need-next-step-requires Inv-loop μ-loop
-next-step-requires c κs = ?
+next-step-requires c κs = c .before .before .before .loop .inv .holds
 
--- src/run.rt:39:26
 enum-known-next : tie.Need-enum-known-next Inv-loop μ-loop
-enum-known-next c = ?
+enum-known-next c = search needs
 
--- src/run.rt:40:17
 same-length : tie.Need-same-length Inv-loop μ-loop
-same-length c = ?
+same-length c = omega (arith, c .before .before .before .before .before .before .before .loop .inv .holds .variablesLong, c .before .before .before .before .before .before .before .before .before .before .before .before .before .before .before .before .before .pre .holds .variablesLong)
 
--- src/run.rt:40:17
 same-length-2 : tie.Need-same-length-2 Inv-loop μ-loop
-same-length-2 c = ?
+same-length-2 c = omega (arith, c .before .before .before .before .before .before .before .loop .inv .holds .cellsLong, c .before .before .before .before .before .before .before .before .before .before .before .before .before .before .before .before .before .pre .holds .cellsLong)
 
--- src/run.rt:40:17
 same-length-3 : tie.Need-same-length-3 Inv-loop μ-loop
-same-length-3 c = ?
+same-length-3 c = c .before .before .before .before .before .before .before .loop .inv .same
 
--- src/run.rt:40:17
 same-length-4 : tie.Need-same-length-4 Inv-loop μ-loop
-same-length-4 c = ?
+same-length-4 c = underway-room _ _ _ _ _ _ (bytes (c .before .before .before)) _ _ _ _ _ _ _ _ (c .before .before .before .before .before .before .before .loop .inv)
 
--- src/run.rt:40:17
 returns : tie.Need-returns Inv-loop μ-loop
-returns c = ?
+returns c =
+    let u = c .before .before .before .before .before .before .before .loop .inv in
+    record {
+      seen = u .seen;
+      isOutcome = underway-over _ _ _ _ _ _ (bytes (c .before .before .before)) _ _ _ _ _ _ _ _ u _ (ends (c .before .before .before) _ (c .before .next .given .1));
+      isShown = u .isShown;
+      observations = u .written;
+      few = u .holds .few;
+      entries = u .holds .entries;
+      beyond = u .beyond;
+    }
 
--- src/run.rt:42:26
 enum-known-next-2 : tie.Need-enum-known-next-2 Inv-loop μ-loop
-enum-known-next-2 c = ?
+enum-known-next-2 c = search needs
 
--- src/run.rt:44:28
 sub-rest : tie.Need-sub-rest Inv-loop μ-loop
-sub-rest c = ?
+sub-rest c = advances (c .before .before .before .before) _ _ _ (c .before .before .next2 .given .1) .some
 
--- src/run.rt:45:17
 show-requires : tie.Need-show-requires Inv-loop μ-loop
-show-requires c κs = ?
+show-requires c κs = show-fits _ _ _ _ _ _ (bytes (c .before .before .before .before .before)) _ _ _ _ _ _ _ _ (c .before .before .before .before .before .before .before .before .before .loop .inv) _ _ _ (advances (c .before .before .before .before .before) _ _ _ (c .before .before .before .next2 .given .1))
 
--- src/run.rt:46:17
 perform-requires : tie.Need-perform-requires Inv-loop μ-loop
-perform-requires c κs = ?
+perform-requires c κs = perform-fits _ _ _ _ _ _ (bytes (c .before .before .before .before .before .before .before .before .before .before .before)) _ _ _ _ _ _ _ _ (c .before .before .before .before .before .before .before .before .before .before .before .before .before .before .before .loop .inv) _ _ _ (advances (c .before .before .before .before .before .before .before .before .before .before .before) _ _ _ (c .before .before .before .before .before .before .before .before .before .next2 .given .1))
 
--- src/run.rt:36:5
 loop-less : tie.Need-loop-less Inv-loop μ-loop
-loop-less c = ?
+loop-less c =
+    let adv = advances (c .before .before .before .before .before .before .before .before .before .before .before .before .before .before .before .before .before .before) _ _ _ (c .before .before .before .before .before .before .before .before .before .before .before .before .before .before .before .before .next2 .given .1) in
+    omega (arith, adv .isSteps, adv .stepsFit)
 
--- src/run.rt:36:5
 loop-again : tie.Need-loop-again Inv-loop μ-loop
-loop-again c = ?
+loop-again c =
+    underway-next _ _ _ _ _ _ (bytes (c .before .before .before .before .before .before .before .before .before .before .before .before .before .before .before .before .before .before)) _ _ _ _ _ _ _ _ (c .before .before .before .before .before .before .before .before .before .before .before .before .before .before .before .before .before .before .before .before .before .before .loop .inv) _ _ _ (advances (c .before .before .before .before .before .before .before .before .before .before .before .before .before .before .before .before .before .before) _ _ _ (c .before .before .before .before .before .before .before .before .before .before .before .before .before .before .before .before .next2 .given .1)) _ _ _ _
+    (c .before .before .before .before .before .before .perform .ensures) (c .before .before .before .before .before .before .before .before .before .before .before .before .show .ensures)
 
 pub go-on-spec : {M : Type 1} → statement M
 go-on-spec =
