@@ -19,5 +19,7 @@ pub mod NextSteps
 pub mod Effects
 pub mod Stacks
 pub mod Underway
+pub mod Leavings
+pub mod WholeRuns
 pub mod Evaluation
 pub mod Actions

@@ -1,20 +1,23 @@
 -- Whole runs as the code has them: what one is asked, and what it leaves in lent bytes.
 use Prim.Native.Nat.{ℕ, _*_, _-_, _≤_, _<_}
-use mathlib.Core.Bool.{Bool}
+use mathlib.Core.Bool.{Bool, cond}
 use mathlib.Core.Path.{_≡_}
 use mathlib.Core.List.{List}
 use lib.ListN.{length, drop}
-use Rattle.bytes_le.specs.Numbers.{leAt}
+use lib.Dec.{eqb}
+use Rattle.bytes_le.specs.Numbers.{leAt, words}
+use Rattle.awhile.specs.Lists.{sum}
 use Rattle.awhile.specs.Trees.{rootOf}
-use Rattle.awhile.specs.Index.{tableOf, nodesIn}
+use Rattle.awhile.specs.Index.{Indexed, tableOf, nodesIn}
 use Rattle.machine.specs.Observations.{Observation, shownBytes}
 use Rattle.machine.specs.Runs.{Outcome, bytes, run, started}
-use Rattle.machine.specs.Memory.{writtenOver}
+use Rattle.machine.specs.Memory.{pendingAfter, writtenOver, nextNode}
 use Rattle.machine.specs.Evaluation.{variablesIn}
-use Rattle.machine.specs.Guiding.{guideOf}
+use Rattle.machine.specs.Guiding.{Readable, guideOf}
 use Rattle.machine.specs.Stepping.{startState, cellsIn, machineOf, Holds}
 use Rattle.machine.specs.Actions.{CommandAt}
 use Rattle.machine.specs.declared.run.Stopped.{Stopped}
+use Rattle.machine.specs.declared.run.Report.{Report}
 
 -- the run that is asked for: from the root of the table, with what stands in the lent bytes
 unfoldable pub runOf : (table list : List ℕ) → (guessing : Bool) → (budget : ℕ) → (variables cells observations : List ℕ) → Outcome ℕ
@@ -35,3 +38,41 @@ pub record StoppedAs (table list : List ℕ) (guessing : Bool) (budget : ℕ) (v
   pub few : r .state .pending ≤ nodesIn table
   pub entries : (j : ℕ) → j < r .state .pending → CommandAt table (leAt 4 ps′ (4 * j))
   pub beyond : drop (4 * nodesIn table) ps′ ≡ drop (4 * nodesIn table) ps
+
+-- the word of the next node
+unfoldable pub nextWord : (pending : List ℕ) → (count : ℕ) → ℕ
+nextWord ps count = cond (eqb count 0) 0 (leAt 4 ps (4 * (count - 1)))
+
+unfoldable pub reported : Stopped → (nextNumber : ℕ) → Report
+reported s n =
+    record { end = s .end; steps = s .state .steps; used = s .state .used; shown = s .state .shown; flag = s .state .flag; next = n }
+
+-- the numbers of a run's outcome
+unfoldable pub reportOf : Outcome ℕ → Report
+reportOf o =
+    record {
+      end = o .end;
+      steps = o .machine .steps;
+      used = o .machine .used;
+      shown = length (shownBytes (o .machine .shown));
+      flag = o .machine .state .flag;
+      next = nextNode (o .machine .state .pending);
+    }
+
+-- what a run is asked: a table that was read, a directive list that reads, and slices of the right lengths
+pub record RunAsked (table index list : List ℕ) (arrays nodes : ℕ) (variables cells pending : List ℕ) : Type 0 where
+  pub indexed : Indexed table index
+  pub isArrays : arrays ≡ length (tableOf table .counts)
+  pub isNodes : nodes ≡ nodesIn table
+  pub readable : Readable list 0
+  pub variablesLong : length variables ≡ 4 * tableOf table .variables
+  pub cellsLong : length cells ≡ 4 * sum (tableOf table .counts)
+  pub pendingLong : 4 * nodes ≤ length pending
+
+-- what a run leaves in the lent slices, and its report
+pub record RunLeaves (o : Outcome ℕ) (nodes : ℕ) (ps os vs′ cs′ ps′ os′ : List ℕ) (r : Report) : Type 0 where
+  pub variables : vs′ ≡ words (o .machine .state .variables)
+  pub cells : cs′ ≡ words (o .machine .state .cells)
+  pub pending : ps′ ≡ pendingAfter nodes (o .machine .state .pending) ps
+  pub observations : os′ ≡ writtenOver (shownBytes (o .machine .shown)) os
+  pub report : r ≡ reportOf o
