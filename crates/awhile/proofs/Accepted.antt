@@ -128,20 +128,25 @@ module _ (s : List ℕ) where
       ≡ got h → HeaderFits h
   header-test h version variables arrays nodes e =
       let read : Header = record { variables = variables; arrays = arrays; nodes = nodes } in
-      let test = check-test (BeyondLimit 0) (eqb version 1 && leb variables maxVariables && leb arrays maxArrays && ltb 0 nodes && leb nodes maxNodes) (got read) h e in
-      let same : read ≡ h = got-same read h (check-rest (BeyondLimit 0) (eqb version 1 && leb variables maxVariables && leb arrays maxArrays && ltb 0 nodes && leb nodes maxNodes) (got read) h e) in
-      let four = and-first (eqb version 1 && leb variables maxVariables && leb arrays maxArrays && ltb 0 nodes) (leb nodes maxNodes) test in
-      let three = and-first (eqb version 1 && leb variables maxVariables && leb arrays maxArrays) (ltb 0 nodes) four in
-      let two = and-first (eqb version 1 && leb variables maxVariables) (leb arrays maxArrays) three in
+      let two : Bool = eqb version 1 && leb variables maxVariables in
+      let three : Bool = two && leb arrays maxArrays in
+      let four : Bool = three && ltb 0 nodes in
+      let all : Bool = four && leb nodes maxNodes in
+      let test : all ≡ true = check-test (BeyondLimit 0) all (got read) h e in
+      let same : read ≡ h = got-same read h (check-rest (BeyondLimit 0) all (got read) h e) in
+      let toFour : four ≡ true = and-first four (leb nodes maxNodes) test in
+      let toThree : three ≡ true = and-first three (ltb 0 nodes) toFour in
+      let toTwo : two ≡ true = and-first two (leb arrays maxArrays) toThree in
       rw (← same)
       (record {
-        variablesFit = leb-true variables maxVariables (and-second (eqb version 1) (leb variables maxVariables) two);
-        arraysFit = leb-true arrays maxArrays (and-second (eqb version 1 && leb variables maxVariables) (leb arrays maxArrays) three);
-        hasNodes = ltb-true 0 nodes (and-second (eqb version 1 && leb variables maxVariables && leb arrays maxArrays) (ltb 0 nodes) four);
-        nodesFit = leb-true nodes maxNodes (and-second (eqb version 1 && leb variables maxVariables && leb arrays maxArrays && ltb 0 nodes) (leb nodes maxNodes) test);
+        variablesFit = leb-true variables maxVariables (and-second (eqb version 1) (leb variables maxVariables) toTwo);
+        arraysFit = leb-true arrays maxArrays (and-second two (leb arrays maxArrays) toThree);
+        hasNodes = ltb-true 0 nodes (and-second three (ltb 0 nodes) toFour);
+        nodesFit = leb-true nodes maxNodes (and-second four (leb nodes maxNodes) test);
       })
 
-  header-fits : (h : Header) → readHeader s ≡ got h → HeaderFits h
+  -- a header that was read is within the limits
+  pub header-fits : (h : Header) → readHeader s ≡ got h → HeaderFits h
   unfolding readHeader
   header-fits h e = header-test h (leAt 2 s 4) (leAt 1 s 6) (leAt 1 s 7) (leAt 2 s 8) (framed-rest s 0 (lengthOfKind 1 headerSize s 0) _ h e)
 
@@ -166,11 +171,11 @@ module _ (s : List ℕ) where
       })
 
   -- ---- the arrays
-  record CountFits (before n : ℕ) : Type 0 where
-    positive : 0 < n
-    total : before + n ≤ maxCells
+  pub record CountFits (before n : ℕ) : Type 0 where
+    pub positive : 0 < n
+    pub total : before + n ≤ maxCells
 
-  count-fits : (at before n : ℕ) → readCount s at before ≡ got n → CountFits before n
+  pub count-fits : (at before n : ℕ) → readCount s at before ≡ got n → CountFits before n
   unfolding readCount
   count-fits at before n e =
       let read : ℕ = leAt 2 s (at + 4) in
@@ -184,10 +189,10 @@ module _ (s : List ℕ) where
       })
 
   -- the counts read after others: so many, each positive, within the sum
-  record CountsFit (left : ℕ) (before counts : List ℕ) : Type 0 where
-    more : List ℕ
-    whole : counts ≡ before ++ more
-    counted : length more ≡ left
+  pub record CountsFit (left : ℕ) (before counts : List ℕ) : Type 0 where
+    pub more : List ℕ
+    pub whole : counts ≡ before ++ more
+    pub counted : length more ≡ left
     positive : (i : ℕ) → i < length more → 0 < getD more i 0
     total : sum before + sum more ≤ maxCells
 
@@ -215,7 +220,7 @@ module _ (s : List ℕ) where
       positive zero inside = first .positive
       positive (suc i) inside = rest .positive i (omega arith)
 
-  counts-fit : (left at : ℕ) (before counts : List ℕ) → sum before ≤ maxCells → readCounts left s at before ≡ got counts → CountsFit left before counts
+  pub counts-fit : (left at : ℕ) (before counts : List ℕ) → sum before ≤ maxCells → readCounts left s at before ≡ got counts → CountsFit left before counts
   unfolding readCounts sum
   counts-fit zero at before counts small e =
       record {
@@ -235,9 +240,9 @@ module _ (s : List ℕ) where
   -- ---- the nodes
   module _ (bytes : Below 256 s) (h : Header) where
     -- a node that was read fits, and its record stands there
-    record NodeRead (at : ℕ) (before : List Node) (n : Node) : Type 0 where
-      fits : NodeFits (h .variables) (h .arrays) before n
-      there : NodeAt s at n
+    pub record NodeRead (at : ℕ) (before : List Node) (n : Node) : Type 0 where
+      pub fits : NodeFits (h .variables) (h .arrays) before n
+      pub there : NodeAt s at n
 
     known-read : (at : ℕ) (before : List Node) (m n : Node) → decodeAt s at ≡ Known m
         → framed s at (sizeOf m) (check (inRange (h .variables) (h .arrays) (length before) m) (OutOfRange at) (check (sorted before m) (WrongSort at) (got m))) ≡ got n
@@ -261,7 +266,7 @@ module _ (s : List ℕ) where
           there = record { isLength = passed .isLength; decoded = d; inside = passed .inside };
         })
 
-    node-read : (at : ℕ) (before : List Node) (n : Node) → readNode h s at before ≡ got n → NodeRead at before n
+    pub node-read : (at : ℕ) (before : List Node) (n : Node) → readNode h s at before ≡ got n → NodeRead at before n
     node-read at before n e = go (decodeAt s at) refl
       where
         go : (d : Decoded) → decodeAt s at ≡ d → NodeRead at before n
@@ -283,7 +288,8 @@ module _ (s : List ℕ) where
         go (refused r) f = absurd (refused-got r nodes (sym (nodes-refused s at h before left r f) ∙ e))
         go (got n) f = next n f (sym (nodes-next s at h before left n f) ∙ e)
 
-    nodes-add : (left at : ℕ) (n : Node) (before nodes : List Node) → NodeRead at before n → NodesRead left (at + sizeOf n) (before ++ (n ∷ [])) nodes → NodesRead (suc left) at before nodes
+    nodes-add : (left at : ℕ) (n : Node) (before nodes : List Node) → NodeRead at before n
+        → NodesRead left (at + sizeOf n) (before ++ (n ∷ [])) nodes → NodesRead (suc left) at before nodes
     nodes-add left at n before nodes first rest =
         record {
           more = n ∷ rest .more;
@@ -334,9 +340,10 @@ module _ (s : List ℕ) (bytes : Below 256 s) where
         there = rw (← arrays, nodes .whole) (nodes .there);
       }
 
-  pub records-read : (t : Table) → readRecords s ≡ got t → RecordsRead s t
+  -- what is known as soon as the records were read
+  pub records-known : (t : Table) → readRecords s ≡ got t → RecordsRead s t
   unfolding readRecords sum
-  records-read t e =
+  records-known t e =
       let Q : Type 0 = RecordsRead s t in
       then-got Q (readHeader s) _ t e
       (λ h eh e₁.
@@ -347,7 +354,9 @@ module _ (s : List ℕ) (bytes : Below 256 s) where
       then-got Q (readNodes (h .nodes) h s (nodesStart (h .arrays)) []) _ t e₃
       (λ ns en e₄.
       rw (← got-same _ t e₄)
-      (records-put h l cs ns (header-fits s h eh) (labels-fit s h l el) (counts-fit s (h .arrays) 20 [] cs (omega arith) ec) (nodes-fit s bytes h (h .nodes) (nodesStart (h .arrays)) [] ns en))))))
+      (records-put h l cs ns (header-fits s h eh) (labels-fit s h l el)
+      (counts-fit s (h .arrays) 20 [] cs (omega arith) ec)
+      (nodes-fit s bytes h (h .nodes) (nodesStart (h .arrays)) [] ns en))))))
 
   -- what reads as a table was read, is one tree and has no bytes after it
   record Accepted (t : Table) : Type 0 where
@@ -378,7 +387,7 @@ module _ (s : List ℕ) (bytes : Below 256 s) where
   pub accepted-well-formed : (t : Table) → readTable s ≡ accepted t → WellFormed t
   accepted-well-formed t e =
       let a = table-accepted t e in
-      let r = records-read t (a .read) in
+      let r = records-known t (a .read) in
       record {
         declared = r .declared;
         hasNodes = r .hasNodes;
@@ -390,7 +399,7 @@ module _ (s : List ℕ) (bytes : Below 256 s) where
   -- each node's record stands at its offset and decodes to it, as soon as the records were read
   pub node-there : (t : Table) → readRecords s ≡ got t → (i : ℕ) → i < length (t .nodes) → NodeAt s (offsetOf t i) (getD (t .nodes) i Skip)
   unfolding offsetOf
-  node-there t e i inside = nodes-at s (nodesStart (length (t .counts))) (t .nodes) (records-read t e .there) i inside
+  node-there t e i inside = nodes-at s (nodesStart (length (t .counts))) (t .nodes) (records-known t e .there) i inside
 
   -- an accepted table's records were read
   pub accepted-read : (t : Table) → readTable s ≡ accepted t → readRecords s ≡ got t
@@ -400,7 +409,7 @@ module _ (s : List ℕ) (bytes : Below 256 s) where
   pub accepted-ends : (t : Table) → readTable s ≡ accepted t → length s ≡ offsetOf t (length (t .nodes))
   accepted-ends t e =
       let a = table-accepted t e in
-      let some = records-read t (a .read) .hasNodes in
+      let some = records-known t (a .read) .hasNodes in
       let last : ℕ = length (t .nodes) - 1 in
       let end : offsetOf t (length (t .nodes)) ≡ offsetOf t last + sizeOf (getD (t .nodes) last Skip) =
       ap (offsetOf t) (omega arith) ∙ offset-next t last (omega arith) in

@@ -14,12 +14,14 @@ FitAfter vs arrs before [] = Unit
 FitAfter vs arrs before (n ∷ ns) = NodeFits vs arrs before n × FitAfter vs arrs (before ++ (n ∷ [])) ns
 
 module _ (vs arrs : ℕ) where
+  -- nodes that fit in turn fit by their numbers
   pub fit-by-number : (ns before : List Node) → FitAfter vs arrs before ns
       → (i : ℕ) → i < length ns → NodeFits vs arrs (before ++ take i ns) (getD ns i Skip)
   fit-by-number [] before fits i inside = absurd (omega arith)
   fit-by-number (n ∷ ns) before fits zero inside = rw append-nil (fits .0)
   fit-by-number (n ∷ ns) before fits (suc i) inside = rw append-snoc at (fit-by-number ns (before ++ (n ∷ [])) (fits .1) i (omega arith))
 
+  -- nodes that fit by their numbers fit in turn
   pub fit-in-turn : (ns before : List Node) → ((i : ℕ) → i < length ns → NodeFits vs arrs (before ++ take i ns) (getD ns i Skip))
       → FitAfter vs arrs before ns
   fit-in-turn [] before each = tt

@@ -12,7 +12,7 @@ use Rattle.awhile.specs.Tables.{Table}
 use Rattle.awhile.specs.Trees.{Tree, numeric, truth, command, asNumeric, asTruth, asCommand, treeOf, treeAt, trees, rootOf}
 use Rattle.awhile.specs.WellFormed.{WellFormed, wordFits, WithinA, WithinB, Within}
 use Rattle.awhile.proofs.Lists.{all-head, all-tail}
-use Rattle.awhile.proofs.Children.{EachChild}
+use Rattle.awhile.proofs.Children.{EachChild, other-children}
 use Rattle.awhile.proofs.Trees.{tree-of-node, tree-children}
 use Rattle.awhile.specs.declared.Node.{Node}
 use Rattle.awhile.specs.declared.Node.the-variants.{Number, Variable, Add, Subtract, Multiply, Choice}
@@ -20,6 +20,7 @@ use Rattle.awhile.specs.declared.Node.the-variants.{Constant, Equal, Les
 use Rattle.awhile.specs.declared.Node.the-variants.{Skip, Assign, Sequence, If, While, Read, Write}
 
 module _ (vs arrs : ℕ) where
+  -- a tree of any sort is within the declarations
   abbrev pub TreeWithin : Tree → Type 0
   TreeWithin (numeric a) = WithinA vs a
   TreeWithin (truth b) = WithinB vs b
@@ -52,20 +53,24 @@ module _ (vs arrs : ℕ) where
   FieldsWithin t (array a ∷ fs) = (a < arrs) × FieldsWithin t fs
   FieldsWithin t (child s c ∷ fs) = TreeWithin (t c) × FieldsWithin t fs
 
+  field-within : (t : ℕ → Tree) (parent : ℕ) (f : Field) (fs : List Field) → fieldInRange vs arrs parent f ≡ true → wordFits f ≡ true
+      → EachChild (λ s c. TreeWithin (t c)) (f ∷ fs) → FieldsWithin t fs → FieldsWithin t (f ∷ fs)
+  unfolding fieldInRange wordFits
+  field-within t parent (word n) fs r w cs rest = (ltb-true n (2 ^ 32) w, rest)
+  field-within t parent (constant n) fs r w cs rest = rest
+  field-within t parent (variable x) fs r w cs rest = (ltb-true x vs r, rest)
+  field-within t parent (array a) fs r w cs rest = (ltb-true a arrs r, rest)
+  field-within t parent (child s c) fs r w cs rest = (cs .0, rest)
+
   fields-within : (t : ℕ → Tree) (parent : ℕ) (fs : List Field) → all (fieldInRange vs arrs parent) fs ≡ true → all wordFits fs ≡ true
       → EachChild (λ s c. TreeWithin (t c)) fs → FieldsWithin t fs
-  unfolding fieldInRange wordFits
   fields-within t parent [] r w cs = tt
-  fields-within t parent (word n ∷ fs) r w cs =
-      (ltb-true n (2 ^ 32) (all-head wordFits (word n) fs w), fields-within t parent fs (all-tail (fieldInRange vs arrs parent) (word n) fs r) (all-tail wordFits (word n) fs w) cs)
-  fields-within t parent (constant n ∷ fs) r w cs =
-      fields-within t parent fs (all-tail (fieldInRange vs arrs parent) (constant n) fs r) (all-tail wordFits (constant n) fs w) cs
-  fields-within t parent (variable x ∷ fs) r w cs =
-      (ltb-true x vs (all-head (fieldInRange vs arrs parent) (variable x) fs r), fields-within t parent fs (all-tail (fieldInRange vs arrs parent) (variable x) fs r) (all-tail wordFits (variable x) fs w) cs)
-  fields-within t parent (array a ∷ fs) r w cs =
-      (ltb-true a arrs (all-head (fieldInRange vs arrs parent) (array a) fs r), fields-within t parent fs (all-tail (fieldInRange vs arrs parent) (array a) fs r) (all-tail wordFits (array a) fs w) cs)
-  fields-within t parent (child s c ∷ fs) r w cs =
-      (cs .0, fields-within t parent fs (all-tail (fieldInRange vs arrs parent) (child s c) fs r) (all-tail wordFits (child s c) fs w) (cs .1))
+  fields-within t parent (f ∷ fs) r w cs =
+      field-within t parent f fs
+      (all-head (fieldInRange vs arrs parent) f fs r)
+      (all-head wordFits f fs w)
+      cs
+      (fields-within t parent fs (all-tail (fieldInRange vs arrs parent) f fs r) (all-tail wordFits f fs w) (other-children (λ s c. TreeWithin (t c)) f fs cs))
 
   -- a node's tree is within where its fields are
   tree-within : (t : ℕ → Tree) (i : ℕ) (n : Node) → FieldsWithin t (form n .fields) → TreeWithin (treeOf t i n)

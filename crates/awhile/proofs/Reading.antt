@@ -8,7 +8,7 @@ use lib.ListN.{length, getD, length-append}
 use lib.Seq.{take-length, append-snoc}
 use borrow.Author.Tests.{lt-ltb, le-leb, eq-eqb}
 use Rattle.bytes_le.specs.Numbers.{le, leAt}
-use Rattle.bytes_le.proofs.Numbers.{length-le}
+use Rattle.bytes_le.proofs.Numbers.{Below, below-append, below-flatMap, bytes-le, length-le}
 use Rattle.bytes_le.proofs.Pieces.{Stands, stands-first, stands-second, stands-whole, stands-le, stands-number}
 use Rattle.awhile.specs.Lists.{sum}
 use Rattle.awhile.specs.Refusals.{Answer, got, check, andThen}
@@ -19,26 +19,30 @@ use Rattle.awhile.specs.Tables.{accepted, checkWhole, readTable}
 use Rattle.awhile.specs.Encoding.{headerBytes, labelsBytes, countBytes, tableBytes}
 use Rattle.awhile.specs.WellFormed.{WellFormed, NodeFits}
 use Rattle.awhile.proofs.Lists.{sum-append, length-flatMap}
-use Rattle.awhile.proofs.Records.{fields-fit, HeadAt, head-stands, node-stands, length-nodeBytes, size-least}
+use Rattle.awhile.proofs.Records.{fields-fit, HeadAt, head-stands, node-stands, length-nodeBytes, bytes-nodeBytes, size-least}
 use Rattle.awhile.proofs.Cases.{counts-next, node-known, nodes-next, table-read}
 use Rattle.awhile.proofs.Fitting.{FitAfter, fit-in-turn}
 use Rattle.awhile.specs.declared.Labelling.{Labelling}
 use Rattle.awhile.specs.declared.Node.{Node}
 
 -- ---- lengths
+-- an array record has 6 bytes
 pub length-countBytes : (n : ℕ) → length (countBytes n) ≡ arraySize
 unfolding countBytes
 length-countBytes n = simp (length-append, length-le)
 
+-- so has each of them
 pub length-countsBytes : (ns : List ℕ) → length (flatMap countBytes ns) ≡ arraySize * length ns
 unfolding flatMap
 length-countsBytes [] = refl
 length-countsBytes (n ∷ ns) = simp (length-append, length-countBytes) (omega (arith, length-countsBytes ns))
 
+-- the header has 10 bytes
 pub length-headerBytes : (vs arrs nodes : ℕ) → length (headerBytes vs arrs nodes) ≡ headerSize
 unfolding headerBytes
 length-headerBytes vs arrs nodes = simp (length-append, length-le)
 
+-- the labels record has 10 bytes
 pub length-labelsBytes : (l : Labelling) → length (labelsBytes l) ≡ labelsSize
 unfolding labelsBytes
 length-labelsBytes l = simp (length-append, length-le)
@@ -71,8 +75,16 @@ module _ (s : List ℕ) where
       let variables = stands-number s 1 vs (le 1 arrs ++ le 2 nodes) 6 7 (omega arith) refl (version .rest) in
       let arrays = stands-number s 1 arrs (le 2 nodes) 7 8 (omega arith) refl (variables .rest) in
       framed-kind s 0 1 headerSize body _ (omega arith) head
-      ∙ rw
-      (version .isNumber, variables .isNumber, arrays .isNumber, stands-le s 2 nodes 8 (omega arith) (arrays .rest), le-leb vs 32 v, le-leb arrs 16 a, lt-ltb 0 nodes some, le-leb nodes 4096 n)
+      ∙ rw (
+        version .isNumber,
+        variables .isNumber,
+        arrays .isNumber,
+        stands-le s 2 nodes 8 (omega arith) (arrays .rest),
+        le-leb vs 32 v,
+        le-leb arrs 16 a,
+        lt-ltb 0 nodes some,
+        le-leb nodes 4096 n,
+      )
 
   -- the labels record reads back
   pub labels-read : (l : Labelling) (h : Header) → h .variables ≤ maxVariables → h .arrays ≤ maxArrays
@@ -84,8 +96,12 @@ module _ (s : List ℕ) where
       let head : HeadAt s 10 labelsSize 3 body = head-stands s 10 labelsSize 3 body (simp (length-append, length-le) refl) (omega arith) (omega arith) st in
       let variables = stands-number s 4 (l .variables) (le 2 (l .arrays)) 14 18 (le-trans vm (pow-le-pow-right (omega arith) v)) refl (head .bodyStands) in
       framed-kind s 10 3 labelsSize body _ (omega arith) head
-      ∙ rw
-      (variables .isNumber, stands-le s 2 (l .arrays) 18 (le-trans am (pow-le-pow-right (omega arith) a)) (variables .rest), lt-ltb (l .variables) (2 ^ h .variables) vm, lt-ltb (l .arrays) (2 ^ h .arrays) am)
+      ∙ rw (
+        variables .isNumber,
+        stands-le s 2 (l .arrays) 18 (le-trans am (pow-le-pow-right (omega arith) a)) (variables .rest),
+        lt-ltb (l .variables) (2 ^ h .variables) vm,
+        lt-ltb (l .arrays) (2 ^ h .arrays) am,
+      )
 
   -- an array record reads back
   pub count-reads : (n at before : ℕ) → 0 < n → before + n ≤ maxCells → Stands (countBytes n) at s → readCount s at before ≡ got n
@@ -114,7 +130,8 @@ module _ (s : List ℕ) where
         → Stands (nodeBytes n) at s → readNode h s at before ≡ got n
     unfolding inRange check
     node-reads n before at few fits st =
-        let there = node-stands s at n (fields-fit (h .variables) (h .arrays) (length before) (omega arith) (omega arith) (omega arith) (form n .fields) (fits .ranged) (fits .wordsFit)) st in
+        let fieldsFit = fields-fit (h .variables) (h .arrays) (length before) (omega arith) (omega arith) (omega arith) (form n .fields) (fits .ranged) (fits .wordsFit) in
+        let there = node-stands s at n fieldsFit st in
         node-known s at h before n (there .decoded)
         ∙ framed-passes s at (sizeOf n) _ (size-least n) (there .isLength) (there .inside)
         ∙ rw (fits .ranged, fits .wellSorted)
@@ -158,6 +175,15 @@ unfolding tableBytes offsetOf
 length-tableBytes t =
     simp (length-append, take-length)
     (omega (arith, length-headerBytes (t .variables) (length (t .counts)) (length (t .nodes)), length-labelsBytes (t .labels), length-countsBytes (t .counts), length-flatMap nodeBytes sizeOf length-nodeBytes (t .nodes)))
+
+-- a table is made of bytes
+pub bytes-tableBytes : (t : Table) → Below 256 (tableBytes t)
+unfolding tableBytes headerBytes labelsBytes countBytes
+bytes-tableBytes t =
+    let header : Below 256 (headerBytes (t .variables) (length (t .counts)) (length (t .nodes))) = search (below-append, bytes-le) depth 8 in
+    let labels : Below 256 (labelsBytes (t .labels)) = search (below-append, bytes-le) in
+    let counts = below-flatMap 256 countBytes (t .counts) (omega arith) (λ n. search (below-append, bytes-le)) in
+    below-append header (below-append labels (below-append counts (below-flatMap 256 nodeBytes (t .nodes) (omega arith) bytes-nodeBytes)))
 
 -- a well-formed table reads back from its bytes
 pub read-back : (t : Table) → WellFormed t → readTable (tableBytes t) ≡ accepted t

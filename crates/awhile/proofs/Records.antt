@@ -1,5 +1,5 @@
 -- A node's record decodes to the node: all its fields stand where the decoder reads them.
-use Prim.Native.Nat.{ℕ, zero, suc, _+_, _^_, _≤_, _<_}
+use Prim.Native.Nat.{ℕ, zero, suc, _+_, _*_, _^_, _≤_, _<_}
 use native.Mathlib.Nat.{add-zero, add-assoc}
 use native.Mathlib.Omega.{arith}
 use mathlib.Core.Bool.{Bool, true}
@@ -9,7 +9,7 @@ use lib.ListN.{length, getD, take, length-append}
 use lib.Dec.{ltb}
 use borrow.Author.Tests.{ltb-true, leb-true, lt-ltb}
 use Rattle.bytes_le.specs.Numbers.{le, leAt}
-use Rattle.bytes_le.proofs.Numbers.{length-le}
+use Rattle.bytes_le.proofs.Numbers.{Below, below-append, below-flatMap, bytes-le, length-le}
 use Rattle.bytes_le.proofs.Pieces.{Stands, stands-number, stands-within}
 use Rattle.awhile.specs.Lists.{sum, all}
 use Rattle.awhile.specs.Nodes.{Field, word, constant, variable, array, child, form, fieldBytes, fieldSize, sizeOf, nodeBytes, nodeOf, decodeAt}
@@ -30,6 +30,7 @@ fieldValue (variable x) = x
 fieldValue (array a) = a
 fieldValue (child s n) = n
 
+-- a field is written as its number in its bytes
 pub fieldBytes-le : (f : Field) → fieldBytes f ≡ le (fieldSize f) (fieldValue f)
 unfolding fieldBytes fieldSize fieldValue
 fieldBytes-le (word n) = refl
@@ -38,6 +39,7 @@ fieldBytes-le (variable x) = refl
 fieldBytes-le (array a) = refl
 fieldBytes-le (child s n) = refl
 
+-- a field has as many bytes as its size says
 pub length-fieldBytes : (f : Field) → length (fieldBytes f) ≡ fieldSize f
 length-fieldBytes f = rw fieldBytes-le (length-le (fieldSize f) (fieldValue f))
 
@@ -55,6 +57,7 @@ module _ (vs arrs parent : ℕ) (v : vs ≤ 65536) (a : arrs ≤ 65536) (p : par
   field-fits (array b) r w = lt-ltb b 65536 (omega (arith, ltb-true b arrs r))
   field-fits (child s n) r w = lt-ltb n 65536 (omega (arith, ltb-true n parent r))
 
+  -- fields in range fit their bytes
   pub fields-fit : (fs : List Field) → all (fieldInRange vs arrs parent) fs ≡ true → all wordFits fs ≡ true → all fieldFits fs ≡ true
   unfolding all
   fields-fit [] r w = refl
@@ -102,11 +105,12 @@ module _ (s : List ℕ) (at : ℕ) where
   decode-fields (Read x a i) k r = rw (k, r .0, r .1 .0, r .1 .1 .0)
   decode-fields (Write a i e) k r = rw (k, r .0, r .1 .0, r .1 .1 .0)
 
--- kinds and lengths fit their two bytes
+-- a kind fits its two bytes, and no record is longer than 10 bytes
 pub record HeadFits (n : Node) : Type 0 where
   pub kindFits : form n .kind < 65536
-  pub sizeFits : sizeOf n < 65536
+  pub sizeFits : sizeOf n ≤ 10
 
+-- so it is for every kind
 pub head-fits : (n : Node) → HeadFits n
 unfolding form sizeOf sum fieldSize
 head-fits (Number n) = omega arith
@@ -128,17 +132,32 @@ head-fits (While b c) = omega arith
 head-fits (Read x a i) = omega arith
 head-fits (Write a i e) = omega arith
 
+-- records of nodes have at most 10 bytes each
+pub sizes-most : (ns : List Node) → sum (map sizeOf ns) ≤ 10 * length ns
+unfolding sum
+sizes-most [] = omega arith
+sizes-most (n ∷ ns) = omega (arith, head-fits n, sizes-most ns)
+
 -- a record is as long as its size says: its head and its fields
 size-fields : (n : Node) → sizeOf n ≡ 4 + length (flatMap fieldBytes (form n .fields))
 unfolding sizeOf
 size-fields n = omega (arith, length-flatMap fieldBytes fieldSize length-fieldBytes (form n .fields))
 
+-- a record has its head at least
 pub size-least : (n : Node) → 4 ≤ sizeOf n
 size-least n = omega (arith, size-fields n)
 
+-- a record has as many bytes as its size says
 pub length-nodeBytes : (n : Node) → length (nodeBytes n) ≡ sizeOf n
 unfolding nodeBytes
 length-nodeBytes n = simp (length-append, length-le) (omega (arith, size-fields n))
+
+-- a record is made of bytes
+pub bytes-nodeBytes : (n : Node) → Below 256 (nodeBytes n)
+unfolding nodeBytes
+bytes-nodeBytes n =
+    let fields = below-flatMap 256 fieldBytes (form n .fields) (omega arith) (λ f. rw fieldBytes-le (bytes-le (fieldSize f) (fieldValue f))) in
+    below-append (bytes-le 2 (sizeOf n)) (below-append (bytes-le 2 (form n .kind)) fields)
 
 -- ---- records: "a 2-byte length (of the whole record), a 2-byte kind, then fields"
 module _ (s : List ℕ) (at size kind : ℕ) (body : List ℕ) where
@@ -149,6 +168,7 @@ module _ (s : List ℕ) (at size kind : ℕ) (body : List ℕ) where
     pub bodyStands : Stands body (at + 4) s
     pub inside : at + size ≤ length s
 
+  -- the head of a record that stands there is read there
   pub head-stands : size ≡ 4 + length body → size < 65536 → kind < 65536 → Stands (le 2 size ++ (le 2 kind ++ body)) at s → HeadAt
   head-stands e sizeFits kindFits h =
       let total : length (le 2 size ++ (le 2 kind ++ body)) ≡ size = simp (length-append, length-le) (omega arith) in
@@ -168,12 +188,13 @@ module _ (s : List ℕ) (at : ℕ) (n : Node) where
     pub decoded : decodeAt s at ≡ Known n
     pub inside : at + sizeOf n ≤ length s
 
+  -- a node whose fields fit is read where its record stands
   pub node-stands : all fieldFits (form n .fields) ≡ true → Stands (nodeBytes n) at s → NodeAt
   unfolding nodeBytes
   node-stands fits h =
       let fields : List ℕ = flatMap fieldBytes (form n .fields) in
       let small = head-fits n in
-      let head = head-stands s at (sizeOf n) (form n .kind) fields (size-fields n) (small .sizeFits) (small .kindFits) h in
+      let head = head-stands s at (sizeOf n) (form n .kind) fields (size-fields n) (omega arith) (small .kindFits) h in
       record {
         isLength = head .isLength;
         decoded = decode-fields s at n (head .isKind) (fields-stand s at (form n .fields) 4 fits (head .bodyStands));

@@ -55,6 +55,7 @@ treeSort (numeric a) = Numeric
 treeSort (truth b) = Truth
 treeSort (command c) = Command
 
+-- the tree of a node is of its sort
 pub treeSort-treeOf : (t : ℕ → Tree) (i : ℕ) (n : Node) → treeSort (treeOf t i n) ≡ sortOf n
 unfolding treeSort treeOf sortOf form
 treeSort-treeOf t i (Number v) = refl
@@ -127,12 +128,14 @@ numeric-tree (numeric a) e = refl
 numeric-tree (truth b) e = cc
 numeric-tree (command c) e = cc
 
+-- the same of a truth
 pub truth-tree : (t : Tree) → treeSort t ≡ Truth → t ≡ truth (asTruth t)
 unfolding treeSort asTruth
 truth-tree (numeric a) e = cc
 truth-tree (truth b) e = refl
 truth-tree (command c) e = cc
 
+-- the same of a command
 pub command-tree : (t : Tree) → treeSort t ≡ Command → t ≡ command (asCommand t)
 unfolding treeSort asCommand
 command-tree (numeric a) e = cc
@@ -141,6 +144,7 @@ command-tree (command c) e = refl
 
 -- ---- the trees of a table's nodes
 module _ (ns : List Node) where
+  -- there is a tree for each node
   pub length-trees : length (trees ns) ≡ length ns
   unfolding trees
   length-trees = omega (arith, length-grow [] ns)

@@ -7,26 +7,28 @@ use mathlib.Core.List.{List, []}
 use lib.ListN.{length, getD}
 use lib.Dec.{eqb}
 use borrow.Author.Tests.{eq-eqb, eqb-true, eqb-false}
-use Rattle.awhile.specs.Language.{Com}
+use Rattle.awhile.specs.Language.{Com, mapNotes}
+use Rattle.awhile.specs.Lists.{all}
 use Rattle.awhile.specs.Nodes.{sortOf}
 use Rattle.awhile.specs.Tables.{Table, maxNodes, usesOf, inOrder, accepted, readTable}
-use Rattle.awhile.specs.Trees.{command, asCommand, trees, rootOf}
-use Rattle.awhile.specs.Encoding.{nodesOf, writeC, numbered, tableBytes}
+use Rattle.awhile.specs.Trees.{Tree, command, asCommand, treeAt, growTrees, trees, rootOf}
+use Rattle.awhile.specs.Encoding.{nodesOf, writeC, numberOf, numberedFrom, numbered, tableBytes}
 use Rattle.awhile.specs.WellFormed.{Declared, WellFormed, Within}
-use Rattle.awhile.proofs.Lists.{count-below, count-above}
+use Rattle.awhile.proofs.Lists.{countBelow, count-below, count-above}
 use Rattle.awhile.proofs.Cases.{in-order-last, in-order-child, all-in-order}
 use Rattle.awhile.proofs.Children.{sameSort-refl}
 use Rattle.awhile.proofs.Fitting.{fit-by-number}
 use Rattle.awhile.proofs.Reading.{read-back}
 use Rattle.awhile.proofs.Trees.{treeSort}
 use Rattle.awhile.proofs.PostOrder.{PostOrder, postorder-C, order-some}
+use Rattle.awhile.proofs.OwnFields.{ownFieldsFit, own-C}
 use Rattle.awhile.proofs.Orders.{order-length, order-sort, order-tree, order-uses, order-fit}
 use Rattle.awhile.specs.declared.Sort.the-variants.{Command}
 use Rattle.awhile.specs.declared.Node.{Node}
 use Rattle.awhile.specs.declared.Node.the-variants.{Skip}
 
 -- nodes in post-order for a command are in order: each but the last is a child exactly once, the last is a command
-pub order-in-order : {vs arrs k : ℕ} {ns : List Node} {c : Com ℕ} → PostOrder vs arrs 0 ns k (command c) → (i : ℕ) → i < k → inOrder ns i ≡ true
+pub order-in-order : {k : ℕ} {ns : List Node} {c : Com ℕ} → PostOrder 0 ns k (command c) → (i : ℕ) → i < k → inOrder ns i ≡ true
 unfolding treeSort
 order-in-order {k = k} {ns = ns} {c = c} p i below = go (eqb (suc i) k) refl
   where
@@ -40,11 +42,31 @@ order-in-order {k = k} {ns = ns} {c = c} p i below = go (eqb (suc i) k) refl
         let once : usesOf ns i ≡ 1 = omega (arith, order-uses p i (k - 1) (omega arith), count-above 0 i (omega arith), count-below (k - 1) i (omega arith)) in
         in-order-child ns i (omega (arith, order-length p)) ∙ eq-eqb (usesOf ns i) 1 once
 
-module _ {Note : Type 0} (t : Table) (c : Com Note) (e : t .nodes ≡ writeC 0 c) (within : Within (t .variables) (length (t .counts)) c) where
+-- ---- what is written for a command, after any nodes
+module _ {Note : Type 0} (c : Com Note) where
+  -- as many nodes as the command has
+  pub length-writeC : (from : ℕ) → length (writeC from c) ≡ nodesOf c
+  length-writeC from = order-length (postorder-C c from)
+
+  -- the last tree that they grow is the command, noted with its node numbers
+  pub grow-writeC : (ts : List Tree)
+      → treeAt (growTrees ts (writeC (length ts) c)) (length ts + nodesOf c - 1) ≡ command (mapNotes numberOf (numberedFrom (length ts) c))
+  grow-writeC ts =
+      let order = postorder-C c (length ts) in
+      order-tree order ts (length ts + nodesOf c - 1) refl (omega (arith, order-some order))
+
+  -- each but the last is a child once, and no other node is
+  pub uses-writeC : (from x : ℕ) → usesOf (writeC from c) x + countBelow from x ≡ countBelow (from + nodesOf c - 1) x
+  uses-writeC from x =
+      let order = postorder-C c from in
+      order-uses order x (from + nodesOf c - 1) (omega (arith, order-some order))
+
+-- ---- the table of a program
+module _ {Note : Type 0} (t : Table) (c : Com Note) (e : t .nodes ≡ writeC 0 c) where
   -- the nodes of a written program
-  written-order : PostOrder (t .variables) (length (t .counts)) 0 (t .nodes) (nodesOf c) (command (numbered c))
+  written-order : PostOrder 0 (t .nodes) (nodesOf c) (command (numbered c))
   unfolding numbered
-  written-order = rw e (postorder-C (t .variables) (length (t .counts)) c 0 within)
+  written-order = rw e (postorder-C c 0)
 
   -- as many as the program has
   pub written-length : length (t .nodes) ≡ nodesOf c
@@ -57,17 +79,21 @@ module _ {Note : Type 0} (t : Table) (c : Com Note) (e : t .nodes ≡ writeC 0 c
       let last : length (t .nodes) - 1 + 1 ≡ 0 + nodesOf c = omega (arith, written-length, order-some written-order) in
       ap asCommand (order-tree written-order [] (length (t .nodes) - 1) refl last)
 
-  -- the table is well-formed
-  pub written-well-formed : Declared (t .variables) (t .labels) (t .counts) → nodesOf c ≤ maxNodes → WellFormed t
-  written-well-formed declared few =
-      record {
-        declared = declared;
-        hasNodes = omega (arith, written-length, order-some written-order);
-        nodesFit = omega (arith, written-length);
-        eachFits = fit-by-number (t .variables) (length (t .counts)) (t .nodes) [] (order-fit written-order [] refl);
-        oneTree = all-in-order (t .nodes) (length (t .nodes)) (λ i below. order-in-order written-order i (omega (arith, written-length)));
-      }
+  module _ (declared : Declared (t .variables) (t .labels) (t .counts)) (within : Within (t .variables) (length (t .counts)) c) (few : nodesOf c ≤ maxNodes) where
+    -- the table is well-formed
+    pub written-well-formed : WellFormed t
+    written-well-formed =
+        let vs : ℕ = t .variables in
+        let arrs : ℕ = length (t .counts) in
+        let own : all (ownFieldsFit vs arrs) (t .nodes) ≡ true = rw e (own-C vs arrs c 0 within .each) in
+        record {
+          declared = declared;
+          hasNodes = omega (arith, written-length, order-some written-order);
+          nodesFit = omega (arith, written-length);
+          eachFits = fit-by-number vs arrs (t .nodes) [] (order-fit vs arrs written-order own [] refl);
+          oneTree = all-in-order (t .nodes) (length (t .nodes)) (λ i below. order-in-order written-order i (omega (arith, written-length)));
+        }
 
-  -- its bytes are read and accepted as the table
-  pub written-reads-back : Declared (t .variables) (t .labels) (t .counts) → nodesOf c ≤ maxNodes → readTable (tableBytes t) ≡ accepted t
-  written-reads-back declared few = read-back t (written-well-formed declared few)
+    -- its bytes are read and accepted as the table
+    pub written-reads-back : readTable (tableBytes t) ≡ accepted t
+    written-reads-back = read-back t written-well-formed

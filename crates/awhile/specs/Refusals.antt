@@ -7,7 +7,7 @@ use Rattle.awhile.specs.declared.Refusal.the-variants.{Cut, WrongRecord,
 use Rattle.awhile.specs.declared.Refusal.the-variants.{TooManyNodes, NoFreeVariable, BadDirectives}
 use Rattle.awhile.specs.declared.Refusal.the-variants.{WrongVariables, WrongCells, ShortPending, ShortBuffer}
 
-unfoldable pub refusalNumber : Refusal → ℕ
+abbrev pub refusalNumber : Refusal → ℕ
 refusalNumber (Cut at) = 1
 refusalNumber (WrongRecord at) = 2
 refusalNumber (BeyondLimit at) = 3
@@ -23,7 +23,7 @@ refusalNumber WrongCells = 21
 refusalNumber ShortPending = 22
 refusalNumber ShortBuffer = 23
 
-unfoldable pub refusalPlace : Refusal → ℕ
+abbrev pub refusalPlace : Refusal → ℕ
 refusalPlace (Cut at) = at
 refusalPlace (WrongRecord at) = at
 refusalPlace (BeyondLimit at) = at

@@ -58,6 +58,10 @@ arraySize = 6
 abbrev pub nodesStart : (arrays : ℕ) → ℕ
 nodesStart a = headerSize + labelsSize + arraySize * a
 
+-- no table has more bytes: a node's record has at most 10
+abbrev pub longestTable : ℕ
+longestTable = nodesStart maxArrays + 10 * maxNodes
+
 -- the byte offset of a node's record, and of the first byte after the last one
 unfoldable pub offsetOf : Table → (node : ℕ) → ℕ
 offsetOf t n = nodesStart (length (t .counts)) + sum (map sizeOf (take n (t .nodes)))

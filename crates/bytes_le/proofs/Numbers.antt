@@ -3,7 +3,7 @@ use Prim.Native.Nat.{ℕ, zero, suc, _+_, _*_, _/_, _%_, _^_, _≤_, _<_}
 use native.Mathlib.Nat.{div-lt-iff-lt-mul, pow-suc, pow-le-pow-right, le-trans}
 use native.Mathlib.Omega.{arith}
 use mathlib.Core.Path.{_≡_, refl, ap}
-use mathlib.Core.List.{List, [], _∷_, _++_}
+use mathlib.Core.List.{List, [], _∷_, _++_, flatMap}
 use lib.ListN.{length, getD, take, drop, length-take, length-drop}
 use lib.Seq.{take-at, drop-append-seam, drop-append-le, take-append-le, drop-append-add, getD-drop}
 use mir.Syntax.{w8}
@@ -19,12 +19,15 @@ pub slice-bytes : (s : List ℕ) → ((i : ℕ) → Fits w8 (getD s i 0)) → Be
 slice-bytes s known = record { below = λ i. known i .fits }
 
 module _ (bound : ℕ) where
+  -- the first element is below
   pub below-head : (n : ℕ) (ns : List ℕ) → Below bound (n ∷ ns) → n < bound
   below-head n ns h = h .below 0
 
+  -- the other elements are below
   pub below-tail : (n : ℕ) (ns : List ℕ) → Below bound (n ∷ ns) → Below bound ns
   below-tail n ns h = record { below = λ i. h .below (suc i) }
 
+  -- a first element and the others are below
   pub below-cons : (n : ℕ) (ns : List ℕ) → n < bound → Below bound ns → Below bound (n ∷ ns)
   below-cons n ns first rest = record { below = go }
     where
@@ -32,18 +35,26 @@ module _ (bound : ℕ) where
       go zero = first
       go (suc i) = rest .below i
 
-  pub below-append : (ms ns : List ℕ) → Below bound ms → Below bound ns → Below bound (ms ++ ns)
-  below-append [] ns first rest = rest
-  below-append (m ∷ ms) ns first rest =
-      below-cons m (ms ++ ns) (below-head m ms first) (below-append ms ns (below-tail m ms first) rest)
-
+  -- the first elements are below
   pub below-take : (count : ℕ) (ns : List ℕ) → Below bound ns → Below bound (take count ns)
   below-take zero ns h = record { below = λ i. omega (arith, h .below 0) }
   below-take (suc count) [] h = h
   below-take (suc count) (n ∷ ns) h = below-cons n (take count ns) (below-head n ns h) (below-take count ns (below-tail n ns h))
 
+  -- the last elements are below
   pub below-drop : (count : ℕ) (ns : List ℕ) → Below bound ns → Below bound (drop count ns)
   below-drop count ns h = record { below = λ i. rw getD-drop (h .below (count + i)) }
+
+-- the elements of two lists are below
+pub below-append : {bound : ℕ} {ms ns : List ℕ} → Below bound ms → Below bound ns → Below bound (ms ++ ns)
+below-append {ms = []} first rest = rest
+below-append {bound} {ms = m ∷ ms} {ns} first rest = below-cons bound m (ms ++ ns) (below-head bound m ms first) (below-append (below-tail bound m ms first) rest)
+
+-- lists of elements below, one after the other
+pub below-flatMap : {A : Type 0} (bound : ℕ) (f : A → List ℕ) (xs : List A) → 0 < bound → ((x : A) → Below bound (f x)) → Below bound (flatMap f xs)
+unfolding flatMap
+below-flatMap bound f [] some each = record { below = λ i. some }
+below-flatMap bound f (x ∷ xs) some each = below-append (each x) (below-flatMap bound f xs some each)
 
 -- as many bytes as asked for
 pub length-le : (width n : ℕ) → length (le width n) ≡ width

@@ -41,6 +41,7 @@ module _ (s : List ℕ) where
     pub isNumber : leAt width s at ≡ n
     pub rest : Stands following next s
 
+  -- so is every number that stands in front of something
   pub stands-number : (width n : ℕ) (following : List ℕ) (at next : ℕ) → n < 256 ^ width → at + width ≡ next
       → Stands (le width n ++ following) at s → NumberThere width n following at next
   stands-number width n following at next fits e h =

@@ -18,7 +18,7 @@ length-words (w ∷ ws) = simp (length-append, length-le) (omega (arith, length-
 pub bytes-words : (ws : List ℕ) → Below 256 (words ws)
 unfolding words
 bytes-words [] = record { below = λ i. omega arith }
-bytes-words (w ∷ ws) = below-append 256 (le 4 w) (words ws) (bytes-le 4 w) (bytes-words ws)
+bytes-words (w ∷ ws) = below-append (bytes-le 4 w) (bytes-words ws)
 
 -- words come back from their bytes
 pub fromWords-words : (ws : List ℕ) → Below (2 ^ 32) ws → fromWords (length ws) (words ws) ≡ ws

@@ -1,2 +1,8 @@
 -- Laws and computed theorems of this crate.
 pub mod Open
+pub mod Accepted
+pub mod Security
+pub mod Hardened
+pub mod Answers
+pub mod Program
+pub mod Outcomes

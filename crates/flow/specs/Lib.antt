@@ -2,3 +2,8 @@
 pub mod Answers
 pub mod Writing
 pub mod Running
+pub mod Security
+pub mod Promises
+pub mod Hardened
+pub mod Program
+pub mod Outcomes

@@ -1,1 +1,2 @@
 // The exported entries, and nothing else.
+mod answer;

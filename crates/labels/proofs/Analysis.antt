@@ -18,7 +18,7 @@ use Rattle.labels.proofs.Order.{join-absorbs, join-mono, label-join-sam
 use Rattle.labels.proofs.Passes.{public-length, settle-passed, passed-mono, passed-frame, passed-settles, settled-unique}
 
 -- the marks of the numbers below a count are in their list
-mark-below : (mark : ℕ → Mark) (n i : ℕ) → i < n → List·Memᴰ (mark i) (marksBelow mark n)
+pub mark-below : (mark : ℕ → Mark) (n i : ℕ) → i < n → List·Memᴰ (mark i) (marksBelow mark n)
 unfolding marksBelow
 mark-below mark zero i h = absurd (omega arith)
 mark-below mark (suc n) i h = go (ℕ-discrete i n) (mark-below mark n i)

@@ -9,3 +9,9 @@ pub mod Passes
 pub mod Analysis
 pub mod Rules
 pub mod Notes
+pub mod Warm
+pub mod ExpressionLabels
+pub mod CommandNotes
+pub mod Settling
+pub mod CommandCases
+pub mod Standing

@@ -1,8 +1,8 @@
 -- Laws of masks of any width: a digit after it is put, the others, the digits of a join, and equal digits make equal masks.
-use Prim.Native.Nat.{ℕ, zero, suc, _+_, _*_, _/_, _%_, _^_, _≤_, _<_, max}
+use Prim.Native.Nat.{ℕ, zero, suc, _+_, _-_, _*_, _/_, _%_, _^_, _≤_, _<_, max}
 use mathlib.Core.Bool.{Bool, true, false, cond, _||_}
 use mathlib.Core.Path.{_≡_, refl, sym, ap, ap₂, _∙_}
-use native.Mathlib.Nat.{div-one, div-div-eq-div-mul}
+use native.Mathlib.Nat.{div-one, div-div-eq-div-mul, one-mul, mod-eq-of-lt, one-le-pow, pow-le-pow-right}
 use native.Mathlib.Omega.{arith}
 use lib.Bits.{bitOr, or-step, or-zero-r}
 use lib.Dec.{eqb}
@@ -16,7 +16,7 @@ last : (a r : ℕ) → r < 2 → (a * 2 + r) % 2 ≡ r
 last a r h = omega arith
 
 -- a digit as a truth, and back
-digit-small : (b : Bool) → cond b 1 0 < 2
+pub digit-small : (b : Bool) → cond b 1 0 < 2
 digit-small true = omega arith
 digit-small false = omega arith
 
@@ -122,3 +122,22 @@ put-true m (suc n) =
     let upper : putBit (m / 2) n true ≡ bitOr (m / 2) (2 ^ suc n / 2) = put-true (m / 2) n ∙ ap (λ (k : ℕ). bitOr (m / 2) k) half-power in
     let e = or-step m (2 ^ suc n) in
     omega arith
+
+-- a digit set is its power of two more than the digit cleared
+pub put-difference : (m n : ℕ) → putBit m n true ≡ putBit m n false + 2 ^ n
+unfolding putBit
+put-difference m zero = omega arith
+put-difference m (suc n) = let e = put-difference (m / 2) n in omega arith
+
+-- clearing a digit: the form that code has
+pub put-false : (m n : ℕ) → putBit m n false ≡ bitOr m (2 ^ n) - 2 ^ n
+put-false m n = let e = put-difference m n in let s = put-true m n in omega arith
+
+-- a power of two is below the next ones
+pub power-lt : (n w : ℕ) → n < w → 2 ^ n < 2 ^ w
+power-lt n zero h = absurd (omega arith)
+power-lt n (suc w) h = let p = pow-le-pow-right {n = 2} (omega arith) {i = n} {j = w} (omega arith) in let q = one-le-pow n 2 (omega arith) in omega arith
+
+-- one shifted by less than the width: the form that code has
+pub shifted-one : (n w : ℕ) → n < w → 1 * 2 ^ n % 2 ^ w ≡ 2 ^ n
+shifted-one n w h = rw one-mul (mod-eq-of-lt (power-lt n w h))

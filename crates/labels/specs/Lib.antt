@@ -5,4 +5,6 @@ pub mod Analysis
 pub mod Annotation
 pub mod Sheet
 pub mod Notes
+pub mod Warm
+pub mod Conditions
 pub mod Rules

@@ -2,7 +2,7 @@
 use Prim.Native.Nat.{ℕ, _+_}
 use mathlib.Core.Path.{_≡_, refl, sym, ap, ap₂, _∙_}
 use Rattle.awhile.specs.Language.{Com, skip, assign, sequence, if, while, read, write, mapNotes}
-use Rattle.awhile.specs.Encoding.{Numbered, withNumber, numberOf, nodesOf, nodesOfA, nodesOfB, numberedFrom, numbered}
+use Rattle.awhile.specs.Encoding.{Numbered, numberOf, nodesOf, nodesOfB, numberedFrom, numbered}
 use Rattle.machine.proofs.Notes.{noNote}
 
 -- notes changed twice are changed once

@@ -1,13 +1,17 @@
 -- The pending list never holds more entries than the program has nodes.
 use Prim.Native.Nat.{ℕ, _+_, _≤_, _<_}
 use native.Mathlib.Omega.{arith}
-use mathlib.Core.Path.{_≡_, refl, ap, sym, subst}
+use mathlib.Core.Path.{subst}
 use mathlib.Core.Bool.{Bool, true, false, cond}
 use mathlib.Core.Option.{Option, none, some}
 use mathlib.Core.List.{List, [], _∷_}
 use lib.ListN.{length}
 use Rattle.awhile.specs.Language.{Com, skip, assign, sequence, if, while, read, write}
+use Rattle.awhile.specs.Tables.{Table}
+use Rattle.awhile.specs.Trees.{rootOf}
 use Rattle.awhile.specs.Encoding.{nodesOf}
+use Rattle.awhile.specs.WellFormed.{WellFormed}
+use Rattle.awhile.proofs.Size.{root-size}
 use Rattle.machine.specs.Observations.{Observation, branch, readAt, writeAt, observationBytes, shownBytes}
 use Rattle.machine.specs.Look.{Look, quiet, fork, get, put, look}
 use Rattle.machine.specs.Steps.{State, inside, onlyIf, quietly, turned, loaded, stored, redirected, atFork, atGet, atPut}
@@ -153,3 +157,9 @@ unfolding started
 pending-room counts room budget c vs cells g =
     fits-length (nodesOf c) (run counts room budget (started c vs cells g) .machine .state .pending)
     (pending-keeps (Fits (nodesOf c)) counts room (look-fits (nodesOf c)) budget (started c vs cells g) (omega arith, tt))
+
+-- for a table, never more entries than it has nodes
+pub table-room :
+    (t : Table) → WellFormed t → (room : Room) (budget : ℕ) (vs cells : List ℕ) (g : Guide)
+    → length (run (t .counts) room budget (started (rootOf t) vs cells g) .machine .state .pending) ≤ length (t .nodes)
+table-room t w room budget vs cells g = omega (arith, pending-room (t .counts) room budget (rootOf t) vs cells g, root-size t w)

@@ -6,3 +6,4 @@ pub mod Labelled
 pub mod Hardened
 pub mod BoundsCheck
 pub mod Chain
+pub mod Bites

@@ -1,15 +1,15 @@
 -- The demands on hardening hold of every accepted table of at most 512 nodes with a free variable number.
-use Prim.Native.Nat.{ℕ, _+_, _*_, _≤_, _<_}
+use Prim.Native.Nat.{ℕ, _*_, _≤_, _<_}
 use native.Mathlib.Omega.{arith}
 use mathlib.Core.Bool.{false}
-use mathlib.Core.Path.{_≡_, refl, sym, ap, subst, _∙_}
+use mathlib.Core.Path.{_≡_, sym, ap, subst, _∙_}
 use mathlib.Core.List.{List, [], _∷_, _++_}
 use lib.ListN.{length}
 use Rattle.bytes_le.proofs.Numbers.{Below}
 use Rattle.awhile.specs.Language.{Com, mapNotes}
-use Rattle.awhile.specs.Tables.{Table, maxVariables, maxNodes, accepted, readTable}
+use Rattle.awhile.specs.Tables.{Table, maxVariables, accepted, readTable}
 use Rattle.awhile.specs.Trees.{rootOf}
-use Rattle.awhile.specs.Encoding.{nodesOf, tableBytes}
+use Rattle.awhile.specs.Encoding.{tableBytes}
 use Rattle.awhile.specs.WellFormed.{WellFormed, Within}
 use Rattle.awhile.proofs.Accepted.{accepted-well-formed}
 use Rattle.awhile.proofs.Ranges.{root-within}
@@ -20,11 +20,11 @@ use Rattle.masks.specs.Decisions.{Decision, decide}
 use Rattle.masks.specs.Covering.{Covers}
 use Rattle.masks.specs.Hardening.{Origin, harden, hardenedProgram, tableOfHardened, hardenedTable}
 use Rattle.masks.specs.SameRun.{AssignsBelow, plainRun, SameRun}
-use Rattle.masks.specs.Size.{MasksLargeConditions}
+use Rattle.masks.specs.Growth.{MasksLargeConditions}
 use Rattle.masks.specs.ReadBack.{originIn, ReadsBack}
 use Rattle.masks.specs.Demands.{Demands}
 use Rattle.masks.proofs.Decisions.{programFor, program-decided, decide-covers, assigns-below}
-use Rattle.masks.proofs.Size.{decide-large}
+use Rattle.masks.proofs.Growth.{decide-large}
 use Rattle.masks.proofs.Origins.{origins-kept}
 use Rattle.masks.proofs.ReadBack.{table-size, eightfold, hardened-nodes, hardened-reads-back}
 use Rattle.masks.proofs.SameRun.{same-run}

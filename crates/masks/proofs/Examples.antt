@@ -1,12 +1,14 @@
 -- Hardening, computed on small programs. The flag f is variable 2.
-use Prim.Native.Nat.{ℕ}
-use mathlib.Core.Bool.{false}
+use Prim.Native.Nat.{ℕ, _*_, _<_}
+use native.Mathlib.Omega.{arith}
+use mathlib.Core.Bool.{true, false}
 use mathlib.Core.Option.{none, some}
 use mathlib.Core.Path.{_≡_, refl}
-use Rattle.awhile.specs.Language.{AExp, number, variable, choice, BExp, equal, less, and}
+use Rattle.awhile.specs.Language.{AExp, number, variable, choice, BExp, constant, equal, less, and}
 use Rattle.awhile.specs.Language.{Com, skip, assign, sequence, if, while, read}
+use Rattle.awhile.specs.Encoding.{nodesOf}
 use Rattle.labels.specs.Annotation.{annotate}
-use Rattle.masks.specs.Decisions.{decide}
+use Rattle.masks.specs.Decisions.{Decision, decision, decide}
 use Rattle.masks.specs.Hardening.{Origin, harden}
 use Rattle.masks.proofs.Open.{opened}
 
@@ -54,3 +56,14 @@ pub public-value-masked :
     hardened (read 1 1 0 (variable 1)) ≡ sequence none (read (some 1) 1 0 (variable 1)) (assign none 1 (zeroIfSet (variable 1)))
 unfolding opened
 public-value-masked = refl
+
+-- an if on a masked constant
+abbrev maskedConstant : Com Decision → Com Decision
+maskedConstant c = if (decision 0 true false false) (constant true) c c
+
+-- two such ifs in one another grow more than eightfold: the bound of document 01 is about conditions that the labels may mask
+pub masked-constants-grow :
+    8 * nodesOf (maskedConstant (maskedConstant (skip (decision 0 false false false))))
+    < nodesOf (harden 2 (maskedConstant (maskedConstant (skip (decision 0 false false false)))))
+unfolding opened
+masked-constants-grow = omega arith

@@ -2,7 +2,7 @@
 pub mod Open
 pub mod Examples
 pub mod Decisions
-pub mod Size
+pub mod Growth
 pub mod Origins
 pub mod ReadBack
 pub mod SameRunSteps
@@ -15,3 +15,13 @@ pub mod OneStep
 pub mod LockedRuns
 pub mod Security
 pub mod Demands
+pub mod NodeRecords
+pub mod Parts
+pub mod SizeSums
+pub mod Lengths
+pub mod Unnamed
+pub mod Descents
+pub mod Writers
+pub mod Joins
+pub mod ExpressionWrites
+pub mod Masking

@@ -1,36 +1,35 @@
 -- A hardened table reads back as the hardened program.
-use Prim.Native.Nat.{ℕ, suc, _+_, _*_, _^_, _≤_, _<_}
+use Prim.Native.Nat.{ℕ, _+_, _*_, _≤_, _<_}
 use native.Mathlib.Numerals.{add-one}
 use native.Mathlib.Omega.{arith}
 use mathlib.Core.Bool.{false}
-use mathlib.Core.Path.{_≡_, refl, sym, ap, subst, _∙_}
-use mathlib.Core.List.{List, [], _∷_, map}
+use mathlib.Core.Path.{_≡_, refl, sym, ap, subst}
+use mathlib.Core.List.{List, map}
 use lib.ListN.{length, take}
 use lib.Seq.{take-length}
 use Rattle.awhile.specs.Language.{Com}
 use Rattle.awhile.specs.Lists.{sum}
-use Rattle.awhile.specs.Nodes.{form, fieldSize, sizeOf}
-use Rattle.awhile.specs.Tables.{Table, maxVariables, maxNodes, accepted, readTable, nodesStart, offsetOf}
+use Rattle.awhile.specs.Nodes.{sizeOf}
+use Rattle.awhile.specs.Tables.{Table, maxVariables, maxNodes, nodesStart, offsetOf}
 use Rattle.awhile.specs.Trees.{rootOf}
-use Rattle.awhile.specs.Encoding.{nodesOf, writeC, numbered, tableBytes}
+use Rattle.awhile.specs.Encoding.{nodesOf, tableBytes}
 use Rattle.awhile.specs.WellFormed.{Declared, WellFormed, Within}
 use Rattle.awhile.specs.declared.Labelling.{Labelling}
 use Rattle.awhile.specs.declared.Node.{Node}
-use Rattle.awhile.specs.declared.Node.the-variants.{Number, Variable, Add, Subtract, Multiply, Choice}
-use Rattle.awhile.specs.declared.Node.the-variants.{Constant, Equal, Less, Not, And}
-use Rattle.awhile.specs.declared.Node.the-variants.{Skip, Assign, Sequence, If, While, Read, Write}
+use Rattle.awhile.proofs.Records.{sizes-most}
 use Rattle.awhile.proofs.Reading.{length-tableBytes}
 use Rattle.awhile.proofs.Writing.{written-length, written-root, written-well-formed, written-reads-back}
 use Rattle.awhile.proofs.Ranges.{root-within}
 use Rattle.awhile.proofs.Size.{root-size}
-use Rattle.labels.specs.Labellings.{variableMark, labelOf}
+use Rattle.labels.specs.Sheet.{annotated}
+use Rattle.labels.specs.Labellings.{labelOf}
 use Rattle.labels.proofs.Masks.{bit-above}
-use Rattle.masks.specs.Decisions.{Decision}
-use Rattle.masks.specs.Hardening.{Origin, harden, tableOfHardened}
-use Rattle.masks.specs.Size.{MasksLargeConditions}
+use Rattle.masks.specs.Decisions.{Decision, decide}
+use Rattle.masks.specs.Hardening.{Origin, harden, hardenedProgram, tableOfHardened, hardenedTable}
+use Rattle.masks.specs.Growth.{MasksLargeConditions}
 use Rattle.masks.specs.ReadBack.{ReadsBack}
-use Rattle.masks.proofs.Decisions.{programFor}
-use Rattle.masks.proofs.Size.{hardened-size, hardened-within, nodesOf-mapped}
+use Rattle.masks.proofs.Decisions.{programFor, program-decided}
+use Rattle.masks.proofs.Growth.{hardened-size, hardened-within, nodesOf-mapped, decide-large}
 
 -- one more variable, not secret, may be declared where there is one free
 declared-more : (v : ℕ) (l : Labelling) (counts : List ℕ) → v < maxVariables → Declared v l counts → Declared (v + 1) l counts
@@ -45,39 +44,12 @@ declared-more v l counts free d =
     }
 
 -- ---- bytes
--- a node's record has at most 10 bytes
-record-size : (n : Node) → sizeOf n ≤ 10
-unfolding sizeOf form fieldSize sum
-record-size (Number n) = omega arith
-record-size (Variable x) = omega arith
-record-size (Add a b) = omega arith
-record-size (Subtract a b) = omega arith
-record-size (Multiply a b) = omega arith
-record-size (Choice c a b) = omega arith
-record-size (Constant n) = omega arith
-record-size (Equal a b) = omega arith
-record-size (Less a b) = omega arith
-record-size (Not a) = omega arith
-record-size (And a b) = omega arith
-record-size Skip = omega arith
-record-size (Assign x e) = omega arith
-record-size (Sequence c d) = omega arith
-record-size (If b c d) = omega arith
-record-size (While b c) = omega arith
-record-size (Read x a i) = omega arith
-record-size (Write a i e) = omega arith
-
-records-size : (ns : List Node) → sum (map sizeOf ns) ≤ 10 * length ns
-unfolding sum
-records-size [] = omega arith
-records-size (n ∷ ns) = omega (arith, record-size n, records-size ns)
-
 -- a table of so many nodes has at most so many bytes
 pub table-size : (t : Table) → length (tableBytes t) ≤ nodesStart (length (t .counts)) + 10 * length (t .nodes)
 unfolding offsetOf
 table-size t =
     let all : take (length (t .nodes)) (t .nodes) ≡ t .nodes = take-length (t .nodes) in
-    omega (arith, length-tableBytes t, ap (λ ns. sum (map sizeOf ns)) all, records-size (t .nodes))
+    omega (arith, length-tableBytes t, ap (λ ns. sum (map sizeOf ns)) all, sizes-most (t .nodes))
 
 -- ---- the hardened table of any decisions
 module _ (t : Table) (w : WellFormed t) (free : t .variables < maxVariables) (d : Com Decision) (program : programFor d ≡ rootOf t) where
@@ -100,14 +72,14 @@ module _ (t : Table) (w : WellFormed t) (free : t .variables < maxVariables) (d 
   -- as many nodes as the program has
   pub hardened-nodes : length (table′ .nodes) ≡ nodesOf program′
   unfolding tableOfHardened
-  hardened-nodes = written-length table′ program′ refl within′
+  hardened-nodes = written-length table′ program′ refl
 
   module _ (few : nodesOf program′ ≤ maxNodes) where
     -- it is well-formed
     pub hardened-well-formed : WellFormed table′
     unfolding tableOfHardened
     hardened-well-formed =
-        written-well-formed table′ program′ refl within′ (declared-more (t .variables) (t .labels) (t .counts) free (w .declared)) few
+        written-well-formed table′ program′ refl (declared-more (t .variables) (t .labels) (t .counts) free (w .declared)) within′ few
 
     -- its bytes read back as the hardened program
     pub hardened-reads-back : ReadsBack t program′ (tableBytes table′) table′
@@ -115,11 +87,20 @@ module _ (t : Table) (w : WellFormed t) (free : t .variables < maxVariables) (d 
     hardened-reads-back =
         record {
           accepts =
-              written-reads-back table′ program′ refl within′ (declared-more (t .variables) (t .labels) (t .counts) free (w .declared)) few;
+              written-reads-back table′ program′ refl (declared-more (t .variables) (t .labels) (t .counts) free (w .declared)) within′ few;
           variables = refl;
           flagPublic = bit-above (t .variables) (t .labels .variables) (t .variables) (w .declared .variableMaskFits) (omega arith);
           labels = refl;
           counts = refl;
           nodes = refl;
-          root = written-root table′ program′ refl within′;
+          root = written-root table′ program′ refl;
         }
+
+-- the hardened table by the labels is well-formed
+pub hardened-table-well-formed :
+    (t : Table) → WellFormed t → length (t .nodes) ≤ 512 → t .variables < maxVariables → WellFormed (hardenedTable t)
+unfolding hardenedProgram hardenedTable annotated
+hardened-table-well-formed t w small free =
+    let d : Com Decision = decide (annotated t) in
+    let program : programFor d ≡ rootOf t = program-decided (rootOf t) false (t .labels) in
+    hardened-well-formed t w free d program (omega (arith, eightfold t w free d program (decide-large (annotated t))))

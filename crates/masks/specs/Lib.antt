@@ -4,6 +4,10 @@ pub mod Hardening
 pub mod Covering
 pub mod SameRun
 pub mod Security
-pub mod Size
+pub mod Growth
 pub mod ReadBack
 pub mod Demands
+pub mod Records
+pub mod Written
+pub mod Sizes
+pub mod InMemory

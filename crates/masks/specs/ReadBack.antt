@@ -1,12 +1,12 @@
 -- "The hardened program is the one the hardened table reads back as": what that table is, and where its nodes come from.
-use Prim.Native.Nat.{ℕ, _+_, _*_, _≤_}
+use Prim.Native.Nat.{ℕ, _+_}
 use mathlib.Core.Bool.{false}
 use mathlib.Core.Option.{none}
 use mathlib.Core.List.{List, [], _∷_, _++_}
 use mathlib.Core.Path.{_≡_}
-use lib.ListN.{length, getD, replicate}
+use lib.ListN.{getD, replicate}
 use Rattle.awhile.specs.Language.{Com, skip, assign, sequence, if, while, read, write}
-use Rattle.awhile.specs.Tables.{Table, accepted, readTable, nodesStart}
+use Rattle.awhile.specs.Tables.{Table, accepted, readTable}
 use Rattle.awhile.specs.Trees.{rootOf}
 use Rattle.awhile.specs.Encoding.{nodesOfA, nodesOfB, writeC, numbered}
 use Rattle.labels.specs.Labellings.{variableMark, labelOf}

@@ -1,5 +1,5 @@
 -- "At most 8 nodes come out per node put in."
-use Prim.Native.Nat.{ℕ, _*_, _≤_}
+use Prim.Native.Nat.{_≤_}
 use mathlib.Core.Bool.{Bool, true}
 use mathlib.Core.Path.{_≡_}
 use Rattle.awhile.specs.Language.{BExp, Com, skip, assign, sequence, if, while, read, write}

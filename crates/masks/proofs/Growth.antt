@@ -3,20 +3,19 @@ use Prim.Native.Nat.{ℕ, _+_, _*_, _≤_, _<_}
 use native.Mathlib.Omega.{arith}
 use mathlib.Core.Bool.{Bool, true, false, cond}
 use mathlib.Core.Option.{none, some}
-use mathlib.Core.Path.{_≡_, refl, sym, ap, ap₂, subst, _∙_}
+use mathlib.Core.Path.{_≡_, refl}
 use Rattle.awhile.specs.Language.{AExp, number, variable, add, subtract, multiply, choice}
 use Rattle.awhile.specs.Language.{BExp, constant, equal, less, not, and}
 use Rattle.awhile.specs.Language.{Com, skip, assign, sequence, if, while, read, write, mapNotes}
 use Rattle.awhile.specs.Encoding.{nodesOfA, nodesOfB, nodesOf}
 use Rattle.awhile.specs.WellFormed.{WithinA, WithinB, Within}
 use Rattle.awhile.specs.declared.Labelling.{Labelling}
-use Rattle.labels.specs.Labellings.{labelOfA, labelOfB}
+use Rattle.labels.specs.Labellings.{labelOfB}
 use Rattle.labels.specs.Annotation.{Entry}
 use Rattle.labels.specs.Sheet.{entryOf}
-use Rattle.machine.proofs.Room.{nodesOf-some}
 use Rattle.masks.specs.Decisions.{Decision, decide}
 use Rattle.masks.specs.Hardening.{Origin, maskedCondition, zeroIfGuessing, maskedIndex, flagIfTrue, flagIfFalse, maskValueOf, harden}
-use Rattle.masks.specs.Size.{LargeIfMasked, MasksLargeConditions}
+use Rattle.masks.specs.Growth.{LargeIfMasked, MasksLargeConditions}
 use Rattle.masks.proofs.Decisions.{programFor}
 
 -- ---- how many nodes

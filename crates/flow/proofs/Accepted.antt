@@ -1,0 +1,113 @@
+-- What an accepted guessing call is: its table and its list are read, its slices have their lengths, and it leaves what the run leaves.
+use Prim.Native.Nat.{ℕ, zero, suc, _*_, _≤_}
+use native.Mathlib.Omega.{arith}
+use mathlib.Core.Bool.{Bool, true, false}
+use mathlib.Core.Option.{Option, none, some}
+use mathlib.Core.List.{List, []}
+use mathlib.Core.Path.{_≡_, refl, sym, ap, subst, _∙_}
+use lib.ListN.{length}
+use lib.Dec.{eqb, leb}
+use borrow.Author.Tests.{eqb-true, leb-true}
+use Rattle.awhile.specs.Lists.{sum}
+use Rattle.awhile.specs.Refusals.{Answer, refused, got, check, refusalNumber}
+use Rattle.awhile.specs.Tables.{Table, Reading, rejected, notATree, accepted, readTable}
+use Rattle.awhile.specs.declared.Refusal.{Refusal}
+use Rattle.awhile.specs.declared.Refusal.the-variants.{Cut, WrongRecord, BeyondLimit, OutOfRange, WrongSort, NotATree, ExtraBytes}
+use Rattle.awhile.specs.declared.Refusal.the-variants.{TooManyNodes, NoFreeVariable, BadDirectives}
+use Rattle.awhile.specs.declared.Refusal.the-variants.{WrongVariables, WrongCells, ShortPending, ShortBuffer}
+use Rattle.machine.specs.Directives.{readDirectives}
+use Rattle.machine.specs.Runs.{Guide, guessing}
+use Rattle.machine.specs.declared.Directive.{Directive}
+use Rattle.flow.specs.Answers.{tableIn}
+use Rattle.flow.specs.Running.{Lent, Ran, notRun, lentFor, ranAll, runIn, running, guessWith, guessEntry}
+
+-- no refusal has the number 0
+pub refusal-not-zero : (r : Refusal) → refusalNumber r ≡ 0 → ⊥
+refusal-not-zero (Cut at) e = omega arith
+refusal-not-zero (WrongRecord at) e = omega arith
+refusal-not-zero (BeyondLimit at) e = omega arith
+refusal-not-zero (OutOfRange at) e = omega arith
+refusal-not-zero (WrongSort at) e = omega arith
+refusal-not-zero (NotATree at) e = omega arith
+refusal-not-zero (ExtraBytes at) e = omega arith
+refusal-not-zero TooManyNodes e = omega arith
+refusal-not-zero NoFreeVariable e = omega arith
+refusal-not-zero BadDirectives e = omega arith
+refusal-not-zero WrongVariables e = omega arith
+refusal-not-zero WrongCells e = omega arith
+refusal-not-zero ShortPending e = omega arith
+refusal-not-zero ShortBuffer e = omega arith
+
+-- the slices' lengths are a table's
+pub record LentFits (lent : Lent) (t : Table) : Type 0 where
+  pub variables : length (lent .variables) ≡ 4 * t .variables
+  pub cells : length (lent .cells) ≡ 4 * sum (t .counts)
+  pub pending : 4 * length (t .nodes) ≤ length (lent .pending)
+
+pub record GuessAccepted (place : ℕ) (table directives : List ℕ) (lent : Lent) (budget : ℕ) (answer : List ℕ) : Type 0 where
+  pub read : Table
+  pub script : List Directive
+  pub reads : readTable table ≡ accepted read
+  pub scripted : readDirectives directives ≡ some script
+  pub fits : LentFits lent read
+  pub exit : guessEntry place table directives lent budget answer ≡ ranAll read lent answer (runIn read lent budget (guessing script))
+
+-- a check that is passed
+pub check-got : {A : Type 0} (b : Bool) (r : Refusal) (a : Answer A) (x : A) → check b r a ≡ got x → (b ≡ true) × (a ≡ got x)
+unfolding check
+check-got true r a x e = (refl, e)
+check-got false r a x e = let z : _≡_ {A = ℕ} 0 1 = cc in absurd (omega arith)
+
+lent-for : (lent : Lent) (t u : Table) → lentFor lent t ≡ got u → LentFits lent t × (t ≡ u)
+unfolding lentFor
+lent-for lent t u e =
+    let p = check-got (eqb (length (lent .variables)) (4 * t .variables)) WrongVariables _ u e in
+    let q = check-got (eqb (length (lent .cells)) (4 * sum (t .counts))) WrongCells _ u (p .1) in
+    let r = check-got (leb (4 * length (t .nodes)) (length (lent .pending))) ShortPending (got t) u (q .1) in
+    (record { variables = eqb-true _ _ (p .0); cells = eqb-true _ _ (q .0); pending = leb-true _ _ (r .0) }, cc (r .1))
+
+module _ (place : ℕ) (table directives : List ℕ) (lent : Lent) (budget : ℕ) (answer : List ℕ) where
+  -- the list is read, and the slices are looked at
+  lent-accepted : (t : Table) (ds : List Directive) (a : Answer Table) → lentFor lent t ≡ a
+      → guessEntry place table directives lent budget answer ≡ running a lent budget answer (guessing ds)
+      → readTable table ≡ accepted t → readDirectives directives ≡ some ds
+      → guessEntry place table directives lent budget answer .result ≡ 0 → GuessAccepted place table directives lent budget answer
+  unfolding running notRun
+  lent-accepted t ds (refused r) e call reads scripted zero′ = absurd (refusal-not-zero r (sym (ap (λ (x : Ran). x .result) call) ∙ zero′))
+  lent-accepted t ds (got u) e call reads scripted zero′ =
+      let h = lent-for lent t u e in
+      record {
+        read = t;
+        script = ds;
+        reads = reads;
+        scripted = scripted;
+        fits = h .0;
+        exit = call ∙ ap (λ (x : Table). ranAll x lent answer (runIn x lent budget (guessing ds))) (sym (h .1));
+      }
+
+  -- the table is read
+  table-accepted : (t : Table) (s : Option (List Directive)) → readDirectives directives ≡ s
+      → guessEntry place table directives lent budget answer ≡ guessWith (got t) lent budget answer s → readTable table ≡ accepted t
+      → guessEntry place table directives lent budget answer .result ≡ 0 → GuessAccepted place table directives lent budget answer
+  unfolding guessWith notRun
+  table-accepted t none e call reads zero′ = absurd (refusal-not-zero BadDirectives (sym (ap (λ (x : Ran). x .result) call) ∙ zero′))
+  table-accepted t (some ds) e call reads zero′ = lent-accepted t ds (lentFor lent t) refl call reads e zero′
+
+  -- every accepted guessing call is one
+  pub guess-accepted : guessEntry place table directives lent budget answer .result ≡ 0 → GuessAccepted place table directives lent budget answer
+  unfolding tableIn guessEntry guessWith notRun
+  guess-accepted zero′ = go (readTable table) refl
+    where
+      table-in : (t : Table) → readTable table ≡ accepted t → tableIn table place ≡ got t
+      table-in t e = rw (e, tableIn)
+
+      refused-call : (r : Refusal) → tableIn table place ≡ refused r → GuessAccepted place table directives lent budget answer
+      refused-call r e =
+          absurd (refusal-not-zero r (sym (ap (λ (a : Answer Table). guessWith a lent budget answer (readDirectives directives) .result) e) ∙ zero′))
+
+      go : (r : Reading) → readTable table ≡ r → GuessAccepted place table directives lent budget answer
+      go (rejected r) e = refused-call r (rw (e, tableIn))
+      go (notATree t) e = refused-call (NotATree place) (rw (e, tableIn))
+      go (accepted t) e =
+          table-accepted t (readDirectives directives) refl
+          (ap (λ (a : Answer Table). guessWith a lent budget answer (readDirectives directives)) (table-in t e)) e zero′

@@ -1,0 +1,72 @@
+-- Two parts, the second in the rest of the slice behind the first, and a parent over both.
+use Prim.Native.Nat.{ℕ, _+_, _-_, _^_, _≤_, _<_}
+use native.Mathlib.Omega.{arith}
+use mathlib.Core.Path.{_≡_, refl, sym, ap, subst, _∙_}
+use mathlib.Core.List.{List, [], _∷_, _++_, append-assoc}
+use lib.ListN.{length}
+use Rattle.awhile.specs.Encoding.{binary}
+use Rattle.awhile.specs.declared.Node.{Node}
+use Rattle.masks.specs.Sizes.{Few}
+use Rattle.masks.specs.Written.{Appended, Wrote, Both, Room}
+use Rattle.masks.specs.declared.Size.{Size}
+use Rattle.masks.specs.declared.Pair.{Pair}
+use Rattle.masks.proofs.SizeSums.{Short}
+use Rattle.masks.proofs.Lengths.{Counted, counted-append}
+use Rattle.masks.proofs.Writers.{sizeIs, restOf, withRest, wrote-sized, wrote-as, wrote-answer, wrote-parent, wrote-rest, room-parent}
+
+-- the second part is numbered on from the first
+module _ (from : ℕ) {ms : List Node} (ns : ℕ → List Node) {i j k h : ℕ} {l m rest : List ℕ} {s u : Size} (w : Wrote ms l m s) (a : Counted ms i j)
+    (v : Wrote (ns (from + s .nodes)) (restOf (s .bytes) m) rest u) (b : (first : ℕ) → Counted (ns first) k h) where
+  -- their sizes may be added
+  pub two-few : {n y : ℕ} → Room from n y l → i + k ≤ n → 0 < i → Short i j → Short k h
+      → Few (from + s .nodes + u .nodes) (s .bytes + u .bytes) × (0 < s .nodes)
+  two-few r enough some f g =
+      let first = wrote-sized w a in
+      let second = wrote-sized v (b (from + s .nodes)) in (
+        record {
+          fewNodes = omega (arith, r .numbers, first .nodesCounted, second .nodesCounted);
+          fewBytes = omega (arith, r .numbers, first .bytesCounted, second .bytesCounted, f .short, g .short);
+        },
+        omega (arith, first .nodesCounted),
+      )
+
+  module _ {p : Pair} (added : Both from s u p) where
+    -- both are written
+    pub two-wrote : j + h ≤ length l → Wrote (ms ++ ns (from + i)) l (withRest (s .bytes) m rest) (sizeIs (p .nodes) (p .bytes))
+    two-wrote room =
+        let first = wrote-sized w a in
+        let second = wrote-sized v (b (from + s .nodes)) in
+        let fits : s .bytes + u .bytes ≤ length l = omega (arith, first .bytesCounted, second .bytesCounted) in
+        wrote-answer (wrote-as (wrote-rest w v fits) (ap (λ e. ms ++ ns (from + e)) (first .nodesCounted))) (added .nodesAdd) (added .bytesAdd)
+
+    -- a parent has room
+    pub two-room : (size : ℕ) {n y : ℕ} → Room from n y l → i + k + 1 ≤ n → j + h + size ≤ y
+        → (p .bytes + size ≤ length (withRest (s .bytes) m rest)) × (p .nodes < 2 ^ 32)
+    two-room size r e f = room-parent size (two-wrote (omega (arith, r .fits))) (counted-append a (b (from + i))) r (omega arith) (omega arith)
+
+    -- and is written behind them
+    pub two-parent : (f : ℕ → ℕ → Node) {x : List ℕ} {r : Size} → j + h ≤ length l
+        → Appended (p .nodes) (p .bytes) (f (p .left) (p .right)) (withRest (s .bytes) m rest) x r
+        → Wrote (ms ++ (ns (from + i) ++ (binary f from i k ∷ []))) l x r
+    unfolding binary
+    two-parent f room parent =
+        let first = wrote-sized w a in
+        let second = wrote-sized v (b (from + s .nodes)) in
+        let left : p .left ≡ from + i - 1 = omega (arith, added .leftLast, first .nodesCounted) in
+        let right : p .right ≡ from + i + k - 1 = omega (arith, added .rightLast, first .nodesCounted, second .nodesCounted) in
+        wrote-as (wrote-parent (two-wrote room) parent)
+        (append-assoc ms (ns (from + i)) (f (p .left) (p .right) ∷ [])
+        ∙ ap (λ n. ms ++ (ns (from + i) ++ (n ∷ []))) (ap (λ e. f e (p .right)) left ∙ ap (f (from + i - 1)) right))
+
+-- one part and a parent over it
+module _ (from : ℕ) {ms : List Node} {i j : ℕ} {l m : List ℕ} {s : Size} where
+  pub one-parent : {x : List ℕ} {r : Size} (f : ℕ → Node) → Wrote ms l m s → Counted ms i j → {e : ℕ} → e ≡ from + s .nodes - 1 → Appended (s .nodes) (s .bytes) (f e) m x r
+      → Wrote (ms ++ (f (from + i - 1) ∷ [])) l x r
+  one-parent f w a e parent =
+      wrote-as (wrote-parent w parent) (ap (λ n. ms ++ (f n ∷ [])) (e ∙ ap (λ n. from + n - 1) (wrote-sized w a .nodesCounted)))
+
+  -- the number of its last node
+  pub one-last : {n y : ℕ} → Wrote ms l m s → Counted ms i j → Room from n y l → i ≤ n → 0 < i → (0 < s .nodes) × (from + s .nodes ≤ 4096)
+  one-last w a r enough some =
+      let size = wrote-sized w a in
+      (omega (arith, size .nodesCounted), omega (arith, r .numbers, size .nodesCounted))
