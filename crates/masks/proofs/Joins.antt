@@ -4,10 +4,13 @@ use native.Mathlib.Omega.{arith}
 use mathlib.Core.Path.{_≡_, refl, sym, ap, subst, _∙_}
 use mathlib.Core.List.{List, [], _∷_, _++_, append-assoc}
 use lib.ListN.{length}
+use lib.Seq.{sets}
 use Rattle.awhile.specs.Encoding.{binary}
+use Rattle.awhile.specs.Nodes.{sizeOf, nodeBytes}
 use Rattle.awhile.specs.declared.Node.{Node}
+use Rattle.awhile.specs.declared.Node.the-variants.{Sequence}
 use Rattle.masks.specs.Sizes.{Few}
-use Rattle.masks.specs.Written.{Appended, Wrote, Both, Room}
+use Rattle.masks.specs.Written.{Appended, Wrote, Both, pairOf, Room}
 use Rattle.masks.specs.declared.Size.{Size}
 use Rattle.masks.specs.declared.Pair.{Pair}
 use Rattle.masks.proofs.SizeSums.{Short}
@@ -58,6 +61,24 @@ module _ (from : ℕ) {ms : List Node} (ns : ℕ → List Node) {i j k h : ℕ} 
         wrote-as (wrote-parent (two-wrote room) parent)
         (append-assoc ms (ns (from + i)) (f (p .left) (p .right) ∷ [])
         ∙ ap (λ n. ms ++ (ns (from + i) ++ (n ∷ []))) (ap (λ e. f e (p .right)) left ∙ ap (f (from + i - 1)) right))
+
+-- the sum of two sizes, as it is computed
+pub both-of : (from : ℕ) (s u : Size) → Both from s u (pairOf from s u)
+both-of from s u = record { nodesAdd = refl; bytesAdd = refl; leftLast = refl; rightLast = refl }
+
+-- a sequence over them
+pub appended-pair : {from : ℕ} {s u : Size} {p : Pair} {l k : List ℕ} {r : Size} → Both from s u p
+    → Appended (p .nodes) (p .bytes) (Sequence (p .left) (p .right)) l k r
+    → Appended (s .nodes + u .nodes) (s .bytes + u .bytes) (Sequence (from + s .nodes - 1) (from + (s .nodes + u .nodes) - 1)) l k r
+appended-pair {from} {s} {u} {p} {l} {k} {r} b a =
+    let left = b .leftLast in
+    let right = b .rightLast in
+    let node : Sequence (p .left) (p .right) ≡ Sequence (from + s .nodes - 1) (from + (s .nodes + u .nodes) - 1) = cc in
+    record {
+      stored = a .stored ∙ ap (λ i. sets l i (nodeBytes (Sequence (p .left) (p .right)))) (b .bytesAdd) ∙ ap (λ n. sets l (s .bytes + u .bytes) (nodeBytes n)) node;
+      nodesCounted = omega (arith, a .nodesCounted, b .nodesAdd);
+      bytesCounted = a .bytesCounted ∙ ap (λ i. i + sizeOf (Sequence (p .left) (p .right))) (b .bytesAdd) ∙ ap (λ n. s .bytes + u .bytes + sizeOf n) node;
+    }
 
 -- one part and a parent over it
 module _ (from : ℕ) {ms : List Node} {i j : ℕ} {l m : List ℕ} {s : Size} where

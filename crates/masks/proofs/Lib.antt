@@ -25,3 +25,4 @@ pub mod Writers
 pub mod Joins
 pub mod ExpressionWrites
 pub mod Masking
+pub mod AccessWrites

@@ -1,4 +1,5 @@
 // The hardened program: what needs masking is masked.
+pub mod accesses;
 pub mod copies;
 pub mod deciding;
 pub mod masked;
