@@ -26,3 +26,4 @@ pub mod Joins
 pub mod ExpressionWrites
 pub mod Masking
 pub mod AccessWrites
+pub mod CommandWrites

@@ -40,6 +40,12 @@ abbrev pub pairOf : (from : ℕ) → (first second : Size) → Pair
 pairOf from s u =
     record { left = from + s .nodes - 1; right = from + (s .nodes + u .nodes) - 1; nodes = s .nodes + u .nodes; bytes = s .bytes + u .bytes }
 
+-- two lists of nodes, one behind the other, numbered from a number on
+pub record WroteTwo (from : ℕ) (first second : List Node) (before after : List ℕ) (answer : Pair) : Type 0 where
+  pub wrote : Wrote (first ++ second) before after (record { nodes = answer .nodes; bytes = answer .bytes })
+  pub leftIs : answer .left ≡ from + length first - 1
+  pub rightIs : answer .right ≡ from + length first + length second - 1
+
 -- two numeric expressions, one behind the other
 pub record WrotePair (from : ℕ) (a b : AExp) (before after : List ℕ) (answer : Pair) : Type 0 where
   pub wrote : Wrote (writeA from a ++ writeA (from + nodesOfA a) b) before after (record { nodes = answer .nodes; bytes = answer .bytes })
