@@ -25,3 +25,5 @@ pub mod Writers
 pub mod Joins
 pub mod ExpressionWrites
 pub mod Masking
+pub mod AccessWrites
+pub mod CommandWrites

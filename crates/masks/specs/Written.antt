@@ -36,6 +36,16 @@ pub record Both (from : ℕ) (first second : Size) (answer : Pair) : Type 0 wher
   pub leftLast : answer .left ≡ from + first .nodes - 1
   pub rightLast : answer .right ≡ from + (first .nodes + second .nodes) - 1
 
+abbrev pub pairOf : (from : ℕ) → (first second : Size) → Pair
+pairOf from s u =
+    record { left = from + s .nodes - 1; right = from + (s .nodes + u .nodes) - 1; nodes = s .nodes + u .nodes; bytes = s .bytes + u .bytes }
+
+-- two lists of nodes, one behind the other, numbered from a number on
+pub record WroteTwo (from : ℕ) (first second : List Node) (before after : List ℕ) (answer : Pair) : Type 0 where
+  pub wrote : Wrote (first ++ second) before after (record { nodes = answer .nodes; bytes = answer .bytes })
+  pub leftIs : answer .left ≡ from + length first - 1
+  pub rightIs : answer .right ≡ from + length first + length second - 1
+
 -- two numeric expressions, one behind the other
 pub record WrotePair (from : ℕ) (a b : AExp) (before after : List ℕ) (answer : Pair) : Type 0 where
   pub wrote : Wrote (writeA from a ++ writeA (from + nodesOfA a) b) before after (record { nodes = answer .nodes; bytes = answer .bytes })

@@ -1,4 +1,6 @@
 // The hardened program: what needs masking is masked.
+pub mod accesses;
+pub mod commands;
 pub mod copies;
 pub mod deciding;
 pub mod masked;
