@@ -3,8 +3,8 @@ use mathlib.Core.Path.{sym, _∙_}
 use denote.Ref.{now}
 use Rattle.awhile.proofs.Answering.{labels-stop, cells-stop, declared-on}
 use borrow.Author.Needs.{needs}
-use Rattle.awhile.proofs.tables.read_declared.Statement.{statement}
-use Rattle.awhile.proofs.tables.read_declared.Tie as tie
+use Rattle.awhile.proofs.table_reader.read_declared.Statement.{statement}
+use Rattle.awhile.proofs.table_reader.read_declared.Tie as tie
 
 read-labels-requires : tie.Need-read-labels-requires
 read-labels-requires c κs = search needs

@@ -4,8 +4,8 @@ use denote.Ref.{now}
 use Rattle.awhile.proofs.Tally.{zeros-below}
 use Rattle.awhile.proofs.Answering.{on-refused, on-finished}
 use borrow.Author.Needs.{needs}
-use Rattle.awhile.proofs.tables.read_on.Statement.{statement}
-use Rattle.awhile.proofs.tables.read_on.Tie as tie
+use Rattle.awhile.proofs.table_reader.read_on.Statement.{statement}
+use Rattle.awhile.proofs.table_reader.read_on.Tie as tie
 
 slice-aggregate-read-nodes : tie.Need-slice-aggregate-read-nodes
 slice-aggregate-read-nodes c = search needs

@@ -2,8 +2,8 @@
 use denote.Ref.{now}
 use Rattle.awhile.proofs.Answering.{finish-broken, finish-extra, finish-accepted}
 use borrow.Author.Needs.{needs}
-use Rattle.awhile.proofs.tables.finish.Statement.{statement}
-use Rattle.awhile.proofs.tables.finish.Tie as tie
+use Rattle.awhile.proofs.table_reader.finish.Statement.{statement}
+use Rattle.awhile.proofs.table_reader.finish.Tie as tie
 
 sub-offset-at : tie.Need-sub-offset-at
 sub-offset-at c = search needs

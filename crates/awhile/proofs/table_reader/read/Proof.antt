@@ -3,8 +3,8 @@ use mathlib.Core.Path.{sym, _∙_}
 use denote.Ref.{now}
 use Rattle.awhile.proofs.Answering.{header-stop, header-limits, header-on}
 use borrow.Author.Needs.{needs}
-use Rattle.awhile.proofs.tables.read.Statement.{statement}
-use Rattle.awhile.proofs.tables.read.Tie as tie
+use Rattle.awhile.proofs.table_reader.read.Statement.{statement}
+use Rattle.awhile.proofs.table_reader.read.Tie as tie
 
 read-header-requires : tie.Need-read-header-requires
 read-header-requires c κs = search needs
