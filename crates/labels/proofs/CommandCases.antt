@@ -2,14 +2,14 @@
 use Prim.Native.Nat.{ℕ, _+_, _≤_, _<_}
 use mathlib.Core.Bool.{Bool, cond, _||_}
 use mathlib.Core.List.{List, [], _∷_}
-use mathlib.Core.Path.{_≡_, refl, sym, ap, subst, _∙_}
+use mathlib.Core.Path.{_≡_, subst}
 use native.Mathlib.Omega.{arith}
 use denote.Enum.Declared.{tagOf}
 use types.Run.{OneOf, miss}
 use lib.Dec.{eqb}
 use lib.ListN.{length, getD}
-use Rattle.awhile.specs.Index.{nodesIn, nodeIn, numericIn, truthIn, commandIn}
-use Rattle.awhile.specs.Language.{BExp, Com, skip, assign, sequence, if, while, read, write, noteOf}
+use Rattle.awhile.specs.Index.{numericIn, truthIn, commandIn}
+use Rattle.awhile.specs.Language.{sequence, if, while}
 use Rattle.awhile.specs.Nodes.{form, sortOf}
 use Rattle.awhile.specs.declared.Labelling.{Labelling}
 use Rattle.awhile.specs.declared.Sort.the-variants.{Command}
@@ -17,11 +17,11 @@ use Rattle.awhile.specs.declared.Node.{Node}
 use Rattle.awhile.specs.declared.Node.the-variants.{Number, Variable, Add, Subtract, Multiply, Choice}
 use Rattle.awhile.specs.declared.Node.the-variants.{Constant, Equal, Less, Not, And}
 use Rattle.awhile.specs.declared.Node.the-variants.{Skip, Assign, Sequence, If, While, Read, Write}
-use Rattle.awhile.proofs.Index.{Child, Parts}
+use Rattle.awhile.proofs.Index.{Parts}
 use Rattle.awhile.proofs.Node.{the-type}
 use Rattle.labels.specs.Labellings.{variableMark, arrayMark, labelOfA, labelOfB, setLabel, join}
 use Rattle.labels.specs.Analysis.{readLabel, writeLabel, analyse}
-use Rattle.labels.specs.Warm.{standing, Distinct, Outside, InOrder}
+use Rattle.labels.specs.Warm.{standing, Distinct, InOrder}
 use Rattle.labels.specs.Conditions.{NoteRoom, Analysable, Analysed, Settleable, SettledLoop}
 use Rattle.labels.proofs.CommandNotes.{NotedAt, distinct-part, skip-analysed, assign-analysed, read-analysed, write-analysed}
 use Rattle.labels.proofs.CommandNotes.{first-ready, second-ready, sequence-analysed, if-analysed, loop-ready, while-analysed}

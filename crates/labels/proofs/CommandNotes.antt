@@ -8,14 +8,14 @@ use native.Mathlib.Omega.{arith}
 use lib.Dec.{eqb}
 use lib.ListN.{length, getD, set}
 use lib.Seq.{getD-set-same, getD-set-other}
-use borrow.Author.Tests.{eq-eqb, ne-eqb, eqb-true, eqb-false}
+use borrow.Author.Tests.{eq-eqb, ne-eqb, eqb-false}
 use Rattle.awhile.specs.Language.{AExp, BExp, Com, skip, assign, sequence, if, while, read, write, noteOf}
 use Rattle.awhile.specs.declared.Labelling.{Labelling}
 use Rattle.labels.specs.Labellings.{labelOfB, join}
 use Rattle.labels.specs.Analysis.{analyse}
-use Rattle.labels.specs.Annotation.{Entry, entered, annotate}
+use Rattle.labels.specs.Annotation.{entered, annotate}
 use Rattle.labels.specs.Notes.{noteIn, arrayNote, Noted}
-use Rattle.labels.specs.Warm.{standing, Distinct, Outside, keptIn, InOrder}
+use Rattle.labels.specs.Warm.{standing, Distinct, Outside, InOrder}
 use Rattle.labels.specs.Conditions.{Analysed, SettledLoop}
 use Rattle.labels.proofs.Masks.{digit-small}
 use Rattle.labels.proofs.Warm.{SameOn, outside-same, in-order-same, in-order-loop, noted-same}

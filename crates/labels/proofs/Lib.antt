@@ -15,3 +15,8 @@ pub mod CommandNotes
 pub mod Settling
 pub mod CommandCases
 pub mod Standing
+pub mod SheetRecords
+pub mod SheetNodes
+pub mod Stored
+pub mod SheetLengths
+pub mod WholeProgram

@@ -3,7 +3,7 @@ use borrow.Author.Needs.{needs}
 use denote.Ref.{now}
 use mathlib.Core.Path.{_≡_, refl, sym, ap, subst, _∙_}
 use native.Mathlib.Omega.{arith}
-use Rattle.awhile.specs.Index.{numericIn, truthIn, commandIn}
+use Rattle.awhile.specs.Index.{truthIn, commandIn}
 use Rattle.labels.specs.Rules.{publicAmong, declaredMarks, Within}
 use Rattle.awhile.specs.Language.{Com, while, noteOf}
 use Rattle.awhile.proofs.Index.{Child, Parts, indexed-parts, indexed-note, indexed-well-formed}

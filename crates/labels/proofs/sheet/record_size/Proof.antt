@@ -1,0 +1,88 @@
+-- `record_size` goes by the kind of a node.
+use mathlib.Core.Path.{_≡_, sym, ap, _∙_}
+use native.Mathlib.Omega.{arith}
+use denote.Ref.{now}
+use Rattle.bytes_le.proofs.Numbers.{slice-bytes}
+use Rattle.awhile.specs.declared.Node.{Node}
+use Rattle.awhile.proofs.Index.{Parts, indexed-parts}
+use Rattle.labels.specs.Sheet.{recordLength}
+use Rattle.labels.proofs.SheetNodes.{unrecorded}
+use borrow.Author.Needs.{needs}
+use Rattle.labels.proofs.sheet.record_size.Statement.{statement}
+use Rattle.labels.proofs.sheet.record_size.Tie as tie
+
+parts : (d : tie.After-node-at) (m : Node) → d .node-at .result ≡ m → Parts (now (d .before .before .before .args .table)) (d .before .before .before .args .n) m
+parts d m e =
+    let start = d .before .before .before in
+    let table = now (start .args .table) in
+    indexed-parts table (now (start .args .index)) (slice-bytes table (d .before .before .shared-slice-known .given)) (start .pre .0) (start .args .n) (start .pre .1) m
+    (sym (d .node-at .ensures) ∙ e)
+
+node-at-requires : tie.Need-node-at-requires
+node-at-requires c κs = search needs
+
+enum-told : tie.Need-enum-told
+enum-told c = search needs
+
+enum-told-2 : tie.Need-enum-told-2
+enum-told-2 c = search needs
+
+enum-told-3 : tie.Need-enum-told-3
+enum-told-3 c = search needs
+
+enum-told-4 : tie.Need-enum-told-4
+enum-told-4 c = search needs
+
+enum-told-5 : tie.Need-enum-told-5
+enum-told-5 c = search needs
+
+returns : tie.Need-returns
+unfolding recordLength
+returns c =
+    (sym (ap recordLength (parts (c .before .before) _ (c .enum-told .given .1) .2)), omega arith)
+
+returns-2 : tie.Need-returns-2
+unfolding recordLength
+returns-2 c =
+    (sym (ap recordLength (parts (c .before .before) _ (c .enum-told2 .given .1) .3)), omega arith)
+
+returns-3 : tie.Need-returns-3
+unfolding recordLength
+returns-3 c =
+    (sym (ap recordLength (parts (c .before .before) _ (c .enum-told3 .given .1) .2)), omega arith)
+
+returns-4 : tie.Need-returns-4
+unfolding recordLength
+returns-4 c =
+    (sym (ap recordLength (parts (c .before .before) _ (c .enum-told4 .given .1) .3)), omega arith)
+
+returns-5 : tie.Need-returns-5
+unfolding recordLength
+returns-5 c =
+    (sym (ap recordLength (parts (c .before .before) _ (c .enum-told5 .given .1) .3)), omega arith)
+
+returns-6 : tie.Need-returns-6
+returns-6 c =
+    let start = c .before .before .before .before in
+    let table = now (start .args .table) in (
+      unrecorded table (now (start .args .index)) (slice-bytes table (c .before .before .before .shared-slice-known .given)) (start .pre .0) (start .args .n) (start .pre .1)
+          (c .before .node-at .result) (c .match .keys6) (sym (c .before .node-at .ensures)),
+      omega arith,
+    )
+
+pub record-size-spec : {M : Type 1} → statement M
+record-size-spec =
+    tie.close
+    (tie.spec
+    node-at-requires
+    enum-told
+    enum-told-2
+    enum-told-3
+    enum-told-4
+    enum-told-5
+    returns
+    returns-2
+    returns-3
+    returns-4
+    returns-5
+    returns-6)
