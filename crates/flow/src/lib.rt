@@ -1,3 +1,3 @@
 // The exported entries, and nothing else.
 mod answer;
-mod sheet;
+pub mod sheet;
