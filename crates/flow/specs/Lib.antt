@@ -7,3 +7,4 @@ pub mod Promises
 pub mod Hardened
 pub mod Program
 pub mod Outcomes
+pub mod Runs
