@@ -6,3 +6,5 @@ pub mod Hardened
 pub mod Answers
 pub mod Program
 pub mod Reading
+pub mod Outcomes
+pub mod Runs

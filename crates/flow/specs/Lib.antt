@@ -6,3 +6,5 @@ pub mod Security
 pub mod Promises
 pub mod Hardened
 pub mod Program
+pub mod Outcomes
+pub mod Runs

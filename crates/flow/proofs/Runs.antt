@@ -1,0 +1,233 @@
+-- The running entries, from what their inner functions came to.
+use Prim.Native.Nat.{ℕ, _+_, _*_, _≤_, _<_}
+use native.Mathlib.Omega.{arith}
+use mathlib.Core.Bool.{Bool, true, false, cond}
+use mathlib.Core.Option.{Option, none, some}
+use mathlib.Core.List.{List, [], _∷_}
+use mathlib.Core.Path.{_≡_, refl, sym, ap, subst, _∙_}
+use lib.ListN.{length, drop}
+use lib.Dec.{eqb, leb}
+use borrow.Author.Tests.{eq-eqb, ne-eqb, le-leb, lt-leb}
+use Rattle.bytes_le.specs.Numbers.{words}
+use Rattle.bytes_le.proofs.Numbers.{Below}
+use Rattle.awhile.specs.Lists.{sum}
+use Rattle.awhile.specs.Refusals.{Answer, refused, got, check, andThen, refusalNumber}
+use Rattle.awhile.specs.Tables.{Table, readTable, rejected, notATree, accepted, BreaksRule}
+use Rattle.awhile.specs.Index.{Indexed, tableOf, nodesIn, Answers}
+use Rattle.awhile.proofs.Index.{indexed-well-formed, indexed-few}
+use Rattle.awhile.proofs.Answering.{AcceptedTable, RefusedTable, byRecord, byOrder, accepting, refusing}
+use Rattle.awhile.specs.declared.Labelling.{Labelling}
+use Rattle.awhile.specs.declared.Read.{Read}
+use Rattle.awhile.specs.declared.Read.the-variants.{Accepted}
+use Rattle.awhile.specs.declared.Read.the-variants.{Refused as RefusedRead}
+use Rattle.awhile.specs.declared.Refusal.{Refusal}
+use Rattle.awhile.specs.declared.Refusal.the-variants.{BadDirectives, WrongVariables, WrongCells, ShortPending, NotATree}
+use Rattle.machine.specs.Directives.{readDirectives, directivesIn}
+use Rattle.machine.specs.Listed.{isSome}
+use Rattle.machine.specs.Runs.{plain, guessing, endNumber}
+use Rattle.machine.specs.Memory.{runNumbers}
+use Rattle.machine.specs.Evaluation.{variablesIn}
+use Rattle.machine.specs.Stepping.{cellsIn}
+use Rattle.machine.specs.Guiding.{Readable, orNone, directivesFrom, guideOf}
+use Rattle.machine.specs.Running.{runOf, reportOf, RunAsked, RunLeaves}
+use Rattle.machine.specs.declared.run.Report.{Report}
+use Rattle.flow.specs.Answers.{answered, refusalNumbers, tableIn}
+use Rattle.flow.specs.Running.{Lent, Ran, notRun, lentFor, ranAll, runIn, running, runEntry, guessWith, guessEntry}
+use Rattle.flow.specs.Promises.{Placed}
+use Rattle.flow.specs.Runs.{lentAt, reportNumbers, resultOf, numbersOf, RunReady, runnable, CameTo, not-run, has-run, DoneAs, ReadDone, runCall, guessCall, RunsAs}
+use Rattle.flow.specs.declared.machines.Done.{Done}
+use Rattle.flow.specs.declared.machines.Done.the-variants.{Refused, Ended}
+
+-- ---- a table that was read
+module _ (table index list : List ℕ) (variables arrays nodes cells : ℕ) (ready : RunReady table index variables arrays nodes cells) where
+  -- its numbers are small
+  pub ready-small : Below 256 table → (variables ≤ 32) × (cells ≤ 16384) × (nodes ≤ 4096)
+  ready-small bytes =
+      let w = indexed-well-formed table index bytes (ready .indexed) in (
+        omega (arith, ready .isVariables, w .declared .variablesFit),
+        omega (arith, ready .isCells, w .declared .cellsFit),
+        omega (arith, ready .isNodes, indexed-few table index bytes (ready .indexed)),
+      )
+
+  module _ (isGuessing : Bool) (budget : ℕ) (vs cs ps os : List ℕ) where
+    abbrev lent : Lent
+    lent = lentAt vs cs ps os
+
+    -- refused, with the lent slices as they were
+    refused-done : (r : Refusal) → runnable list lent (tableOf table) ≡ refused r → DoneAs table list isGuessing budget lent lent (Refused r)
+    refused-done r e = record { came = not-run r e refl }
+
+    module _ (reads : Bool) (isReads : reads ≡ isSome (readDirectives list)) where
+      pub bad-list : reads ≡ false → DoneAs table list isGuessing budget lent lent (Refused BadDirectives)
+      unfolding runnable check
+      bad-list bad = refused-done BadDirectives (rw (sym isReads ∙ bad))
+
+      module _ (good : reads ≡ true) where
+        runnable-lent : runnable list lent (tableOf table) ≡ lentFor lent (tableOf table)
+        unfolding runnable check
+        runnable-lent = rw (sym isReads ∙ good)
+
+        pub wrong-variables : (length vs ≡ 4 * variables → ⊥) → DoneAs table list isGuessing budget lent lent (Refused WrongVariables)
+        unfolding lentFor check
+        wrong-variables wrong =
+            refused-done WrongVariables (runnable-lent ∙ rw (ne-eqb (length vs) (4 * tableOf table .variables) (λ e. wrong (e ∙ ap (λ n. 4 * n) (sym (ready .isVariables))))))
+
+        module _ (isVariables : length vs ≡ 4 * variables) where
+          rightV : eqb (length vs) (4 * tableOf table .variables) ≡ true
+          rightV = eq-eqb (length vs) (4 * tableOf table .variables) (isVariables ∙ ap (λ n. 4 * n) (ready .isVariables))
+
+          pub wrong-cells : (length cs ≡ 4 * cells → ⊥) → DoneAs table list isGuessing budget lent lent (Refused WrongCells)
+          unfolding lentFor check
+          wrong-cells wrong =
+              refused-done WrongCells (runnable-lent ∙ rw (rightV, ne-eqb (length cs) (4 * sum (tableOf table .counts)) (λ e. wrong (e ∙ ap (λ n. 4 * n) (sym (ready .isCells))))))
+
+          module _ (isCells : length cs ≡ 4 * cells) where
+            rightC : eqb (length cs) (4 * sum (tableOf table .counts)) ≡ true
+            rightC = eq-eqb (length cs) (4 * sum (tableOf table .counts)) (isCells ∙ ap (λ n. 4 * n) (ready .isCells))
+
+            pub short-pending : length ps < 4 * nodes → DoneAs table list isGuessing budget lent lent (Refused ShortPending)
+            unfolding lentFor check nodesIn
+            short-pending short =
+                refused-done ShortPending (runnable-lent ∙ rw (rightV, rightC, lt-leb (4 * length (tableOf table .nodes)) (length ps) (omega (arith, ready .isNodes))))
+
+            module _ (long : 4 * nodes ≤ length ps) where
+              -- all is right for a run
+              pub run-asked : RunAsked table index list arrays nodes vs cs ps
+              run-asked =
+                  record {
+                    indexed = ready .indexed;
+                    isArrays = ready .isArrays;
+                    isNodes = ready .isNodes;
+                    readable = record { within = omega arith; reads = sym isReads ∙ good };
+                    variablesLong = isVariables ∙ ap (λ n. 4 * n) (ready .isVariables);
+                    cellsLong = isCells ∙ ap (λ n. 4 * n) (ready .isCells);
+                    pendingLong = long;
+                  }
+
+              -- a run that was made
+              same-run : runOf table list isGuessing budget vs cs os ≡ runIn (tableOf table) lent budget (guideOf isGuessing list 0)
+              unfolding runOf runIn variablesIn cellsIn
+              same-run = refl
+
+              pub run-done : (vs′ cs′ ps′ os′ : List ℕ) (r : Report) → RunLeaves (runOf table list isGuessing budget vs cs os) nodes ps os vs′ cs′ ps′ os′ r
+                  → DoneAs table list isGuessing budget lent (lentAt vs′ cs′ ps′ os′) (Ended r)
+              unfolding lentFor check nodesIn ranAll
+              run-done vs′ cs′ ps′ os′ r left =
+                  let leaves = rw (same-run, ready .isNodes) at left in
+                  record {
+                    came =
+                        has-run (tableOf table) r
+                        (runnable-lent ∙ rw (rightV, rightC, le-leb (4 * length (tableOf table .nodes)) (length ps) (omega (arith, ready .isNodes))))
+                        (λ i. record { variables = leaves .variables i; cells = leaves .cells i; pending = leaves .pending i; observations = leaves .observations i })
+                        (leaves .report);
+                  }
+
+-- ---- a table that the reader accepts
+pub read-accepted : (table index : List ℕ) (found : Read) (vs arrs nodes cells : ℕ) (labels : Labelling) (end : ℕ) → Answers table index found → found ≡ Accepted vs arrs nodes cells labels end
+    → RunReady table index vs arrs nodes cells
+unfolding nodesIn
+read-accepted table index found vs arrs nodes cells labels end answers is =
+    let a = accepting table index vs arrs nodes cells labels end (rw is at answers) in
+    record {
+      indexed = a .indexed;
+      isVariables = sym (a .declares .isVariables);
+      isArrays = sym (a .declares .isArrays);
+      isNodes = sym (a .declares .isNodes);
+      isCells = sym (a .declares .isCells);
+    }
+
+-- ---- any table
+-- the place is free unless the table is refused by 6
+free-place : (table : List ℕ) (place : ℕ) → ((t : Table) → readTable table ≡ notATree t → ⊥) → Placed table place
+free-place table place never = record { broken = λ t e. absurd (never t e) }
+
+not-both : (table : List ℕ) (q : Refusal) (t : Table) → readTable table ≡ rejected q → readTable table ≡ notATree t → ⊥
+not-both table q t e f = let z : _≡_ {A = ℕ} 0 1 = cc in omega arith
+
+not-tree : (table : List ℕ) (u t : Table) → readTable table ≡ accepted u → readTable table ≡ notATree t → ⊥
+not-tree table u t e f = let z : _≡_ {A = ℕ} 0 1 = cc in omega arith
+
+same-table : (table : List ℕ) (t u : Table) → readTable table ≡ notATree t → readTable table ≡ notATree u → t ≡ u
+same-table table t u e f = cc
+
+module _ (table index list : List ℕ) (isGuessing : Bool) (budget : ℕ) (lent : Lent) where
+  -- a table that the reader refuses
+  pub read-refused : (found : Read) (r : Refusal) → Answers table index found → found ≡ RefusedRead r → ReadDone table list isGuessing budget lent lent (Refused r)
+  unfolding tableIn andThen
+  read-refused found r answers is = go (refusing table index r (rw is at answers))
+    where
+      go : RefusedTable table r → ReadDone table list isGuessing budget lent lent (Refused r)
+      go (byRecord e) = record { place = 0; placed = free-place table 0 (λ t f. not-both table r t e f); came = not-run r (rw (e, tableIn)) refl }
+      go (byOrder t place e b same) = record { place = place; placed = record { broken = λ u f. subst (λ t. BreaksRule t place) (same-table table t u e f) b }; came = not-run r (rw (e, tableIn, same)) refl }
+
+  -- a table that it accepts
+  pub read-done : (lent′ : Lent) (d : Done) → Indexed table index → DoneAs table list isGuessing budget lent lent′ d → ReadDone table list isGuessing budget lent lent′ d
+  unfolding tableIn andThen
+  read-done lent′ d indexed done = record { place = 0; placed = free-place table 0 (λ t f. not-tree table (tableOf table) t (indexed .reads) f); came = rw (indexed .reads, tableIn) (done .came) }
+
+-- ---- the entries
+-- what a call came to, as all memory at exit
+abbrev exitOf : Lent → (answer : List ℕ) → Done → Ran
+exitOf lent answer d = record { result = resultOf d; lent = lent; answer = answered (numbersOf d) answer }
+
+module _ (list : List ℕ) (isGuessing : Bool) (budget : ℕ) (lent lent′ : Lent) (answer : List ℕ) where
+  came-to : (a : Answer Table) (d : Done) → CameTo a list isGuessing budget lent lent′ d → running a lent budget answer (guideOf isGuessing list 0) ≡ exitOf lent′ answer d
+  unfolding running notRun ranAll reportOf reportNumbers runNumbers
+  came-to a d (not-run r e same) = rw (e, running, same)
+  came-to a d (has-run t r e left report) = rw (e, running, left, report)
+
+-- the plain entry is the run without directives
+run-entry : (budget : ℕ) (lent : Lent) (answer : List ℕ) (table : List ℕ) (place : ℕ) → runEntry place table lent budget answer ≡ running (andThen (tableIn table place) (runnable [] lent)) lent budget answer (guideOf false [] 0)
+unfolding runEntry runnable check isSome readDirectives directivesIn guideOf
+run-entry budget lent answer table place = refl
+
+-- the guessing entry is the run under its list
+guess-entry : (list : List ℕ) (budget : ℕ) (lent : Lent) (answer : List ℕ) (table : List ℕ) (place : ℕ) → guessEntry place table list lent budget answer ≡ running (andThen (tableIn table place) (runnable list lent)) lent budget answer (guideOf true list 0)
+unfolding guessEntry guessWith andThen running runnable check isSome guideOf directivesFrom orNone
+guess-entry list budget lent answer table place = go (tableIn table place) (readDirectives list) refl
+  where
+    go : (a : Answer Table) (ds : Option _) → readDirectives list ≡ ds → guessWith a lent budget answer (readDirectives list) ≡ running (andThen a (runnable list lent)) lent budget answer (guideOf true list 0)
+    go (refused r) ds e = refl
+    go (got t) none e = rw e
+    go (got t) (some ds) e = rw e
+
+-- the promise of an entry, from what its call came to
+runs-as : (table : List ℕ) (entry : ℕ → Lent → (answer : List ℕ) → Ran) (lent lent′ : Lent) (answer answer′ : List ℕ) (d : Done) (result place : ℕ)
+    → Placed table place → entry place lent answer ≡ exitOf lent′ answer d → (result ≡ resultOf d) × (answer′ ≡ answered (numbersOf d) answer)
+    → RunsAs table entry lent answer result lent′ answer′
+runs-as table entry lent lent′ answer answer′ d result place placed e h =
+    record {
+      place = place;
+      placed = placed;
+      results = h .0 ∙ sym (ap (λ r. r .result) e);
+      variables = sym (ap (λ r. r .lent .variables) e);
+      cells = sym (ap (λ r. r .lent .cells) e);
+      pending = sym (ap (λ r. r .lent .pending) e);
+      observations = sym (ap (λ r. r .lent .observations) e);
+      answers = h .1 ∙ sym (ap (λ r. r .answer) e);
+    }
+
+-- what the two entries promise
+module _ (table list : List ℕ) (budget : ℕ) (lent lent′ : Lent) (answer answer′ : List ℕ) (d : Done) (result : ℕ) where
+  pub run-promise : list ≡ [] → ReadDone table list false budget lent lent′ d → (result ≡ resultOf d) × (answer′ ≡ answered (numbersOf d) answer)
+      → RunsAs table (runCall table budget) lent answer result lent′ answer′
+  run-promise empty read h =
+      let done = rw empty at read in
+      runs-as table (runCall table budget) lent lent′ answer answer′ d result (done .place) (done .placed)
+      (run-entry budget lent answer table (done .place) ∙ came-to [] false budget lent lent′ answer (andThen (tableIn table (done .place)) (runnable [] lent)) d (done .came)) h
+
+  pub guess-promise : ReadDone table list true budget lent lent′ d → (result ≡ resultOf d) × (answer′ ≡ answered (numbersOf d) answer)
+      → RunsAs table (guessCall table list budget) lent answer result lent′ answer′
+  guess-promise done h =
+      runs-as table (guessCall table list budget) lent lent′ answer answer′ d result (done .place) (done .placed)
+      (guess-entry list budget lent answer table (done .place) ∙ came-to list true budget lent lent′ answer (andThen (tableIn table (done .place)) (runnable list lent)) d (done .came)) h
+
+-- the answer of a refusal, and of a run
+pub refused-answered : (d : Done) (r : Refusal) (result : ℕ) (exit slice : List ℕ) → d ≡ Refused r
+    → (result ≡ refusalNumber r) × (exit ≡ answered (refusalNumbers r) slice) → (result ≡ resultOf d) × (exit ≡ answered (numbersOf d) slice)
+refused-answered d r result exit slice e h = rw e h
+
+pub run-answered : (d : Done) (r : Report) (number flag : ℕ) (exit slice : List ℕ) → d ≡ Ended r → number ≡ endNumber (r .end) → flag ≡ cond (r .flag) 1 0
+    → exit ≡ answered (0 ∷ number ∷ r .steps ∷ r .used ∷ r .shown ∷ flag ∷ r .next ∷ []) slice → (0 ≡ resultOf d) × (exit ≡ answered (numbersOf d) slice)
+unfolding reportNumbers
+run-answered d r number flag exit slice e isNumber isFlag h = rw (e, ← isNumber, ← isFlag) (refl, h)

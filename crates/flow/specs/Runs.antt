@@ -1,0 +1,86 @@
+-- What the inner functions of the running entries answer and leave, and what the entries promise.
+use Prim.Native.Nat.{ℕ, _*_}
+use mathlib.Core.Bool.{Bool, cond}
+use mathlib.Core.List.{List, [], _∷_}
+use mathlib.Core.Path.{_≡_}
+use lib.ListN.{length}
+use Rattle.awhile.specs.Lists.{sum}
+use Rattle.awhile.specs.Refusals.{Answer, refused, got, check, andThen, refusalNumber}
+use Rattle.awhile.specs.Tables.{Table}
+use Rattle.awhile.specs.Index.{Indexed, tableOf, nodesIn}
+use Rattle.awhile.specs.declared.Refusal.{Refusal}
+use Rattle.awhile.specs.declared.Refusal.the-variants.{BadDirectives}
+use Rattle.machine.specs.Directives.{readDirectives}
+use Rattle.machine.specs.Listed.{isSome}
+use Rattle.machine.specs.Runs.{endNumber}
+use Rattle.machine.specs.Guiding.{guideOf}
+use Rattle.machine.specs.Running.{reportOf}
+use Rattle.machine.specs.declared.run.Report.{Report}
+use Rattle.flow.specs.Answers.{refusalNumbers, tableIn}
+use Rattle.flow.specs.Running.{Lent, Ran, lentFor, runIn, ranAll, runEntry, guessEntry}
+use Rattle.flow.specs.Promises.{Placed}
+use Rattle.flow.specs.declared.machines.Done.{Done}
+use Rattle.flow.specs.declared.machines.Done.the-variants.{Refused, Ended}
+
+-- the lent slices of a run
+abbrev pub lentAt : (variables cells pending observations : List ℕ) → Lent
+lentAt vs cs ps os = record { variables = vs; cells = cs; pending = ps; observations = os }
+
+-- the answer's numbers of a run's report: "this end, steps, directives used, observation bytes, flag, and the next node"
+unfoldable pub reportNumbers : Report → List ℕ
+reportNumbers r = endNumber (r .end) ∷ r .steps ∷ r .used ∷ r .shown ∷ cond (r .flag) 1 0 ∷ r .next ∷ []
+
+-- the result, and the answer's numbers, of a call that runs
+abbrev pub resultOf : Done → ℕ
+resultOf (Refused r) = refusalNumber r
+resultOf (Ended r) = 0
+
+abbrev pub numbersOf : Done → List ℕ
+numbersOf (Refused r) = refusalNumbers r
+numbersOf (Ended r) = 0 ∷ reportNumbers r
+
+-- a table that was read, with its index and its numbers
+pub record RunReady (table index : List ℕ) (variables arrays nodes cells : ℕ) : Type 0 where
+  pub indexed : Indexed table index
+  pub isVariables : variables ≡ tableOf table .variables
+  pub isArrays : arrays ≡ length (tableOf table .counts)
+  pub isNodes : nodes ≡ nodesIn table
+  pub isCells : cells ≡ sum (tableOf table .counts)
+
+-- 10, then 20 to 22: a directive list that reads, and slices of the right lengths. The plain machine has an empty list
+unfoldable pub runnable : (directives : List ℕ) → Lent → Table → Answer Table
+runnable list lent t = check (isSome (readDirectives list)) BadDirectives (lentFor lent t)
+
+-- what a call on an answer of the reader came to: the lent slices at exit
+pub data CameTo (a : Answer Table) (list : List ℕ) (guessing : Bool) (budget : ℕ) (lent lent′ : Lent) : Done → Type 0 where
+  not-run : (r : Refusal) → a ≡ refused r → lent′ ≡ lent → CameTo a list guessing budget lent lent′ (Refused r)
+  has-run : (t : Table) (r : Report) → a ≡ got t → lent′ ≡ ranAll t lent [] (runIn t lent budget (guideOf guessing list 0)) .lent
+      → r ≡ reportOf (runIn t lent budget (guideOf guessing list 0)) → CameTo a list guessing budget lent lent′ (Ended r)
+
+-- for a table that was read
+pub record DoneAs (table list : List ℕ) (guessing : Bool) (budget : ℕ) (lent lent′ : Lent) (done : Done) : Type 0 where
+  pub came : CameTo (runnable list lent (tableOf table)) list guessing budget lent lent′ done
+
+-- for any table
+pub record ReadDone (table list : List ℕ) (guessing : Bool) (budget : ℕ) (lent lent′ : Lent) (done : Done) : Type 0 where
+  pub place : ℕ
+  pub placed : Placed table place
+  pub came : CameTo (andThen (tableIn table place) (runnable list lent)) list guessing budget lent lent′ done
+
+-- the two entries as definitions of all memory at exit
+abbrev pub runCall : (table : List ℕ) → (budget placeOf6 : ℕ) → Lent → (answer : List ℕ) → Ran
+runCall table budget place lent answer = runEntry place table lent budget answer
+
+abbrev pub guessCall : (table directives : List ℕ) → (budget placeOf6 : ℕ) → Lent → (answer : List ℕ) → Ran
+guessCall table list budget place lent answer = guessEntry place table list lent budget answer
+
+-- an entry that runs a table: the result, every lent slice and the answer slice at exit
+pub record RunsAs (table : List ℕ) (entry : ℕ → Lent → (answer : List ℕ) → Ran) (lent : Lent) (answer : List ℕ) (result : ℕ) (lent′ : Lent) (answer′ : List ℕ) : Type 0 where
+  pub place : ℕ
+  pub placed : Placed table place
+  pub results : result ≡ entry place lent answer .result
+  pub variables : lent′ .variables ≡ entry place lent answer .lent .variables
+  pub cells : lent′ .cells ≡ entry place lent answer .lent .cells
+  pub pending : lent′ .pending ≡ entry place lent answer .lent .pending
+  pub observations : lent′ .observations ≡ entry place lent answer .lent .observations
+  pub answers : answer′ ≡ entry place lent answer .answer
