@@ -10,13 +10,11 @@ use lib.Dec.{eqb}
 use lib.ListN.{length, getD}
 use Rattle.awhile.specs.Index.{numericIn, truthIn, commandIn}
 use Rattle.awhile.specs.Language.{sequence, if, while}
-use Rattle.awhile.specs.Nodes.{form, sortOf}
+use Rattle.awhile.specs.Nodes.{sortOf}
 use Rattle.awhile.specs.declared.Labelling.{Labelling}
 use Rattle.awhile.specs.declared.Sort.the-variants.{Command}
 use Rattle.awhile.specs.declared.Node.{Node}
-use Rattle.awhile.specs.declared.Node.the-variants.{Number, Variable, Add, Subtract, Multiply, Choice}
-use Rattle.awhile.specs.declared.Node.the-variants.{Constant, Equal, Less, Not, And}
-use Rattle.awhile.specs.declared.Node.the-variants.{Skip, Assign, Sequence, If, While, Read, Write}
+use Rattle.awhile.specs.declared.Node.the-variants.{Assign, Sequence, If, While, Read, Write}
 use Rattle.awhile.proofs.Index.{Parts}
 use Rattle.awhile.proofs.Node.{the-type}
 use Rattle.labels.specs.Labellings.{variableMark, arrayMark, labelOfA, labelOfB, setLabel, join}
@@ -26,6 +24,7 @@ use Rattle.labels.specs.Conditions.{NoteRoom, Analysable, Analysed, Sett
 use Rattle.labels.proofs.CommandNotes.{NotedAt, distinct-part, skip-analysed, assign-analysed, read-analysed, write-analysed}
 use Rattle.labels.proofs.CommandNotes.{first-ready, second-ready, sequence-analysed, if-analysed, loop-ready, while-analysed}
 use Rattle.labels.proofs.ExpressionLabels.{child-of-sort}
+use Rattle.labels.proofs.Nodes.{command-kinds}
 
 -- the kinds of nodes that `analyse` does not name
 abbrev pub unnamedCommand : List ℕ
@@ -55,26 +54,16 @@ module _ {table index vs arrs ws brrs : List ℕ} {n : ℕ} {x : Bool} {l : Labe
   after-write a i e p q = rw (p .3) (write-analysed w (pre .room .fit) q)
 
   -- a command that is not named is a skip
-  pub after-skip : (m : Node) → OneOf unnamedCommand (tagOf the-type m) → sortOf m ≡ Command → Parts table n m → Analysed (commandIn table n) x l vs arrs ws brrs l
-  unfolding sortOf form
-  after-skip (Number v) o s p = absurd (let z : _≡_ {A = ℕ} 0 1 = cc in omega arith)
-  after-skip (Variable v) o s p = absurd (let z : _≡_ {A = ℕ} 0 1 = cc in omega arith)
-  after-skip (Add a b) o s p = absurd (let z : _≡_ {A = ℕ} 0 1 = cc in omega arith)
-  after-skip (Subtract a b) o s p = absurd (let z : _≡_ {A = ℕ} 0 1 = cc in omega arith)
-  after-skip (Multiply a b) o s p = absurd (let z : _≡_ {A = ℕ} 0 1 = cc in omega arith)
-  after-skip (Choice c a b) o s p = absurd (let z : _≡_ {A = ℕ} 0 1 = cc in omega arith)
-  after-skip (Constant v) o s p = absurd (let z : _≡_ {A = ℕ} 0 1 = cc in omega arith)
-  after-skip (Equal a b) o s p = absurd (let z : _≡_ {A = ℕ} 0 1 = cc in omega arith)
-  after-skip (Less a b) o s p = absurd (let z : _≡_ {A = ℕ} 0 1 = cc in omega arith)
-  after-skip (Not a) o s p = absurd (let z : _≡_ {A = ℕ} 0 1 = cc in omega arith)
-  after-skip (And a b) o s p = absurd (let z : _≡_ {A = ℕ} 0 1 = cc in omega arith)
-  after-skip Skip o s p = rw p (skip-analysed w (pre .room .fit))
-  after-skip (Assign v e) o s p = absurd (miss unnamedCommand 12 tt o)
-  after-skip (Sequence c d) o s p = absurd (miss unnamedCommand 13 tt o)
-  after-skip (If b c d) o s p = absurd (miss unnamedCommand 14 tt o)
-  after-skip (While b c) o s p = absurd (miss unnamedCommand 15 tt o)
-  after-skip (Read v a i) o s p = absurd (miss unnamedCommand 16 tt o)
-  after-skip (Write a i e) o s p = absurd (miss unnamedCommand 17 tt o)
+  pub after-skip : (m : Node) → sortOf m ≡ Command → OneOf unnamedCommand (tagOf the-type m) → Parts table n m → Analysed (commandIn table n) x l vs arrs ws brrs l
+  after-skip =
+      command-kinds (λ m. OneOf unnamedCommand (tagOf the-type m) → Parts table n m → Analysed (commandIn table n) x l vs arrs ws brrs l)
+      (λ o p. rw p (skip-analysed w (pre .room .fit)))
+      (λ v e o p. absurd (miss unnamedCommand 12 tt o))
+      (λ c d o p. absurd (miss unnamedCommand 13 tt o))
+      (λ b c d o p. absurd (miss unnamedCommand 14 tt o))
+      (λ b c o p. absurd (miss unnamedCommand 15 tt o))
+      (λ v a i o p. absurd (miss unnamedCommand 16 tt o))
+      (λ a i e o p. absurd (miss unnamedCommand 17 tt o))
 
   -- ---- commands with parts
   module _ (first : length ws ≡ length vs) (second : length brrs ≡ length arrs) where

@@ -1,4 +1,4 @@
--- What the code for labels of expressions rests on: the sorts of children, and the nodes that no arm of a `match` names.
+-- What the code for labels of expressions rests on: the sorts of children, joins of labels, and the nodes that no arm of a `match` names.
 use Prim.Native.Nat.{ℕ}
 use mathlib.Core.Bool.{Bool, true, false, _||_}
 use mathlib.Core.List.{List, [], _∷_}

@@ -6,7 +6,7 @@ use native.Mathlib.Omega.{arith}
 use Rattle.awhile.specs.Index.{truthIn, commandIn}
 use Rattle.labels.specs.Rules.{publicAmong, declaredMarks, Within}
 use Rattle.awhile.specs.Language.{Com, while, noteOf}
-use Rattle.awhile.proofs.Index.{Child, Parts, indexed-parts, indexed-note, indexed-well-formed}
+use Rattle.awhile.proofs.Index.{Child, Parts, indexed-note, indexed-well-formed}
 use Rattle.bytes_le.proofs.Numbers.{Below, slice-bytes}
 use Rattle.labels.specs.Analysis.{analyse as analyseOf}
 use Rattle.labels.specs.Labellings.{join}
@@ -19,6 +19,7 @@ use Rattle.awhile.specs.declared.Sort.{Sort}
 use Rattle.awhile.specs.declared.Node.{Node}
 use Rattle.labels.specs.Conditions.{OfSort}
 use Rattle.labels.proofs.ExpressionLabels.{child-of-sort}
+use Rattle.labels.proofs.Nodes.{node-parts}
 use Rattle.labels.proofs.CommandNotes.{NotedAt, note-stored}
 use Rattle.labels.proofs.CommandCases.{after-assign, after-read, after-write, after-skip, sequence-first, sequence-second, sequence-both}
 use Rattle.labels.proofs.CommandCases.{if-first, if-second, if-both, loop-settleable, loop-settled}
@@ -70,30 +71,31 @@ analyse-calls t = (note-reads.Asked, note-reads.Learnt, node-at-reads.Asked, nod
 
 -- ---- a command and its node
 module _ (t : ℕ) (d : analyse-lts.After-node-at (analyse-calls t) (analyse-at t) analyse.Post) where
-  analyse-bytes : Below 256 (now (d .before .before .before .before .before .before .before .before .before .before .before .before .args .table))
-  analyse-bytes = slice-bytes (now (d .before .before .before .before .before .before .before .before .before .before .before .before .args .table)) (d .before .before .before .before .before .before .before .before .before .before .before .shared-slice-known .given)
+  abbrev analyse-start : analyse-lts.Start (analyse-calls t) (analyse-at t) analyse.Post
+  analyse-start = d .before .before .before .before .before .before .before .before .before .before .before .before
 
-  analyse-declared : Declared (tableOf (now (d .before .before .before .before .before .before .before .before .before .before .before .before .args .table)) .variables) (tableOf (now (d .before .before .before .before .before .before .before .before .before .before .before .before .args .table)) .labels) (tableOf (now (d .before .before .before .before .before .before .before .before .before .before .before .before .args .table)) .counts)
-  analyse-declared = indexed-well-formed (now (d .before .before .before .before .before .before .before .before .before .before .before .before .args .table)) (now (d .before .before .before .before .before .before .before .before .before .before .before .before .args .index)) analyse-bytes (d .before .before .before .before .before .before .before .before .before .before .before .before .pre .1 .node .indexed) .declared
+  analyse-bytes : Below 256 (now (analyse-start .args .table))
+  analyse-bytes = slice-bytes (now (analyse-start .args .table)) (d .before .before .before .before .before .before .before .before .before .before .before .shared-slice-known .given)
 
-  analyse-parts : (m : Node) → d .node-at .result ≡ m → Parts (now (d .before .before .before .before .before .before .before .before .before .before .before .before .args .table)) (d .before .before .before .before .before .before .before .before .before .before .before .before .args .n) m
-  analyse-parts m e =
-      indexed-parts (now (d .before .before .before .before .before .before .before .before .before .before .before .before .args .table)) (now (d .before .before .before .before .before .before .before .before .before .before .before .before .args .index)) analyse-bytes (d .before .before .before .before .before .before .before .before .before .before .before .before .pre .1 .node .indexed) (d .before .before .before .before .before .before .before .before .before .before .before .before .args .n) (d .before .before .before .before .before .before .before .before .before .before .before .before .pre .1 .node .inside) m
-      (sym (d .node-at .ensures) ∙ e)
+  analyse-declared : Declared (tableOf (now (analyse-start .args .table)) .variables) (tableOf (now (analyse-start .args .table)) .labels) (tableOf (now (analyse-start .args .table)) .counts)
+  analyse-declared = indexed-well-formed (now (analyse-start .args .table)) (now (analyse-start .args .index)) analyse-bytes (analyse-start .pre .1 .node .indexed) .declared
 
-  analyse-noted : NotedAt (d .before .before .before .before .before .before .before .before .before .before .before .before .args .n) (d .before .before .before .before .before .before .before .before .before .before .before .before .args .context) (d .before .before .before .before .before .before .before .before .before .before .before .before .args .labels) (now (d .before .before .before .before .before .before .before .before .before .before .before .before .args .variables)) (now (d .before .before .before .before .before .before .before .before .before .before .before .before .args .arrays)) (d .before .before .before .before .before .note .last .0) (d .before .before .before .before .before .note .last .1 .0)
+  analyse-parts : (m : Node) → d .node-at .result ≡ m → Parts (now (analyse-start .args .table)) (analyse-start .args .n) m
+  analyse-parts = node-parts analyse-bytes (analyse-start .pre .1 .node .indexed) (analyse-start .pre .1 .node .inside) (d .node-at .ensures)
+
+  analyse-noted : NotedAt (analyse-start .args .n) (analyse-start .args .context) (analyse-start .args .labels) (now (analyse-start .args .variables)) (now (analyse-start .args .arrays)) (d .before .before .before .before .before .note .last .0) (d .before .before .before .before .before .note .last .1 .0)
   analyse-noted =
-      let room = d .before .before .before .before .before .before .before .before .before .before .before .before .pre .1 .room in
-      let inside = d .before .before .before .before .before .before .before .before .before .before .before .before .pre .1 .node .inside in
-      note-stored (d .before .before .before .before .before .before .before .before .before .before .before .before .args .n) (d .before .before .before .before .before .before .before .before .before .before .before .before .args .context) (d .before .before .before .before .before .before .before .before .before .before .before .before .args .labels) (now (d .before .before .before .before .before .before .before .before .before .before .before .before .args .variables)) (now (d .before .before .before .before .before .before .before .before .before .before .before .before .args .arrays)) (omega (arith, room .variables)) (omega (arith, room .arrays))
-      (omega (arith, d .before .before .before .before .before .before .before .before .before .before .before .before .good)) (d .before .before .before .before .before .note .ensures)
+      let room = analyse-start .pre .1 .room in
+      let inside = analyse-start .pre .1 .node .inside in
+      note-stored (analyse-start .args .n) (analyse-start .args .context) (analyse-start .args .labels) (now (analyse-start .args .variables)) (now (analyse-start .args .arrays)) (omega (arith, room .variables)) (omega (arith, room .arrays))
+      (omega (arith, analyse-start .good)) (d .before .before .before .before .before .note .ensures)
 
   -- a child is lower
-  analyse-lower : (s : Sort) (k : ℕ) → Child (now (d .before .before .before .before .before .before .before .before .before .before .before .before .args .table)) s (d .before .before .before .before .before .before .before .before .before .before .before .before .args .n) k → 2 * k + 2 < t
-  analyse-lower s k h = subst (λ m. 2 * k + 2 < m) (d .before .before .before .before .before .before .before .before .before .before .before .before .pre .0) (omega arith)
+  analyse-lower : (s : Sort) (k : ℕ) → Child (now (analyse-start .args .table)) s (analyse-start .args .n) k → 2 * k + 2 < t
+  analyse-lower s k h = subst (λ m. 2 * k + 2 < m) (analyse-start .pre .0) (omega arith)
 
-  analyse-child : (s : Sort) (k : ℕ) → Child (now (d .before .before .before .before .before .before .before .before .before .before .before .before .args .table)) s (d .before .before .before .before .before .before .before .before .before .before .before .before .args .n) k → OfSort (now (d .before .before .before .before .before .before .before .before .before .before .before .before .args .table)) (now (d .before .before .before .before .before .before .before .before .before .before .before .before .args .index)) s k
-  analyse-child s k h = child-of-sort (d .before .before .before .before .before .before .before .before .before .before .before .before .pre .1 .node .indexed) h
+  analyse-child : (s : Sort) (k : ℕ) → Child (now (analyse-start .args .table)) s (analyse-start .args .n) k → OfSort (now (analyse-start .args .table)) (now (analyse-start .args .index)) s k
+  analyse-child s k h = child-of-sort (analyse-start .pre .1 .node .indexed) h
 
 analyse-note-requires : (t : ℕ) → analyse-lts.Need-note-requires (analyse-calls t) (analyse-at t) analyse.Post
 analyse-note-requires t c κs =
@@ -264,8 +266,8 @@ analyse-same-length-14 t c =
 
 analyse-returns-7 : (t : ℕ) → analyse-lts.Need-returns-7 (analyse-calls t) (analyse-at t) analyse.Post
 analyse-returns-7 t c =
-    after-skip (c .before .before .before .before .before .before .before .before .before .before .before .before .before .pre .1) (analyse-noted t (c .before)) (c .before .node-at .result) (c .match .keys7)
-    (ap sortOf (c .before .node-at .ensures) ∙ c .before .before .before .before .before .before .before .before .before .before .before .before .before .pre .1 .node .isSort) (analyse-parts t (c .before) (c .before .node-at .result) refl)
+    after-skip (c .before .before .before .before .before .before .before .before .before .before .before .before .before .pre .1) (analyse-noted t (c .before)) (c .before .node-at .result)
+    (ap sortOf (c .before .node-at .ensures) ∙ c .before .before .before .before .before .before .before .before .before .before .before .before .before .pre .1 .node .isSort) (c .match .keys7) (analyse-parts t (c .before) (c .before .node-at .result) refl)
 
 abbrev settle-Inv-loop : settle-lts.InvT-loop
 settle-Inv-loop table index variables₀ arrays₀ condition body context masks₀ variables arrays masks =
@@ -278,22 +280,25 @@ settle-μ-loop table index variables₀ arrays₀ condition body context masks�
 -- ---- settling
 -- a command of the table is noted with its number
 module _ (t : ℕ) (d : settle-lts.After-join (settle-calls t) (settle-at t) settle.Post settle-Inv-loop settle-μ-loop) where
-  settle-note : noteOf (commandIn (now (d .before .before .before .before .before .before .before .before .args .table)) (d .before .before .before .before .before .before .before .before .args .body)) ≡ d .before .before .before .before .before .before .before .before .args .body
+  abbrev settle-entry : settle-lts.Start (settle-calls t) (settle-at t) settle.Post settle-Inv-loop settle-μ-loop
+  settle-entry = d .before .before .before .before .before .before .before .before
+
+  settle-note : noteOf (commandIn (now (settle-entry .args .table)) (settle-entry .args .body)) ≡ settle-entry .args .body
   settle-note =
-      let start = d .before .before .before .before .before .before .before .before in
+      let start = settle-entry in
       let pre = start .pre .1 in
       let table = now (start .args .table) in
       indexed-note table (now (start .args .index)) (slice-bytes table (d .before .before .before .before .before .before .before .shared-slice-known .given)) (pre .node .indexed) (start .args .body) (pre .node .inside) (pre .node .isSort)
 
   -- the passes start from the entering labelling joined with what is kept
-  settle-start : d .join .result ≡ join (d .before .before .before .before .before .before .before .before .args .labels) (keptIn (now (d .before .before .before .before .before .before .before .before .args .variables)) (now (d .before .before .before .before .before .before .before .before .args .arrays)) (commandIn (now (d .before .before .before .before .before .before .before .before .args .table)) (d .before .before .before .before .before .before .before .before .args .body)))
+  settle-start : d .join .result ≡ join (settle-entry .args .labels) (keptIn (now (settle-entry .args .variables)) (now (settle-entry .args .arrays)) (commandIn (now (settle-entry .args .table)) (settle-entry .args .body)))
   unfolding keptIn
-  settle-start = d .join .ensures ∙ ap (join (d .before .before .before .before .before .before .before .before .args .labels)) (d .before .noted-labelling .ensures ∙ ap (λ (k : ℕ). noteIn (now (d .before .before .before .before .before .before .before .before .args .variables)) (now (d .before .before .before .before .before .before .before .before .args .arrays)) k .labelling) (sym settle-note))
+  settle-start = d .join .ensures ∙ ap (join (settle-entry .args .labels)) (d .before .noted-labelling .ensures ∙ ap (λ (k : ℕ). noteIn (now (settle-entry .args .variables)) (now (settle-entry .args .arrays)) k .labelling) (sym settle-note))
 
-  settle-answer : analyseOf (while (noteOf (commandIn (now (d .before .before .before .before .before .before .before .before .args .table)) (d .before .before .before .before .before .before .before .before .args .body))) (truthIn (now (d .before .before .before .before .before .before .before .before .args .table)) (d .before .before .before .before .before .before .before .before .args .condition)) (commandIn (now (d .before .before .before .before .before .before .before .before .args .table)) (d .before .before .before .before .before .before .before .before .args .body))) (d .before .before .before .before .before .before .before .before .args .context) (d .join .result)
-      ≡ analyseOf (while (noteOf (commandIn (now (d .before .before .before .before .before .before .before .before .args .table)) (d .before .before .before .before .before .before .before .before .args .body))) (truthIn (now (d .before .before .before .before .before .before .before .before .args .table)) (d .before .before .before .before .before .before .before .before .args .condition)) (commandIn (now (d .before .before .before .before .before .before .before .before .args .table)) (d .before .before .before .before .before .before .before .before .args .body))) (d .before .before .before .before .before .before .before .before .args .context) (d .before .before .before .before .before .before .before .before .args .labels)
+  settle-answer : analyseOf (while (noteOf (commandIn (now (settle-entry .args .table)) (settle-entry .args .body))) (truthIn (now (settle-entry .args .table)) (settle-entry .args .condition)) (commandIn (now (settle-entry .args .table)) (settle-entry .args .body))) (settle-entry .args .context) (d .join .result)
+      ≡ analyseOf (while (noteOf (commandIn (now (settle-entry .args .table)) (settle-entry .args .body))) (truthIn (now (settle-entry .args .table)) (settle-entry .args .condition)) (commandIn (now (settle-entry .args .table)) (settle-entry .args .body))) (settle-entry .args .context) (settle-entry .args .labels)
   settle-answer =
-      let start = d .before .before .before .before .before .before .before .before in
+      let start = settle-entry in
       warm-answer (truthIn (now (start .args .table)) (start .args .condition)) (commandIn (now (start .args .table)) (start .args .body)) (start .args .context) (start .args .labels)
       (now (start .args .variables)) (now (start .args .arrays)) (start .pre .1 .inOrder) settle-start
 
