@@ -2,12 +2,12 @@
 use Prim.Native.Nat.{ℕ, _+_, _≤_, _<_}
 use mathlib.Core.Bool.{Bool, cond, _||_}
 use mathlib.Core.List.{List, [], _∷_}
-use mathlib.Core.Path.{_≡_, subst}
+use mathlib.Core.Path.{_≡_, refl, subst}
 use native.Mathlib.Omega.{arith}
 use denote.Enum.Declared.{tagOf}
 use types.Run.{OneOf, miss}
 use lib.Dec.{eqb}
-use lib.ListN.{length, getD}
+use lib.ListN.{length, getD, set}
 use Rattle.awhile.specs.Index.{numericIn, truthIn, commandIn}
 use Rattle.awhile.specs.Language.{sequence, if, while}
 use Rattle.awhile.specs.Nodes.{sortOf}
@@ -19,21 +19,42 @@ use Rattle.awhile.proofs.Index.{Parts}
 use Rattle.awhile.proofs.Node.{the-type}
 use Rattle.labels.specs.Labellings.{variableMark, arrayMark, labelOfA, labelOfB, setLabel, join}
 use Rattle.labels.specs.Analysis.{readLabel, writeLabel, analyse}
+use Rattle.labels.specs.Annotation.{entered}
+use Rattle.labels.specs.Notes.{arrayNote}
 use Rattle.labels.specs.Warm.{standing, Distinct, InOrder}
-use Rattle.labels.specs.Conditions.{NoteRoom, Analysable, Analysed, Settleable, SettledLoop}
-use Rattle.labels.proofs.CommandNotes.{NotedAt, distinct-part, skip-analysed, assign-analysed, read-analysed, write-analysed}
+use Rattle.labels.specs.Conditions.{Single, NoteRoom, Analysable, Analysed, Settleable, SettledLoop}
+use Rattle.labels.proofs.CommandNotes.{NotedAt, note-stored, distinct-part, skip-analysed, assign-analysed, read-analysed, write-analysed}
 use Rattle.labels.proofs.CommandNotes.{first-ready, second-ready, sequence-analysed, if-analysed, loop-ready, while-analysed}
 use Rattle.labels.proofs.ExpressionLabels.{child-of-sort}
 use Rattle.labels.proofs.Nodes.{command-kinds}
 
--- the kinds of nodes that `analyse` does not name
+-- the kinds of nodes that `analyse` does not name, and those that `analyse_single` does not name
 abbrev pub unnamedCommand : List ℕ
-unnamedCommand = 0 ∷ 1 ∷ 2 ∷ 3 ∷ 4 ∷ 5 ∷ 6 ∷ 7 ∷ 8 ∷ 9 ∷ 10 ∷ 11 ∷ []
+unnamedCommand = 0 ∷ 1 ∷ 2 ∷ 3 ∷ 4 ∷ 5 ∷ 6 ∷ 7 ∷ 8 ∷ 9 ∷ 10 ∷ 11 ∷ 12 ∷ 16 ∷ 17 ∷ []
+
+abbrev pub unnamedSingle : List ℕ
+unnamedSingle = 0 ∷ 1 ∷ 2 ∷ 3 ∷ 4 ∷ 5 ∷ 6 ∷ 7 ∷ 8 ∷ 9 ∷ 10 ∷ 11 ∷ 13 ∷ 14 ∷ 15 ∷ []
+
+-- a node that is not named has no command parts
+pub unnamed-single : (m : Node) → OneOf unnamedCommand (tagOf the-type m) → Single m
+unnamed-single m o =
+    record {
+      noSequence = λ c d e. miss unnamedCommand 13 tt (subst (λ k. OneOf unnamedCommand (tagOf the-type k)) e o);
+      noIf = λ b c d e. miss unnamedCommand 14 tt (subst (λ k. OneOf unnamedCommand (tagOf the-type k)) e o);
+      noWhile = λ b c e. miss unnamedCommand 15 tt (subst (λ k. OneOf unnamedCommand (tagOf the-type k)) e o);
+    }
 
 -- the same room, in slices as long and as fit
 pub same-room : {table vs arrs ws brrs : List ℕ} → NoteRoom table vs arrs → length ws ≡ length vs → length brrs ≡ length arrs
     → ((p : ℕ) → getD brrs p 0 < 131072) → NoteRoom table ws brrs
 same-room r e f fit = record { variables = omega (arith, r .variables); arrays = omega (arith, r .arrays); fit = fit }
+
+-- what the code stores on entry is the command's note
+pub entry-noted : {table index vs arrs ws brrs : List ℕ} {n : ℕ} {x : Bool} {l : Labelling} → Analysable table index vs arrs n x l → l .arrays < 65536
+    → (ws ≡ set vs n (l .variables)) × (brrs ≡ set arrs n (arrayNote (entered n x l))) → NotedAt n x l vs arrs ws brrs
+entry-noted {vs = vs} {arrs = arrs} {n = n} {x = x} {l = l} pre small e =
+    let inside = pre .node .inside in
+    note-stored n x l vs arrs (omega (arith, pre .room .variables)) (omega (arith, pre .room .arrays)) small e
 
 module _ {table index vs arrs ws brrs : List ℕ} {n : ℕ} {x : Bool} {l : Labelling} (pre : Analysable table index vs arrs n x l)
     (w : NotedAt n x l vs arrs ws brrs) where
@@ -54,16 +75,16 @@ module _ {table index vs arrs ws brrs : List ℕ} {n : ℕ} {x : Bool} {l : Labe
   after-write a i e p q = rw (p .3) (write-analysed w (pre .room .fit) q)
 
   -- a command that is not named is a skip
-  pub after-skip : (m : Node) → sortOf m ≡ Command → OneOf unnamedCommand (tagOf the-type m) → Parts table n m → Analysed (commandIn table n) x l vs arrs ws brrs l
+  pub after-skip : (m : Node) → sortOf m ≡ Command → OneOf unnamedSingle (tagOf the-type m) → Single m → Parts table n m → Analysed (commandIn table n) x l vs arrs ws brrs l
   after-skip =
-      command-kinds (λ m. OneOf unnamedCommand (tagOf the-type m) → Parts table n m → Analysed (commandIn table n) x l vs arrs ws brrs l)
-      (λ o p. rw p (skip-analysed w (pre .room .fit)))
-      (λ v e o p. absurd (miss unnamedCommand 12 tt o))
-      (λ c d o p. absurd (miss unnamedCommand 13 tt o))
-      (λ b c d o p. absurd (miss unnamedCommand 14 tt o))
-      (λ b c o p. absurd (miss unnamedCommand 15 tt o))
-      (λ v a i o p. absurd (miss unnamedCommand 16 tt o))
-      (λ a i e o p. absurd (miss unnamedCommand 17 tt o))
+      command-kinds (λ m. OneOf unnamedSingle (tagOf the-type m) → Single m → Parts table n m → Analysed (commandIn table n) x l vs arrs ws brrs l)
+      (λ o s p. rw p (skip-analysed w (pre .room .fit)))
+      (λ v e o s p. absurd (miss unnamedSingle 12 tt o))
+      (λ c d o s p. absurd (s .noSequence c d refl))
+      (λ b c d o s p. absurd (s .noIf b c d refl))
+      (λ b c o s p. absurd (s .noWhile b c refl))
+      (λ v a i o s p. absurd (miss unnamedSingle 16 tt o))
+      (λ a i e o s p. absurd (miss unnamedSingle 17 tt o))
 
   -- ---- commands with parts
   module _ (first : length ws ≡ length vs) (second : length brrs ≡ length arrs) where
