@@ -28,10 +28,11 @@ use Rattle.labels.proofs.CommandNotes.{first-ready, second-ready, seque
 use Rattle.labels.proofs.ExpressionLabels.{child-of-sort}
 use Rattle.labels.proofs.Nodes.{command-kinds}
 
--- the kinds of nodes that `analyse` does not name, and those that `analyse_single` does not name
+-- the kinds of nodes that `analyse` does not name
 abbrev pub unnamedCommand : List ℕ
 unnamedCommand = 0 ∷ 1 ∷ 2 ∷ 3 ∷ 4 ∷ 5 ∷ 6 ∷ 7 ∷ 8 ∷ 9 ∷ 10 ∷ 11 ∷ 12 ∷ 16 ∷ 17 ∷ []
 
+-- the kinds of nodes that `analyse_single` does not name
 abbrev pub unnamedSingle : List ℕ
 unnamedSingle = 0 ∷ 1 ∷ 2 ∷ 3 ∷ 4 ∷ 5 ∷ 6 ∷ 7 ∷ 8 ∷ 9 ∷ 10 ∷ 11 ∷ 13 ∷ 14 ∷ 15 ∷ []
 
@@ -59,16 +60,19 @@ entry-noted {vs = vs} {arrs = arrs} {n = n} {x = x} {l = l} pre small e =
 module _ {table index vs arrs ws brrs : List ℕ} {n : ℕ} {x : Bool} {l : Labelling} (pre : Analysable table index vs arrs n x l)
     (w : NotedAt n x l vs arrs ws brrs) where
   -- ---- commands without parts
+  -- what `after_assign` answers is what the analysis does
   pub after-assign : (v e : ℕ) → Parts table n (Assign v e) → {r : Labelling} → r ≡ setLabel l (variableMark v) (labelOfA l (numericIn table e) || x)
       → Analysed (commandIn table n) x l vs arrs ws brrs r
   unfolding analyse
   after-assign v e p q = rw (p .2) (assign-analysed w (pre .room .fit) q)
 
+  -- the same of `after_read`
   pub after-read : (v a i : ℕ) → Parts table n (Read v a i) → {r : Labelling} → r ≡ setLabel l (variableMark v) (readLabel l x a (numericIn table i))
       → Analysed (commandIn table n) x l vs arrs ws brrs r
   unfolding analyse
   after-read v a i p q = rw (p .3) (read-analysed w (pre .room .fit) q)
 
+  -- and of `after_write`
   pub after-write : (a i e : ℕ) → Parts table n (Write a i e) → {r : Labelling}
       → r ≡ setLabel l (arrayMark a) (writeLabel l x a (numericIn table i) (numericIn table e)) → Analysed (commandIn table n) x l vs arrs ws brrs r
   unfolding analyse

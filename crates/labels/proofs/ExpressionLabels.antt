@@ -38,6 +38,7 @@ second-label false b r e f = f
 pub same-numeric : (l : Labelling) {e f : AExp} {r : Bool} → e ≡ f → r ≡ labelOfA l f → r ≡ labelOfA l e
 same-numeric l p h = rw p h
 
+-- the same of a truth
 pub same-truth : (l : Labelling) {e f : BExp} {r : Bool} → e ≡ f → r ≡ labelOfB l f → r ≡ labelOfB l e
 same-truth l p h = rw p h
 
