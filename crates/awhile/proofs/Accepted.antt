@@ -36,19 +36,19 @@ module _ {A : Type 0} (r : Refusal) where
   check-test true a x e = refl
   check-test false a x e = cc
 
-  check-rest : (b : Bool) (a : Answer A) (x : A) → check b r a ≡ got x → a ≡ got x
+  pub check-rest : (b : Bool) (a : Answer A) (x : A) → check b r a ≡ got x → a ≡ got x
   unfolding check
   check-rest true a x e = e
   check-rest false a x e = cc
 
-got-same : {A : Type 0} (x y : A) → _≡_ {A = Answer A} (got x) (got y) → x ≡ y
+pub got-same : {A : Type 0} (x y : A) → _≡_ {A = Answer A} (got x) (got y) → x ≡ y
 got-same x y e = cc
 
 refused-got : {A : Type 0} (r : Refusal) (x : A) → _≡_ {A = Answer A} (refused r) (got x) → ⊥
 refused-got r x e = let z : _≡_ {A = ℕ} 0 1 = cc in omega arith
 
 -- what is gone on with was got
-then-got : {A B : Type 0} (Q : Type 0) (a : Answer A) (f : A → Answer B) (y : B) → andThen a f ≡ got y → ((x : A) → a ≡ got x → f x ≡ got y → Q) → Q
+pub then-got : {A B : Type 0} (Q : Type 0) (a : Answer A) (f : A → Answer B) (y : B) → andThen a f ≡ got y → ((x : A) → a ≡ got x → f x ≡ got y → Q) → Q
 unfolding andThen
 then-got Q (refused r) f y e next = absurd (refused-got r y e)
 then-got Q (got x) f y e next = next x refl e
@@ -60,7 +60,7 @@ record Passed (s : List ℕ) (at wanted : ℕ) : Type 0 where
   inside : at + wanted ≤ length s
 
 module _ {A : Type 0} (s : List ℕ) (at wanted : ℕ) (rest : Answer A) (x : A) where
-  framed-rest : framed s at wanted rest ≡ got x → rest ≡ got x
+  pub framed-rest : framed s at wanted rest ≡ got x → rest ≡ got x
   unfolding framed
   framed-rest e =
       let first = check-rest _ (leb (at + 4) (length s)) _ x e in
@@ -197,7 +197,7 @@ module _ (s : List ℕ) where
     total : sum before + sum more ≤ maxCells
 
   -- the loop has read the next one
-  counts-first : (Q : Type 0) (left at : ℕ) (before counts : List ℕ) → readCounts (suc left) s at before ≡ got counts
+  pub counts-first : (Q : Type 0) (left at : ℕ) (before counts : List ℕ) → readCounts (suc left) s at before ≡ got counts
       → ((n : ℕ) → readCount s at (sum before) ≡ got n → readCounts left s (at + arraySize) (before ++ (n ∷ [])) ≡ got counts → Q) → Q
   counts-first Q left at before counts e next = go (readCount s at (sum before)) refl
     where

@@ -1,22 +1,22 @@
 -- The reader's answer, put together from what its parts answer.
 use Prim.Native.Nat.{ℕ, _+_, _-_, _≤_, _<_}
 use native.Mathlib.Omega.{arith}
-use mathlib.Core.Bool.{true, false}
+use mathlib.Core.Bool.{true}
 use mathlib.Core.Path.{_≡_, refl, sym, ap, _∙_}
-use mathlib.Core.List.{List, [], _∷_, _++_, map}
+use mathlib.Core.List.{List, [], map}
 use lib.ListN.{length, getD, take}
 use lib.Seq.{take-length}
 use borrow.Author.Tests.{le-leb, lt-leb}
 use Rattle.awhile.specs.Lists.{sum}
 use Rattle.awhile.specs.Refusals.{Answer, refused, got, andThen}
 use Rattle.awhile.specs.Nodes.{sizeOf, sortOf}
-use Rattle.awhile.specs.Tables.{Header, Table, maxVariables, maxArrays, maxNodes, nodesStart, offsetOf}
+use Rattle.awhile.specs.Tables.{Header, Table, nodesStart, offsetOf}
 use Rattle.awhile.specs.Tables.{readHeader, readLabels, readCounts, readNodes, readRecords}
-use Rattle.awhile.specs.Tables.{rejected, notATree, accepted, inOrder, allInOrder, checkWhole, readTable}
+use Rattle.awhile.specs.Tables.{rejected, notATree, accepted, allInOrder, checkWhole, readTable, BreaksRule}
 use Rattle.awhile.specs.Reader.{headerAs, labelsAs, cellsAs, SortAt, Kept, NodesWalked, stopped, ended, OrderSearched}
 use Rattle.awhile.specs.Index.{tableOf, nodesIn, Indexed, acceptedAs, Answers, isRejected, isNotATree, isAccepted, Declares, Finishes, ReadsOn, ReadsDeclared}
 use Rattle.awhile.proofs.Cases.{table-read, table-refused}
-use Rattle.awhile.proofs.Accepted.{HeaderFits, header-fits, CountsFit, counts-fit}
+use Rattle.awhile.proofs.Accepted.{HeaderFits, header-fits, counts-fit}
 use Rattle.awhile.proofs.Searching.{not-all-in-order}
 use Rattle.awhile.specs.declared.Labelling.{Labelling}
 use Rattle.awhile.specs.declared.Sort.{Sort}
@@ -214,3 +214,45 @@ module _ (s index : List ℕ) where
   -- and leaves it to what follows
   pub header-on : (vs arrs nodes : ℕ) (answer : Read) → HeaderGot vs arrs nodes ≡ headerAs (readHeader s) → ReadsDeclared s index vs arrs nodes answer → Answers s index answer
   header-on vs arrs nodes answer e on = on .answers (header-got (readHeader s) vs arrs nodes e)
+
+-- ---- what a caller learns from the answer
+-- an accepted table has an index, and the numbers that were answered
+pub record AcceptedTable (s index : List ℕ) (vs arrs nodes cells : ℕ) (labels : Labelling) (end : ℕ) : Type 0 where
+  pub indexed : Indexed s index
+  pub declares : Declares (tableOf s) vs arrs nodes cells labels
+  pub ends : offsetOf (tableOf s) (length (tableOf s .nodes)) ≡ end
+
+-- a refused one is rejected by that refusal, or no tree at a place that breaks the rule
+pub data RefusedTable (s : List ℕ) (r : Refusal) : Type 0 where
+  byRecord : readTable s ≡ rejected r → RefusedTable s r
+  byOrder : (t : Table) (place : ℕ) → readTable s ≡ notATree t → BreaksRule t place → r ≡ NotATree place → RefusedTable s r
+
+never-accepted : (r : Refusal) (vs arrs nodes cells : ℕ) (labels : Labelling) (end : ℕ) → Accepted vs arrs nodes cells labels end ≡ Refused r → ⊥
+never-accepted r vs arrs nodes cells labels end e = let z : _≡_ {A = ℕ} 0 1 = cc in omega arith
+
+same-refused : (r q : Refusal) → _≡_ (Refused r) (Refused q) → r ≡ q
+same-refused r q e = cc
+
+module _ (vs arrs nodes cells : ℕ) (labels : Labelling) (end : ℕ) (t : Table) (e : Accepted vs arrs nodes cells labels end ≡ acceptedAs t) where
+  same-numbers : Declares t vs arrs nodes cells labels
+  unfolding acceptedAs
+  same-numbers = record { isVariables = cc; isArrays = cc; isNodes = cc; isCells = cc; isLabels = cc }
+
+  same-place : offsetOf t (length (t .nodes)) ≡ end
+  unfolding acceptedAs
+  same-place = cc
+
+module _ (s index : List ℕ) where
+  -- an accepting answer
+  pub accepting : (vs arrs nodes cells : ℕ) (labels : Labelling) (end : ℕ) → Answers s index (Accepted vs arrs nodes cells labels end) → AcceptedTable s index vs arrs nodes cells labels end
+  accepting vs arrs nodes cells labels end (isRejected r e q) = absurd (never-accepted r vs arrs nodes cells labels end q)
+  accepting vs arrs nodes cells labels end (isNotATree t place e b q) = absurd (never-accepted (NotATree place) vs arrs nodes cells labels end q)
+  accepting vs arrs nodes cells labels end (isAccepted i q) =
+      record { indexed = i; declares = same-numbers vs arrs nodes cells labels end (tableOf s) q; ends = same-place vs arrs nodes cells labels end (tableOf s) q }
+
+  -- a refusing answer
+  pub refusing : (r : Refusal) → Answers s index (Refused r) → RefusedTable s r
+  unfolding acceptedAs
+  refusing r (isRejected q e p) = byRecord (e ∙ ap rejected (sym (same-refused r q p)))
+  refusing r (isNotATree t place e b p) = byOrder t place e b (same-refused r (NotATree place) p)
+  refusing r (isAccepted i p) = absurd (never-accepted r _ _ _ _ _ _ (sym p))

@@ -143,28 +143,6 @@ size-fields : (n : Node) → sizeOf n ≡ 4 + length (flatMap fieldBytes (form n
 unfolding sizeOf
 size-fields n = omega (arith, length-flatMap fieldBytes fieldSize length-fieldBytes (form n .fields))
 
--- no record is longer than one with three fields
-pub size-most : (n : Node) → sizeOf n ≤ 10
-unfolding form sizeOf sum fieldSize
-size-most (Number n) = omega arith
-size-most (Variable x) = omega arith
-size-most (Add a b) = omega arith
-size-most (Subtract a b) = omega arith
-size-most (Multiply a b) = omega arith
-size-most (Choice c a b) = omega arith
-size-most (Constant n) = omega arith
-size-most (Equal a b) = omega arith
-size-most (Less a b) = omega arith
-size-most (Not a) = omega arith
-size-most (And a b) = omega arith
-size-most Skip = omega arith
-size-most (Assign x e) = omega arith
-size-most (Sequence c d) = omega arith
-size-most (If b c d) = omega arith
-size-most (While b c) = omega arith
-size-most (Read x a i) = omega arith
-size-most (Write a i e) = omega arith
-
 -- a record has its head at least
 pub size-least : (n : Node) → 4 ≤ sizeOf n
 size-least n = omega (arith, size-fields n)

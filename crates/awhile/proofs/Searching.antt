@@ -1,12 +1,12 @@
 -- Looking for a node that is not in order, by the counts of uses.
-use Prim.Native.Nat.{ℕ, zero, suc, _+_, _-_, _≤_, _<_}
+use Prim.Native.Nat.{ℕ, _+_, _-_, _≤_, _<_}
 use native.Mathlib.Omega.{arith}
-use mathlib.Core.Bool.{Bool, true, false, _&&_}
+use mathlib.Core.Bool.{Bool, true, false}
 use mathlib.Core.Path.{_≡_, refl, sym, ap, _∙_}
 use mathlib.Core.List.{List}
 use lib.ListN.{length, getD}
-use lib.Dec.{eqb, ltb}
-use borrow.Author.Tests.{ltb-true, ltb-false, eq-eqb, ne-eqb, eqb-true, eqb-false}
+use lib.Dec.{ltb}
+use borrow.Author.Tests.{ltb-true, ltb-false, eq-eqb, ne-eqb}
 use Rattle.awhile.specs.Nodes.{sortOf, sameSort}
 use Rattle.awhile.specs.Tables.{usesOf, inOrder, allInOrder}
 use Rattle.awhile.specs.Reader.{OrderSearched}
@@ -31,6 +31,7 @@ module _ (uses : List ℕ) (nodes : ℕ) (root : Sort) where
     pub more : n < nodes
     pub once : (i : ℕ) → i < n → getD uses i 0 ≡ 1
 
+  -- one more that is a child exactly once
   pub once-more : (n : ℕ) → UsedOnce n → n < nodes - 1 → getD uses n 0 ≡ 1 → UsedOnce (n + 1)
   once-more n h inside here = record { more = omega arith; once = once }
     where

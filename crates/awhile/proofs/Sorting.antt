@@ -30,7 +30,6 @@ use Rattle.awhile.specs.declared.Refusal.{Refusal}
 use Rattle.awhile.specs.declared.Refusal.the-variants.{OutOfRange, WrongSort}
 use Rattle.awhile.specs.declared.checks.Checked.{Checked}
 use Rattle.awhile.specs.declared.checks.Checked.the-variants.{Refused, Passed}
-use Rattle.awhile.specs.declared.walk.NodeRead.{NodeRead}
 use Rattle.awhile.specs.declared.walk.NodeRead.the-variants.{Refused as NodeRefused, Node as NodeGot}
 
 -- a sort that is not the wanted one
@@ -40,12 +39,14 @@ not-numeric Numeric h = absurd (⊎-elim (λ e. omega arith) (λ e. omega arith)
 not-numeric Truth h = refl
 not-numeric Command h = refl
 
+-- not a truth
 pub not-truth : (s : Sort) → OneOf (0 ∷ 2 ∷ []) (tagOf sort.the-type s) → sameSort s Truth ≡ false
 unfolding sameSort
 not-truth Numeric h = refl
 not-truth Truth h = absurd (⊎-elim (λ e. omega arith) (λ e. omega arith) h)
 not-truth Command h = refl
 
+-- not a command
 pub not-command : (s : Sort) → OneOf (0 ∷ 1 ∷ []) (tagOf sort.the-type s) → sameSort s Command ≡ false
 unfolding sameSort
 not-command Numeric h = refl
@@ -190,6 +191,7 @@ module _ (s index : List ℕ) (vs arrs n at : ℕ) where
           ∙ framed-passed-on s at (sizeOf m) _ e
           ∙ rw (counted, range-same, sorts-same before)
 
+      -- a field out of range refuses the record
       pub range-refused-read : all (fieldInRange vs arrs n) fs ≡ false → NodeChecked s index vs arrs n at (NodeRefused (OutOfRange at))
       unfolding nodeAs check
       range-refused-read out =

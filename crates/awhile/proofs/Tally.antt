@@ -1,8 +1,8 @@
 -- Counts of numbers in a list, kept while the list is walked.
-use Prim.Native.Nat.{ℕ, zero, suc, _+_, _*_, _≤_, _<_}
+use Prim.Native.Nat.{ℕ, zero, suc, _+_, _≤_, _<_}
 use native.Mathlib.Omega.{arith}
 use mathlib.Core.Bool.{Bool, true, false, cond}
-use mathlib.Core.Path.{_≡_, refl, sym, ap, _∙_}
+use mathlib.Core.Path.{_≡_, refl, _∙_}
 use mathlib.Core.List.{List, [], _∷_, _++_, flatMap, append-nil}
 use lib.ListN.{length, getD, set, replicate, length-set, length-append}
 use lib.Seq.{getD-set-same, getD-set-other}
@@ -20,6 +20,7 @@ unfolding tally
 tally-append [] ns counts = refl
 tally-append (m ∷ ms) ns counts = tally-append ms ns (set counts m (getD counts m 0 + 1))
 
+-- as many counts as before
 pub length-tally : (ns counts : List ℕ) → length (tally counts ns) ≡ length counts
 unfolding tally
 length-tally [] counts = refl
@@ -43,6 +44,7 @@ getD-tally (n ∷ ns) counts k below =
     let rest = getD-tally ns next k (rw (length-set counts n (getD counts n 0 + 1)) (all-tail test n ns below)) in
     omega (arith, rest, count-one counts n k (ltb-true n (length counts) (all-head test n ns below)))
 
+-- a number occurs no more often than there are numbers
 pub occurrences-most : (k : ℕ) (ns : List ℕ) → occurrences k ns ≤ length ns
 unfolding occurrences
 occurrences-most k [] = omega arith
@@ -94,10 +96,12 @@ pub child-inside : (bound : ℕ) (s : Sort) (n : ℕ) → allBelow bound (fieldC
 unfolding allBelow fieldChildren
 child-inside bound s n h = ltb-true n bound (all-head (λ m. ltb m bound) n [] h)
 
+-- counting the child of a field is one store
 pub count-child : (counts : List ℕ) (s : Sort) (n : ℕ) → set counts n (getD counts n 0 + 1) ≡ tally counts (fieldChildren (child s n))
 unfolding tally fieldChildren
 count-child counts s n = refl
 
+-- where nothing is counted nothing changes
 pub count-none : (counts : List ℕ) → counts ≡ tally counts []
 unfolding tally
 count-none counts = refl
@@ -112,6 +116,7 @@ field-children (variable x) = omega arith
 field-children (array a) = omega arith
 field-children (child s n) = omega arith
 
+-- fields name no more children than they are
 pub fields-children : (fs : List Field) → length (flatMap fieldChildren fs) ≤ length fs
 unfolding flatMap
 fields-children [] = omega arith
@@ -127,6 +132,7 @@ module _ (vs arrs parent : ℕ) where
   field-below (array a) r = refl
   field-below (child s n) r = rw r
 
+  -- so are those of all fields
   pub fields-below : (fs : List Field) → all (fieldInRange vs arrs parent) fs ≡ true → allBelow parent (flatMap fieldChildren fs) ≡ true
   unfolding flatMap allBelow all
   fields-below [] r = refl
@@ -134,6 +140,7 @@ module _ (vs arrs parent : ℕ) where
       let range = fieldInRange vs arrs parent in
       all-append (λ n. ltb n parent) (fieldChildren f) (flatMap fieldChildren fs) (field-below f (all-head range f fs r)) (fields-below fs (all-tail range f fs r))
 
+-- numbers below a bound are below a wider one
 pub below-weaken : (bound wider : ℕ) (ns : List ℕ) → bound ≤ wider → allBelow bound ns ≡ true → allBelow wider ns ≡ true
 unfolding allBelow all
 below-weaken bound wider [] less h = refl

@@ -1,8 +1,8 @@
 -- Walking the node records: what is left to read from here is what is to be read of all nodes.
-use Prim.Native.Nat.{ℕ, zero, suc, _+_, _-_, _*_, _≤_, _<_}
+use Prim.Native.Nat.{ℕ, suc, _+_, _-_, _*_, _≤_, _<_}
 use native.Mathlib.Omega.{arith}
 use mathlib.Core.Bool.{Bool, true, false}
-use mathlib.Core.Path.{_≡_, refl, sym, ap, _∙_}
+use mathlib.Core.Path.{_≡_, refl, ap, _∙_}
 use mathlib.Core.List.{List, [], _∷_, _++_, map, map-append, flatMap, append-nil}
 use lib.ListN.{length, getD, set, take, length-append, List·getD-append}
 use lib.Seq.{getD-set-same, getD-set-other, getD-at, take-append-le, take-at}
@@ -13,10 +13,10 @@ use Rattle.awhile.specs.Lists.{sum, all, occurrences}
 use Rattle.awhile.specs.Refusals.{Answer, refused, got}
 use Rattle.awhile.specs.Nodes.{Field, form, sizeOf, decodeAt, fieldInRange, inRange, fieldChildren, childrenOf}
 use Rattle.awhile.specs.Tables.{Header, maxNodes, nodesStart, readNode, readNodes, usesOf}
-use Rattle.awhile.specs.Reader.{nodeAs, padded, tally, allBelow, CountsBelow, Leads, Kept, NodeChecked, NodesWalked, stopped, ended}
+use Rattle.awhile.specs.Reader.{nodeAs, padded, tally, allBelow, CountsBelow, Kept, NodeChecked, NodesWalked, ended}
 use Rattle.awhile.proofs.Lists.{sum-append, occurrences-append, flatMap-append}
 use Rattle.awhile.proofs.Cases.{nodes-next, nodes-refused}
-use Rattle.awhile.proofs.Records.{size-most}
+use Rattle.awhile.proofs.Records.{sizes-most}
 use Rattle.awhile.proofs.Accepted.{NodeRead, node-read}
 use Rattle.awhile.proofs.Sorting.{padded-all, padded-children}
 use Rattle.awhile.proofs.Tally.{getD-tally, occurrences-most, fields-children, fields-below, below-weaken}
@@ -25,7 +25,7 @@ use Rattle.awhile.specs.declared.Node.the-variants.{Skip}
 use Rattle.awhile.specs.declared.Decoded.the-variants.{Known}
 use Rattle.awhile.specs.declared.Refusal.{Refusal}
 use Rattle.awhile.specs.declared.walk.NodeRead.the-variants.{Refused as NodeRefused, Node as NodeGot}
-use Rattle.awhile.specs.declared.walk.NodesRead.the-variants.{Refused as NodesRefused, Nodes as NodesGot}
+use Rattle.awhile.specs.declared.walk.NodesRead.the-variants.{Nodes as NodesGot}
 
 -- a node that the reader hands on was read, and so was a refusal
 node-got : (a : Answer Node) (n : Node) → NodeGot n ≡ nodeAs a → a ≡ got n
@@ -77,6 +77,7 @@ module _ (ns : List Node) (m : Node) where
             let last : i ≡ length ns = omega (arith, ltb-false i (length ns) e, length-append ns (m ∷ [])) in
             rw (last, index-here, take-at ns (m ∷ []) (length ns) refl) place
 
+    -- what is kept of one node more
     pub kept-more : (cs : List ℕ) → cs ≡ childrenOf m → allBelow (length uses) cs ≡ true → decodeAt s at ≡ Known m
         → Kept s (set index (length ns) at) (tally uses cs) start (ns ++ (m ∷ []))
     kept-more cs same below d =
@@ -97,11 +98,11 @@ module _ (s : List ℕ) (vs arrs nodes : ℕ) where
     pub counted : length before ≡ n
     pub same : readNodes nodes header s (nodesStart arrs) [] ≡ readNodes (nodes - n) header s at before
     pub place : at ≡ nodesStart arrs + sum (map sizeOf before)
-    pub short : at ≤ nodesStart arrs + 10 * n
     pub kept : Kept s index uses (nodesStart arrs) before
     pub children : length (flatMap childrenOf before) ≤ 3 * n
     pub few : n ≤ nodes
 
+  -- before the first node nothing is kept
   pub nodes-start : (index uses : List ℕ) → CountsBelow 1 uses → NodesLeft index uses (nodesStart arrs) 0
   unfolding sum usesOf occurrences flatMap
   nodes-start index uses none =
@@ -110,7 +111,6 @@ module _ (s : List ℕ) (vs arrs nodes : ℕ) where
         counted = refl;
         same = ap (λ k. readNodes k header s (nodesStart arrs) []) (omega arith);
         place = omega arith;
-        short = omega arith;
         kept =
             record {
               leads = record { decoded = λ i inside. absurd (omega arith) };
@@ -122,6 +122,10 @@ module _ (s : List ℕ) (vs arrs nodes : ℕ) where
       }
 
   module _ (index uses : List ℕ) (at n : ℕ) (h : NodesLeft index uses at n) where
+    -- the offset is small
+    pub offset-small : at ≤ nodesStart arrs + 10 * n
+    offset-small = omega (arith, h .place, h .counted, sizes-most (h .before))
+
     -- the counts are small
     pub uses-small : nodes ≤ maxNodes → CountsBelow 65533 uses
     unfolding usesOf
@@ -170,7 +174,6 @@ module _ (s : List ℕ) (vs arrs nodes : ℕ) where
                   ∙ ap (λ k. readNodes k header s at (h .before)) next
                   ∙ nodes-next s at header (h .before) (nodes - (n + 1)) m was-read;
               place = rw (map-append, sum-append) (omega (arith, h .place));
-              short = omega (arith, h .short, size-most m);
               kept =
                   rw (← h .counted)
                   (kept-more (h .before) m s index uses (nodesStart arrs) at (h .kept) (omega (arith, h .counted)) (h .place)

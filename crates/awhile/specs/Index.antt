@@ -4,7 +4,7 @@ use mathlib.Core.List.{List, []}
 use mathlib.Core.Path.{_≡_}
 use lib.ListN.{length, getD}
 use Rattle.awhile.specs.Lists.{sum}
-use Rattle.awhile.specs.Tables.{Table, Reading, rejected, notATree, accepted, readTable, offsetOf, BreaksRule, nodesStart, readHeader, readLabels, readCounts, readRecords}
+use Rattle.awhile.specs.Tables.{Table, rejected, notATree, accepted, readTable, offsetOf, BreaksRule, nodesStart, readHeader, readLabels, readCounts, readRecords}
 use Rattle.awhile.specs.Refusals.{got}
 use Rattle.awhile.specs.Reader.{Kept}
 use Rattle.awhile.specs.Language.{AExp, BExp, Com}

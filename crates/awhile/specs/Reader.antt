@@ -36,18 +36,22 @@ use Rattle.awhile.specs.declared.fields.Field.{Field as FieldRead}
 use Rattle.awhile.specs.declared.fields.Field.the-variants.{Word, Constant, Variable, Array, Child}
 use Rattle.awhile.specs.declared.fields.Fields.{Fields}
 
+-- a check that passes or refuses
 unfoldable pub checkedAs : Answer (Unit {0}) → Checked
 checkedAs (refused r) = CheckRefused r
 checkedAs (got w) = Passed
 
+-- the header
 unfoldable pub headerAs : Answer Header → HeaderRead
 headerAs (refused r) = HeaderRefused r
 headerAs (got h) = HeaderGot (h .variables) (h .arrays) (h .nodes)
 
+-- the labels record
 unfoldable pub labelsAs : Answer Labelling → LabelsRead
 labelsAs (refused r) = LabelsRefused r
 labelsAs (got l) = LabelsGot l
 
+-- one array record
 unfoldable pub countAs : Answer ℕ → CountRead
 countAs (refused r) = CountRefused r
 countAs (got n) = CountGot n
@@ -66,6 +70,7 @@ fieldOf (Variable x) = variable x
 fieldOf (Array a) = array a
 fieldOf (Child s n) = child s n
 
+-- the three fields that the code has of a record
 abbrev pub fieldsOf : Fields → List Field
 fieldsOf fs = fieldOf (fs .first) ∷ fieldOf (fs .second) ∷ fieldOf (fs .third) ∷ []
 
@@ -76,6 +81,7 @@ padded (suc count) [] = word 0 ∷ padded count []
 padded (suc count) (f ∷ fs) = f ∷ padded count fs
 
 -- ---- the nodes
+-- one node record
 unfoldable pub nodeAs : Answer Node → NodeRead
 nodeAs (refused r) = NodeRefused r
 nodeAs (got n) = NodeGot n

@@ -7,6 +7,7 @@ ghost use Rattle.awhile.specs.Reader.{checkedAs};
 use crate::Refusal;
 use bytes_le::get;
 
+// A check that refuses, or passes.
 pub enum Checked {
     Refused { refusal: Refusal },
     Passed,

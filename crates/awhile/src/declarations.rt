@@ -16,6 +16,7 @@ use crate::checks;
 use crate::checks::Checked;
 use bytes_le::get;
 
+// What reading the header answers.
 pub enum HeaderRead {
     Refused {
         refusal: Refusal,
@@ -69,6 +70,7 @@ pub fn read_header(table: &[u8]) -> HeaderRead
     }
 }
 
+// What reading the labels record answers.
 pub enum LabelsRead {
     Refused { refusal: Refusal },
     Labels { labels: Labelling },
@@ -107,6 +109,7 @@ pub fn read_labels(table: &[u8], variables: usize, arrays: usize) -> LabelsRead
     }
 }
 
+// What reading one array record answers.
 pub enum CountRead {
     Refused { refusal: Refusal },
     Count { count: usize },
@@ -131,6 +134,7 @@ fn read_count(table: &[u8], at: usize, before: usize) -> CountRead
     }
 }
 
+// What reading all array records answers: how many cells they declare.
 pub enum CellsRead {
     Refused { refusal: Refusal },
     Cells { cells: usize },

@@ -5,6 +5,7 @@ pub mod decode;
 pub mod fields;
 pub mod lookup;
 pub mod reader;
+pub mod tables;
 pub mod uses;
 pub mod walk;
 

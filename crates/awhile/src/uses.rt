@@ -34,6 +34,7 @@ pub fn count_fields(uses: &mut [u16], fields: Fields)
     count_field(&mut *uses, third);
 }
 
+// A node that is not in order, or that there is none.
 pub enum Broken {
     At { node: usize },
     Nowhere,

@@ -19,8 +19,10 @@ use crate::decode;
 use crate::fields;
 use crate::fields::Field;
 use crate::fields::Fields;
+use crate::reader;
 use crate::uses;
 
+// What reading one node record answers.
 pub enum NodeRead {
     Refused { refusal: Refusal },
     Node { node: Node },
@@ -42,7 +44,7 @@ pub fn sort_at(table: &[u8], at: usize) -> Sort
     requires { ⌜ at + 8 < 2 ^ 64 ⌝ }
     ensures { λ r. ⌜ SortAt (now (table .entry)) at r ⌝ }
 {
-    let Decoded::Known { node } = decode::decode_at(table, at) else {
+    let Decoded::Known { node } = reader::decoded_at(table, at) else {
         return Sort::Command;
     };
     decode::sort_of(node)
@@ -128,7 +130,7 @@ fn read_node(
     requires { ⌜ at + 10 < 2 ^ 64 ⌝ }
     ensures { λ r. ⌜ NodeChecked (now (table .entry)) (now (index .entry)) variables arrays n at r ⌝ }
 {
-    let Decoded::Known { node } = decode::decode_at(table, at) else {
+    let Decoded::Known { node } = reader::decoded_at(table, at) else {
         return NodeRead::Refused {
             refusal: refuse_kind(table, at),
         };
@@ -148,6 +150,7 @@ fn read_node(
     NodeRead::Node { node }
 }
 
+// What reading all node records answers: where the last one ends.
 pub enum NodesRead {
     Refused { refusal: Refusal },
     Nodes { end: usize },

@@ -5,7 +5,7 @@ use awhile::Labelling;
 use awhile::MAX_NODES;
 use awhile::Read;
 use awhile::Refusal;
-use awhile::reader::read;
+use awhile::tables::read;
 use labels::program::label_program;
 use labels::sheet::sheet_size;
 use labels::sheet::write_sheet;

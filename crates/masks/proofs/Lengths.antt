@@ -1,9 +1,9 @@
 -- What is written for an expression or a command has the counted nodes and bytes, whatever number its first node has.
-use Prim.Native.Nat.{ℕ, _+_}
+use Prim.Native.Nat.{ℕ, _+_, _<_}
 use native.Mathlib.Omega.{arith}
 use mathlib.Core.Bool.{cond}
 use mathlib.Core.Path.{_≡_, refl}
-use mathlib.Core.List.{List, [], _∷_, _++_, flatMap, map}
+use mathlib.Core.List.{List, [], _∷_, _++_, flatMap}
 use lib.ListN.{length, length-append}
 use Rattle.awhile.specs.Language.{AExp, number, variable, add, subtract, multiply, choice}
 use Rattle.awhile.specs.Language.{BExp, constant, equal, less, not, and}
@@ -53,7 +53,7 @@ module _ (n : Node) {size : ℕ} (own : sizeOf n ≡ size) {ms : List Node} {i j
         record { nodesAre = omega (arith, r .nodesAre); bytesAre = omega (arith, r .bytesAre) }
 
 mutual
-  unfolding writeA nodesOfA bytesOfA sizeOf form fieldSize sum map binary ternary
+  unfolding writeA nodesOfA bytesOfA sizeOf form fieldSize sum binary ternary
 
   pub counted-A : (from : ℕ) (e : AExp) → Counted (writeA from e) (nodesOfA e) (bytesOfA e)
   counted-A from (number n) = counted-node (Number n)
@@ -72,7 +72,7 @@ mutual
   counted-B from (and b c) = over-two _ refl (counted-B from b) (counted-B (from + nodesOfB b) c)
 
 pub counted-C : {Note : Type 0} (from : ℕ) (c : Com Note) → Counted (writeC from c) (nodesOf c) (bytesOf c)
-unfolding writeC nodesOf bytesOf sizeOf form fieldSize sum map binary ternary
+unfolding writeC nodesOf bytesOf sizeOf form fieldSize sum binary ternary
 counted-C from (skip n) = counted-node Skip
 counted-C from (assign n x e) = over-one _ refl (counted-A from e)
 counted-C from (sequence n c d) = over-two _ refl (counted-C from c) (counted-C (from + nodesOf c) d)
@@ -110,3 +110,31 @@ bytes-C (if n b c d) = record { short = omega (arith, bytes-B b .short, bytes-C 
 bytes-C (while n b c) = record { short = omega (arith, bytes-B b .short, bytes-C c .short) }
 bytes-C (read n x a i) = record { short = omega (arith, bytes-A i .short) }
 bytes-C (write n a i e) = record { short = omega (arith, bytes-A i .short, bytes-A e .short) }
+
+-- every expression and command has a node
+pub some-A : (e : AExp) → 0 < nodesOfA e
+unfolding nodesOfA
+some-A (number n) = omega arith
+some-A (variable x) = omega arith
+some-A (add a b) = omega arith
+some-A (subtract a b) = omega arith
+some-A (multiply a b) = omega arith
+some-A (choice c a b) = omega arith
+
+pub some-B : (b : BExp) → 0 < nodesOfB b
+unfolding nodesOfB
+some-B (constant b) = omega arith
+some-B (equal a b) = omega arith
+some-B (less a b) = omega arith
+some-B (not b) = omega arith
+some-B (and b c) = omega arith
+
+pub some-C : {Note : Type 0} (c : Com Note) → 0 < nodesOf c
+unfolding nodesOf
+some-C (skip n) = omega arith
+some-C (assign n x e) = omega arith
+some-C (sequence n c d) = omega arith
+some-C (if n b c d) = omega arith
+some-C (while n b c) = omega arith
+some-C (read n x a i) = omega arith
+some-C (write n a i e) = omega arith

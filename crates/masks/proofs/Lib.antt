@@ -21,3 +21,9 @@ pub mod SizeSums
 pub mod Lengths
 pub mod Unnamed
 pub mod Descents
+pub mod Writers
+pub mod Joins
+pub mod ExpressionWrites
+pub mod Masking
+pub mod AccessWrites
+pub mod CommandWrites

@@ -3,7 +3,7 @@ use Prim.Native.Nat.{ℕ, _+_, _*_, _/_, _%_}
 use native.Mathlib.Nat.{add-mul-mod-self-left}
 use native.Mathlib.Omega.{arith}
 use mathlib.Core.Path.{_≡_, refl, ap}
-use mathlib.Core.List.{List, [], _∷_, _++_, flatMap, map}
+use mathlib.Core.List.{List, [], _∷_, _++_, flatMap}
 use Rattle.bytes_le.specs.Numbers.{le}
 use Rattle.awhile.specs.Lists.{sum}
 use Rattle.awhile.specs.Nodes.{form, fieldBytes, fieldSize, sizeOf, nodeBytes}
@@ -25,7 +25,7 @@ word-halves v =
 
 -- the same bytes
 pub record-bytes : (n : Node) → recordBytes (recordOf n) ≡ nodeBytes n
-unfolding recordBytes nodeBytes sizeOf form fieldSize fieldBytes sum le map flatMap
+unfolding recordBytes nodeBytes sizeOf form fieldSize fieldBytes sum le flatMap
 record-bytes (Number v) = ap (λ bytes. 8 ∷ 0 ∷ 16 ∷ 0 ∷ bytes) (word-halves v)
 record-bytes (Variable x) = refl
 record-bytes (Add a b) = refl
@@ -47,7 +47,7 @@ record-bytes (Write a i e) = refl
 
 -- the same length
 pub record-size : (n : Node) → recordSize (recordOf n) ≡ sizeOf n
-unfolding sizeOf form fieldSize sum map
+unfolding sizeOf form fieldSize sum
 record-size (Number v) = refl
 record-size (Variable x) = refl
 record-size (Add a b) = refl

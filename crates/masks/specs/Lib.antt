@@ -10,3 +10,4 @@ pub mod Demands
 pub mod Records
 pub mod Written
 pub mod Sizes
+pub mod InMemory

@@ -1,9 +1,22 @@
 // The hardened program: what needs masking is masked.
+pub mod accesses;
+pub mod commands;
+pub mod copies;
+pub mod deciding;
+pub mod masked;
 pub mod records;
 pub mod sizes;
 
 // How much is written: so many nodes, in so many bytes.
 pub struct Size {
+    pub nodes: usize,
+    pub bytes: usize,
+}
+
+// Two copies, one behind the other: the numbers of their last nodes, and how much both take.
+pub struct Pair {
+    pub left: usize,
+    pub right: usize,
     pub nodes: usize,
     pub bytes: usize,
 }

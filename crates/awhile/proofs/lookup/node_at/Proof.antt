@@ -12,11 +12,11 @@ use Rattle.awhile.proofs.lookup.node_at.Statement.{statement}
 use Rattle.awhile.proofs.lookup.node_at.Tie as tie
 
 -- what was decoded is the node
-decoded : (c : tie.After-decode-at) → c .decode-at .result ≡ Known (nodeIn (now (c .before .before .before .before .args .table)) (c .before .before .before .before .args .n))
+decoded : (c : tie.After-decoded-at) → c .decoded-at .result ≡ Known (nodeIn (now (c .before .before .before .before .args .table)) (c .before .before .before .before .args .n))
 decoded c =
     let start = c .before .before .before .before in
     let table = now (start .args .table) in
-    c .decode-at .ensures
+    c .decoded-at .ensures
     ∙ indexed-node table (now (start .args .index)) (slice-bytes table (c .before .before .before .shared-slice-known .given)) (start .pre .0) (start .args .n) (start .pre .1) .decoded
 
 mul-at : tie.Need-mul-at
@@ -28,8 +28,8 @@ shared-slice-read-at c = search needs
 cast-at : tie.Need-cast-at
 cast-at c = omega (arith, c .shared-slice-known3 .given (c .before .before .before .args .n))
 
-decode-at-requires : tie.Need-decode-at-requires
-decode-at-requires c κs = omega (arith, c .shared-slice-known3 .given (c .before .before .before .args .n))
+decoded-at-requires : tie.Need-decoded-at-requires
+decoded-at-requires c κs = omega (arith, c .shared-slice-known3 .given (c .before .before .before .args .n))
 
 enum-known-node : tie.Need-enum-known-node
 enum-known-node c = search needs
@@ -50,7 +50,7 @@ node-at-spec =
     mul-at
     shared-slice-read-at
     cast-at
-    decode-at-requires
+    decoded-at-requires
     enum-known-node
     enum-told
     returns

@@ -5,7 +5,7 @@ use mathlib.Core.List.{List, [], _++_, flatMap}
 use denote.Ref.{now}
 use borrow.Author.Needs.{needs}
 use Rattle.awhile.specs.Nodes.{fieldChildren}
-use Rattle.awhile.specs.Reader.{fieldOf, fieldsOf}
+use Rattle.awhile.specs.Reader.{fieldOf}
 use Rattle.awhile.proofs.Tally.{Room, room-first, room-rest, tally-three, field-children}
 use Rattle.awhile.proofs.uses.count_fields.Statement.{statement}
 use Rattle.awhile.proofs.uses.count_fields.Tie as tie

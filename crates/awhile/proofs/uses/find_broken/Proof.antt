@@ -1,7 +1,7 @@
 -- `find_broken`: at every turn the nodes passed are children exactly once.
 use Prim.Native.Nat.{_-_}
 use native.Mathlib.Omega.{arith}
-use mathlib.Core.Path.{_≡_, ap, _∙_}
+use mathlib.Core.Path.{ap, _∙_}
 use denote.Ref.{now}
 use borrow.Author.Needs.{needs}
 use Rattle.awhile.specs.Nodes.{sameSort}

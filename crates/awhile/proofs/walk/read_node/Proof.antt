@@ -4,14 +4,14 @@ use mathlib.Core.Path.{sym, _∙_}
 use denote.Ref.{now}
 use borrow.Author.Tests.{not-true, not-false}
 use Rattle.awhile.specs.Reader.{fieldsOf}
-use Rattle.awhile.proofs.Records.{size-most}
+use Rattle.awhile.proofs.Records.{head-fits}
 use Rattle.awhile.proofs.Sorting.{unknown-read, frame-refused-read, range-refused-read, sort-refused-read, node-got-read}
 use borrow.Author.Needs.{needs}
 use Rattle.awhile.proofs.walk.read_node.Statement.{statement}
 use Rattle.awhile.proofs.walk.read_node.Tie as tie
 
-decode-at-requires : tie.Need-decode-at-requires
-decode-at-requires c κs = search needs
+decoded-at-requires : tie.Need-decoded-at-requires
+decoded-at-requires c κs = search needs
 
 enum-known-node : tie.Need-enum-known-node
 enum-known-node c = search needs
@@ -31,13 +31,13 @@ returns c =
     let arrs = start .args .arrays in
     let n = start .args .n in
     let at = start .args .at in
-    unknown-read s index vs arrs n at (c .refuse-kind .result) (sym (c .before .before .before .decode-at .ensures) ∙ c .before .enum-told .given .1) (c .refuse-kind .ensures)
+    unknown-read s index vs arrs n at (c .refuse-kind .result) (sym (c .before .before .before .decoded-at .ensures) ∙ c .before .enum-told .given .1) (c .refuse-kind .ensures)
 
 size-of-requires : tie.Need-size-of-requires
 size-of-requires c κs = search needs
 
 frame-requires : tie.Need-frame-requires
-frame-requires c κs = omega (arith, c .size-of .ensures, size-most (c .before .before .node .given .0 .0))
+frame-requires c κs = omega (arith, c .size-of .ensures, head-fits (c .before .before .node .given .0 .0))
 
 enum-known-refusal : tie.Need-enum-known-refusal
 enum-known-refusal c = search needs
@@ -52,7 +52,7 @@ returns-2 c =
     let n = start .args .n in
     let at = start .args .at in
     let m = c .before .before .before .before .before .before .node .given .0 .0 in
-    let d = sym (c .before .before .before .before .before .before .before .before .decode-at .ensures) ∙ c .before .before .before .before .before .before .node .given .1 in
+    let d = sym (c .before .before .before .before .before .before .before .before .decoded-at .ensures) ∙ c .before .before .before .before .before .before .node .given .1 in
     frame-refused-read s index vs arrs n at m d (c .before .refusal .given .0 .0) (rw (c .before .before .before .before .size-of .ensures) at (sym (c .before .before .before .frame .ensures) ∙ c .before .refusal .given .1))
 
 enum-told-2 : tie.Need-enum-told-2
@@ -74,7 +74,7 @@ returns-3 c =
     let n = start .args .n in
     let at = start .args .at in
     let m = c .before .before .before .before .before .before .before .before .node .given .0 .0 in
-    let d = sym (c .before .before .before .before .before .before .before .before .before .before .decode-at .ensures) ∙ c .before .before .before .before .before .before .before .before .node .given .1 in
+    let d = sym (c .before .before .before .before .before .before .before .before .before .before .decoded-at .ensures) ∙ c .before .before .before .before .before .before .before .before .node .given .1 in
     range-refused-read s index vs arrs n at m d (rw (c .before .before .before .before .before .before .size-of .ensures) at (sym (c .before .before .before .before .before .frame .ensures) ∙ c .before .before .before .enum-told2 .given .1)) (fieldsOf (c .before .before .fields-of .result)) (c .before .before .fields-of .ensures)
     (sym (c .before .in-range .ensures) ∙ not-true (c .before .in-range .result) (c .if1 .taken))
 
@@ -94,7 +94,7 @@ returns-4 c =
     let n = start .args .n in
     let at = start .args .at in
     let m = c .before .before .before .before .before .before .before .before .before .before .before .before .node .given .0 .0 in
-    let d = sym (c .before .before .before .before .before .before .before .before .before .before .before .before .before .before .decode-at .ensures) ∙ c .before .before .before .before .before .before .before .before .before .before .before .before .node .given .1 in
+    let d = sym (c .before .before .before .before .before .before .before .before .before .before .before .before .before .before .decoded-at .ensures) ∙ c .before .before .before .before .before .before .before .before .before .before .before .before .node .given .1 in
     sort-refused-read s index vs arrs n at m d (rw (c .before .before .before .before .before .before .before .before .before .before .size-of .ensures) at (sym (c .before .before .before .before .before .before .before .before .before .frame .ensures) ∙ c .before .before .before .before .before .before .before .enum-told2 .given .1)) (fieldsOf (c .before .before .before .before .before .before .fields-of .result)) (c .before .before .before .before .before .before .fields-of .ensures)
     (sym (c .before .before .before .before .before .in-range .ensures) ∙ not-false (c .before .before .before .before .before .in-range .result) (c .before .before .before .before .if1 .left))
     (c .before .refusal2 .given .0 .0) (rw (c .before .refusal2 .given .1) at (c .before .before .before .check-fields .ensures))
@@ -112,7 +112,7 @@ returns-5 c =
     let n = start .args .n in
     let at = start .args .at in
     let m = c .before .before .before .before .before .before .before .before .before .before .before .node .given .0 .0 in
-    let d = sym (c .before .before .before .before .before .before .before .before .before .before .before .before .before .decode-at .ensures) ∙ c .before .before .before .before .before .before .before .before .before .before .before .node .given .1 in
+    let d = sym (c .before .before .before .before .before .before .before .before .before .before .before .before .before .decoded-at .ensures) ∙ c .before .before .before .before .before .before .before .before .before .before .before .node .given .1 in
     node-got-read s index vs arrs n at m d (rw (c .before .before .before .before .before .before .before .before .before .size-of .ensures) at (sym (c .before .before .before .before .before .before .before .before .frame .ensures) ∙ c .before .before .before .before .before .before .enum-told2 .given .1)) (fieldsOf (c .before .before .before .before .before .fields-of .result)) (c .before .before .before .before .before .fields-of .ensures)
     (sym (c .before .before .before .before .in-range .ensures) ∙ not-false (c .before .before .before .before .in-range .result) (c .before .before .before .if1 .left))
     (rw (c .enum-told3 .given .1) at (c .before .before .check-fields .ensures))
@@ -121,7 +121,7 @@ pub read-node-spec : {M : Type 1} → statement M
 read-node-spec =
     tie.close
     (tie.spec
-    decode-at-requires
+    decoded-at-requires
     enum-known-node
     enum-told
     refuse-kind-requires

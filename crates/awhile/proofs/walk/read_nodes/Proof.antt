@@ -10,8 +10,8 @@ use borrow.Author.Needs.{needs}
 use Rattle.bytes_le.proofs.Numbers.{slice-bytes}
 use Rattle.awhile.specs.Reader.{fieldsOf, tally, allBelow, NodeChecked, stopped}
 use Rattle.awhile.specs.Nodes.{sizeOf, fieldChildren}
-use Rattle.awhile.proofs.Records.{size-most}
-use Rattle.awhile.proofs.Walking.{NodesLeft, nodes-start, uses-small, nodes-stop, children-inside, nodes-more, nodes-done}
+use Rattle.awhile.proofs.Records.{head-fits}
+use Rattle.awhile.proofs.Walking.{NodesLeft, nodes-start, offset-small, uses-small, nodes-stop, children-inside, nodes-more, nodes-done}
 use Rattle.awhile.specs.declared.Node.{Node}
 use Rattle.awhile.specs.declared.walk.NodeRead.the-variants.{Node as NodeGot}
 use Rattle.awhile.proofs.walk.read_nodes.Statement.{statement}
@@ -37,7 +37,14 @@ loop-holds c =
 
 -- an offset fits two bytes with room for a record
 short : (c : tie.In-loop Inv-loop μ-loop) → c .before .loop .at + 10 < 65536
-short c = omega (arith, c .before .loop .inv .0 .short, c .before .before .before .before .before .pre)
+short c =
+    let a = c .before .before .before .before .before .args in
+    let turn = c .before .loop in
+    omega (
+      arith,
+      offset-small (now (a .table)) (a .variables) (a .arrays) (a .nodes) (turn .index) (turn .uses) (turn .at) (turn .n) (turn .inv .0),
+      c .before .before .before .before .before .pre,
+    )
 
 read-node-requires : tie.Need-read-node-requires Inv-loop μ-loop
 read-node-requires c κs = omega (arith, short (c .before))
@@ -123,7 +130,7 @@ size-of-requires : tie.Need-size-of-requires Inv-loop μ-loop
 size-of-requires c κs = search needs
 
 add-at-2 : tie.Need-add-at-2 Inv-loop μ-loop
-add-at-2 c = omega (arith, short (c .before .before .before .before .before .before .before .before .before .before .before), c .size-of .ensures, size-most (c .before .before .before .before .before .before .before .node .given .0 .0))
+add-at-2 c = omega (arith, short (c .before .before .before .before .before .before .before .before .before .before .before), c .size-of .ensures, head-fits (c .before .before .before .before .before .before .before .node .given .0 .0))
 
 add-n : tie.Need-add-n Inv-loop μ-loop
 add-n c = omega (arith, c .before .before .before .before .before .before .before .before .before .before .before .loop-test .taken, c .before .before .before .before .before .before .before .before .before .before .before .before .before .before .before .before .pre)
