@@ -41,6 +41,7 @@ writes-nothing out buffer answer h e f = rw (lt-leb (length out) (length buffer)
 
 -- ---- an entry that reads a table, and then writes what is asked for
 module _ (asked : Table → Answer (List ℕ)) where
+  -- its result, buffer and answer slice
   abbrev pub reading : (placeOf6 : ℕ) → (table buffer answer : List ℕ) → Written
   reading place table buffer answer = writing (andThen (tableIn table place) asked) buffer answer
 
@@ -103,6 +104,7 @@ pub record Accepts (s index : List ℕ) (nodes : ℕ) (labels : Labelling) : Typ
   pub isNodes : nodes ≡ nodesIn s
   pub isLabels : labels ≡ tableOf s .labels
 
+-- where the reader answers an accepted table, it is one
 pub reader-accepts : (s index : List ℕ) (found : Read) (v a n c : ℕ) (l : Labelling) (e : ℕ) → Answers s index found → found ≡ Accepted v a n c l e → Accepts s index n l
 unfolding acceptedAs nodesIn
 reader-accepts s index found v a n c l e (isRejected q r h) f = absurd (let z : _≡_ {A = ℕ} 0 1 = cc in omega arith)

@@ -11,6 +11,7 @@ pub mod Rules
 pub mod Notes
 pub mod Warm
 pub mod ExpressionLabels
+pub mod Nodes
 pub mod CommandNotes
 pub mod Settling
 pub mod CommandCases

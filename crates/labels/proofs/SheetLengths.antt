@@ -24,10 +24,12 @@ pub sheet-split : (t : Table) → finalRecord t ++ recordsBelow (annotated t) (l
 unfolding finalRecord finalLabels sheetBytes masksBytes le
 sheet-split t = refl
 
+-- it has 14 bytes
 pub final-length : (t : Table) → length (finalRecord t) ≡ 14
 unfolding finalRecord masksBytes le
 final-length t = refl
 
+-- how long the sheet is
 pub sheet-length : (t : Table) → length (sheetBytes t) ≡ 14 + length (recordsBelow (annotated t) (length (t .nodes)))
 sheet-length t = ap length (sym (sheet-split t)) ∙ length-append (finalRecord t) (recordsBelow (annotated t) (length (t .nodes))) ∙ ap (λ k. k + length (recordsBelow (annotated t) (length (t .nodes)))) (final-length t)
 
@@ -37,6 +39,7 @@ module _ (a : Com Entry) where
   unfolding recordsBelow
   records-next n = rw add-one
 
+  -- and how long they are
   pub length-next : (n : ℕ) → length (recordsBelow a (n + 1)) ≡ length (recordsBelow a n) + length (recordOf a n)
   length-next n = ap length (records-next n) ∙ length-append (recordsBelow a n) (recordOf a n)
 

@@ -19,9 +19,7 @@ use Rattle.awhile.specs.declared.Labelling.{Labelling}
 use Rattle.awhile.specs.declared.Sort.{Sort}
 use Rattle.awhile.specs.declared.Sort.the-variants.{Numeric, Truth, Command}
 use Rattle.awhile.specs.declared.Node.{Node}
-use Rattle.awhile.specs.declared.Node.the-variants.{Number, Variable, Add, Subtract, Multiply, Choice}
-use Rattle.awhile.specs.declared.Node.the-variants.{Constant, Equal, Less, Not, And}
-use Rattle.awhile.specs.declared.Node.the-variants.{Skip, Assign, Sequence, If, While, Read, Write}
+use Rattle.awhile.specs.declared.Node.the-variants.{Sequence, If, While, Read, Write}
 use Rattle.awhile.proofs.Index.{Child, Parts, indexed-well-formed, indexed-parts, indexed-note, indexed-numeric, indexed-truth, indexed-some, indexed-root, indexed-root-sort}
 use Rattle.awhile.proofs.Node.{the-type}
 use Rattle.labels.specs.Labellings.{labelOfA, labelOfB}
@@ -30,6 +28,7 @@ use Rattle.labels.specs.Annotation.{Entry}
 use Rattle.labels.specs.Notes.{noteIn, Noted}
 use Rattle.labels.specs.Sheet.{sheetRecord, recordLength, recordOf, entryOf, masksBytes, labelBytes, annotated}
 use Rattle.labels.specs.Warm.{standing}
+use Rattle.labels.proofs.Nodes.{command-kinds}
 use Rattle.labels.proofs.Notes.{note-mapped}
 use Rattle.labels.proofs.Standing.{root-standing}
 use Rattle.labels.proofs.SheetRecords.{copies, Located, annotated-by-notes, recordAt, records-copied, lengths-copied}
@@ -40,36 +39,25 @@ unnamedRecord = 0 ∷ 1 ∷ 2 ∷ 3 ∷ 4 ∷ 5 ∷ 6 ∷ 7 ∷ 8 ∷ 9 ∷ 10 �
 
 module _ (table index : List ℕ) (bytes : Below 256 table) (indexed : Indexed table index) where
   -- ---- the commands of a command are those of their numbers
-  located-parts : (bound n : ℕ) → ((k : ℕ) → k < n → k < nodesIn table → sortOf (nodeIn table k) ≡ Command → Located table (commandIn table k))
-      → (m : Node) → sortOf m ≡ Command → Parts table n m → Located table (commandIn table n)
-  unfolding sortOf form
-  located-parts bound n below (Number v) s p = absurd (let z : _≡_ {A = ℕ} 0 1 = cc in omega arith)
-  located-parts bound n below (Variable v) s p = absurd (let z : _≡_ {A = ℕ} 0 1 = cc in omega arith)
-  located-parts bound n below (Add a b) s p = absurd (let z : _≡_ {A = ℕ} 0 1 = cc in omega arith)
-  located-parts bound n below (Subtract a b) s p = absurd (let z : _≡_ {A = ℕ} 0 1 = cc in omega arith)
-  located-parts bound n below (Multiply a b) s p = absurd (let z : _≡_ {A = ℕ} 0 1 = cc in omega arith)
-  located-parts bound n below (Choice c a b) s p = absurd (let z : _≡_ {A = ℕ} 0 1 = cc in omega arith)
-  located-parts bound n below (Constant v) s p = absurd (let z : _≡_ {A = ℕ} 0 1 = cc in omega arith)
-  located-parts bound n below (Equal a b) s p = absurd (let z : _≡_ {A = ℕ} 0 1 = cc in omega arith)
-  located-parts bound n below (Less a b) s p = absurd (let z : _≡_ {A = ℕ} 0 1 = cc in omega arith)
-  located-parts bound n below (Not a) s p = absurd (let z : _≡_ {A = ℕ} 0 1 = cc in omega arith)
-  located-parts bound n below (And a b) s p = absurd (let z : _≡_ {A = ℕ} 0 1 = cc in omega arith)
-  located-parts bound n below Skip s p = subst (Located table) (sym p) (sym p)
-  located-parts bound n below (Assign v e) s p = subst (Located table) (sym (p .2)) (sym (p .2))
-  located-parts bound n below (Sequence c d) s p =
-      subst (Located table) (sym (p .2))
-      (sym (p .2), below c (p .0 .below) (p .0 .inside) (p .0 .isSort), below d (p .1 .below) (p .1 .inside) (p .1 .isSort))
-  located-parts bound n below (If b c d) s p =
-      subst (Located table) (sym (p .3))
-      (sym (p .3), below c (p .1 .below) (p .1 .inside) (p .1 .isSort), below d (p .2 .below) (p .2 .inside) (p .2 .isSort))
-  located-parts bound n below (While b c) s p = subst (Located table) (sym (p .2)) (sym (p .2), below c (p .1 .below) (p .1 .inside) (p .1 .isSort))
-  located-parts bound n below (Read v a i) s p = subst (Located table) (sym (p .3)) (sym (p .3))
-  located-parts bound n below (Write a i e) s p = subst (Located table) (sym (p .3)) (sym (p .3))
+  module _ (n : ℕ) (below : (k : ℕ) → k < n → k < nodesIn table → sortOf (nodeIn table k) ≡ Command → Located table (commandIn table k)) where
+    part-located : (k : ℕ) → Child table Command n k → Located table (commandIn table k)
+    part-located k c = below k (c .below) (c .inside) (c .isSort)
+
+    located-parts : (m : Node) → sortOf m ≡ Command → Parts table n m → Located table (commandIn table n)
+    located-parts =
+        command-kinds (λ m. Parts table n m → Located table (commandIn table n))
+        (λ p. subst (Located table) (sym p) (sym p))
+        (λ v e p. subst (Located table) (sym (p .2)) (sym (p .2)))
+        (λ c d p. subst (Located table) (sym (p .2)) (sym (p .2), part-located c (p .0), part-located d (p .1)))
+        (λ b c d p. subst (Located table) (sym (p .3)) (sym (p .3), part-located c (p .1), part-located d (p .2)))
+        (λ b c p. subst (Located table) (sym (p .2)) (sym (p .2), part-located c (p .1)))
+        (λ v a i p. subst (Located table) (sym (p .3)) (sym (p .3)))
+        (λ a i e p. subst (Located table) (sym (p .3)) (sym (p .3)))
 
   located : (bound n : ℕ) → n < bound → n < nodesIn table → sortOf (nodeIn table n) ≡ Command → Located table (commandIn table n)
   located zero n h inside s = absurd (omega arith)
   located (suc bound) n h inside s =
-      located-parts bound n (λ k lower. located bound k (omega arith)) (nodeIn table n) s (indexed-parts table index bytes indexed n inside (nodeIn table n) refl)
+      located-parts n (λ k lower. located bound k (omega arith)) (nodeIn table n) s (indexed-parts table index bytes indexed n inside (nodeIn table n) refl)
 
   root-located : Located table (rootOf (tableOf table))
   root-located =
@@ -109,26 +97,23 @@ module _ (table index : List ℕ) (bytes : Below 256 table) (indexed : Indexed t
   no-command n inside Command e f = absurd (true≢false f)
 
   -- a node that is not named has no record
-  pub unrecorded : (n : ℕ) → n < nodesIn table → (m : Node) → OneOf unnamedRecord (tagOf the-type m) → nodeIn table n ≡ m → 0 ≡ recordLength (commandIn table n)
-  unfolding sortOf form sameSort recordLength
-  unrecorded n inside (Number v) o e = no-command n inside Numeric (ap sortOf e) refl
-  unrecorded n inside (Variable v) o e = no-command n inside Numeric (ap sortOf e) refl
-  unrecorded n inside (Add a b) o e = no-command n inside Numeric (ap sortOf e) refl
-  unrecorded n inside (Subtract a b) o e = no-command n inside Numeric (ap sortOf e) refl
-  unrecorded n inside (Multiply a b) o e = no-command n inside Numeric (ap sortOf e) refl
-  unrecorded n inside (Choice c a b) o e = no-command n inside Numeric (ap sortOf e) refl
-  unrecorded n inside (Constant v) o e = no-command n inside Truth (ap sortOf e) refl
-  unrecorded n inside (Equal a b) o e = no-command n inside Truth (ap sortOf e) refl
-  unrecorded n inside (Less a b) o e = no-command n inside Truth (ap sortOf e) refl
-  unrecorded n inside (Not a) o e = no-command n inside Truth (ap sortOf e) refl
-  unrecorded n inside (And a b) o e = no-command n inside Truth (ap sortOf e) refl
-  unrecorded n inside Skip o e = rw (indexed-parts table index bytes indexed n inside Skip e)
-  unrecorded n inside (Assign v d) o e = rw (indexed-parts table index bytes indexed n inside (Assign v d) e .2)
-  unrecorded n inside (Sequence c d) o e = absurd (miss unnamedRecord 13 tt o)
-  unrecorded n inside (If b c d) o e = absurd (miss unnamedRecord 14 tt o)
-  unrecorded n inside (While b c) o e = absurd (miss unnamedRecord 15 tt o)
-  unrecorded n inside (Read v a i) o e = absurd (miss unnamedRecord 16 tt o)
-  unrecorded n inside (Write a i d) o e = absurd (miss unnamedRecord 17 tt o)
+  pub unrecorded : (n : ℕ) → n < nodesIn table → OneOf unnamedRecord (tagOf the-type (nodeIn table n)) → 0 ≡ recordLength (commandIn table n)
+  unfolding sameSort recordLength
+  unrecorded n inside o = go (sortOf (nodeIn table n)) refl
+    where
+      go : (s : Sort) → sortOf (nodeIn table n) ≡ s → 0 ≡ recordLength (commandIn table n)
+      go Numeric e = no-command n inside Numeric e refl
+      go Truth e = no-command n inside Truth e refl
+      go Command e =
+          command-kinds (λ m. OneOf unnamedRecord (tagOf the-type m) → Parts table n m → 0 ≡ recordLength (commandIn table n))
+          (λ o p. rw p)
+          (λ v d o p. rw (p .2))
+          (λ c d o p. absurd (miss unnamedRecord 13 tt o))
+          (λ b c d o p. absurd (miss unnamedRecord 14 tt o))
+          (λ b c o p. absurd (miss unnamedRecord 15 tt o))
+          (λ v a i o p. absurd (miss unnamedRecord 16 tt o))
+          (λ a i d o p. absurd (miss unnamedRecord 17 tt o))
+          (nodeIn table n) e o (indexed-parts table index bytes indexed n inside (nodeIn table n) refl)
 
   module _ (vs arrs : List ℕ) (notes : Noted vs arrs (annotated (tableOf table))) where
     records : (n : ℕ) → recordOf (annotated (tableOf table)) n ≡ copies (standing n (rootOf (tableOf table))) (recordAt table vs arrs n)

@@ -24,5 +24,6 @@ le-above (suc width) a b =
     let rest : (a + 256 * upper) / 256 ≡ a / 256 + upper = omega arith in
     rw (whole, first, rest, le-above width (a / 256) b)
 
+-- the four lowest bytes of a number are those of its remainder
 pub le-four : (n : ℕ) → le 4 (n % 4294967296) ≡ le 4 n
 le-four n = sym (le-above 4 (n % 4294967296) (n / 4294967296)) ∙ ap (le 4) (mod-add-div n 4294967296)

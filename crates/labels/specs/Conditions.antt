@@ -10,6 +10,8 @@ use Rattle.awhile.specs.Nodes.{sortOf}
 use Rattle.awhile.specs.Tables.{Table}
 use Rattle.awhile.specs.Trees.{rootOf}
 use Rattle.awhile.specs.declared.Labelling.{Labelling}
+use Rattle.awhile.specs.declared.Node.{Node}
+use Rattle.awhile.specs.declared.Node.the-variants.{Sequence, If, While}
 use Rattle.awhile.specs.declared.Sort.{Sort}
 use Rattle.awhile.specs.declared.Sort.the-variants.{Truth, Command}
 use Rattle.labels.specs.Labellings.{labelOfB}
@@ -44,6 +46,12 @@ pub record Analysed (c : Com ℕ) (x : Bool) (l : Labelling) (vs arrs ws brrs : 
   pub notes : Noted ws brrs (annotate c x l)
   pub outside : Outside c vs arrs ws brrs
   pub fit : (p : ℕ) → getD brrs p 0 < 131072
+
+-- a node that is no command with command parts
+pub record Single (node : Node) : Type 0 where
+  pub noSequence : (c d : ℕ) → node ≡ Sequence c d → ⊥
+  pub noIf : (b c d : ℕ) → node ≡ If b c d → ⊥
+  pub noWhile : (b c : ℕ) → node ≡ While b c → ⊥
 
 -- what settling a loop requires, from its condition and its body
 pub record Settleable (table index vs arrs : List ℕ) (condition body : ℕ) (x : Bool) (l : Labelling) : Type 0 where

@@ -57,14 +57,13 @@ fn put_sequence(out: &mut [u8], at: usize, n: usize, masks: Labelling) -> usize
     12
 }
 
-// 130, an if, and 133, a write: the label of the condition or the index.
-fn put_labelled(out: &mut [u8], at: usize, kind: usize, n: usize, secret: bool) -> usize
+// A record with a label: 130, an if, and 133, a write, whole; of 131, a while, and 132, a read, the first label.
+fn put_labelled(out: &mut [u8], at: usize, size: usize, kind: usize, n: usize, secret: bool)
     requires { ⌜ at + 8 ≤ length (now out) ⌝ }
-    ensures { λ r. ⌜ (now (out .exit) ≡ sets (now (out .entry)) at (le 2 8 ++ (le 2 kind ++ (le 2 n ++ labelBytes secret)))) × (r ≡ 8) ⌝ }
+    ensures { λ _. ⌜ now (out .exit) ≡ sets (now (out .entry)) at (le 2 size ++ (le 2 kind ++ (le 2 n ++ labelBytes secret))) ⌝ }
 {
-    put_head(&mut *out, at, 8, kind, n);
+    put_head(&mut *out, at, size, kind, n);
     put_label(&mut *out, at + 6, secret);
-    8
 }
 
 // 131, a while: the label of its condition and the settled masks.
@@ -72,8 +71,7 @@ fn put_loop(out: &mut [u8], at: usize, n: usize, secret: bool, masks: Labelling)
     requires { ⌜ at + 14 ≤ length (now out) ⌝ }
     ensures { λ r. ⌜ (now (out .exit) ≡ sets (now (out .entry)) at (le 2 14 ++ (le 2 131 ++ (le 2 n ++ (labelBytes secret ++ masksBytes masks))))) × (r ≡ 14) ⌝ }
 {
-    put_head(&mut *out, at, 14, 131, n);
-    put_label(&mut *out, at + 6, secret);
+    put_labelled(&mut *out, at, 14, 131, n, secret);
     put_masks(&mut *out, at + 8, masks);
     14
 }
@@ -83,8 +81,7 @@ fn put_read(out: &mut [u8], at: usize, n: usize, variable: bool, index: bool) ->
     requires { ⌜ at + 10 ≤ length (now out) ⌝ }
     ensures { λ r. ⌜ (now (out .exit) ≡ sets (now (out .entry)) at (le 2 10 ++ (le 2 132 ++ (le 2 n ++ (labelBytes variable ++ labelBytes index))))) × (r ≡ 10) ⌝ }
 {
-    put_head(&mut *out, at, 10, 132, n);
-    put_label(&mut *out, at + 6, variable);
+    put_labelled(&mut *out, at, 10, 132, n, variable);
     put_label(&mut *out, at + 8, index);
     10
 }
@@ -165,7 +162,8 @@ fn put_record(
         } => {
             let labels = noted_labelling(variables, arrays, n);
             let secret = truth_label(table, index, labels, condition);
-            put_labelled(&mut *out, at, 130, n, secret)
+            put_labelled(&mut *out, at, 8, 130, n, secret);
+            8
         }
         Node::While { condition, body } => {
             // the condition is labelled by the settled masks, which enter the body
@@ -191,7 +189,8 @@ fn put_record(
         } => {
             let labels = noted_labelling(variables, arrays, n);
             let secret = numeric_label(table, index, labels, cell);
-            put_labelled(&mut *out, at, 133, n, secret)
+            put_labelled(&mut *out, at, 8, 133, n, secret);
+            8
         }
         // expressions, skips and assignments have no record
         _ => 0,

@@ -1,7 +1,7 @@
--- `put_labelled` stores a record.
+-- `put_labelled` stores three fields and a label.
+use Prim.Native.Nat.{_+_}
 use mathlib.Core.Path.{refl}
 use mathlib.Core.List.{_++_}
-use Prim.Native.Nat.{_+_}
 use denote.Ref.{now}
 use Rattle.bytes_le.specs.Numbers.{le}
 use Rattle.labels.specs.Sheet.{labelBytes}
@@ -26,7 +26,8 @@ returns : tie.Need-returns
 unfolding le
 returns c =
     let args = c .before .before .before .before .before .before .before .before .before .args in
-    (stored-then (le 2 8 ++ (le 2 (args .kind) ++ le 2 (args .n))) (labelBytes (args .secret)) (now (args .out)) (args .at) (args .at + 6) refl (c .before .before .before .before .before .before .put-head .ensures) (c .before .before .put-label .ensures), refl)
+    stored-then (le 2 (args .size) ++ (le 2 (args .kind) ++ le 2 (args .n))) (labelBytes (args .secret)) (now (args .out)) (args .at) (args .at + 6) refl
+    (c .before .before .before .before .before .before .put-head .ensures) (c .before .before .put-label .ensures)
 
 pub put-labelled-spec : {M : Type 1} → statement M
 put-labelled-spec =

@@ -1,24 +1,17 @@
--- `put_loop` stores a record.
+-- `put_loop` stores a label and the masks behind it.
+use Prim.Native.Nat.{_+_}
 use mathlib.Core.Path.{refl}
 use mathlib.Core.List.{_++_}
-use Prim.Native.Nat.{_+_}
 use denote.Ref.{now}
 use Rattle.bytes_le.specs.Numbers.{le}
 use Rattle.labels.specs.Sheet.{masksBytes, labelBytes}
 use Rattle.labels.proofs.Stored.{stored-then}
-use native.Mathlib.Omega.{arith}
 use borrow.Author.Needs.{needs}
 use Rattle.labels.proofs.sheet.put_loop.Statement.{statement}
 use Rattle.labels.proofs.sheet.put_loop.Tie as tie
 
-put-head-requires : tie.Need-put-head-requires
-put-head-requires c κs = search needs
-
-add-put-label : tie.Need-add-put-label
-add-put-label c = search needs
-
-put-label-requires : tie.Need-put-label-requires
-put-label-requires c κs = search needs
+put-labelled-requires : tie.Need-put-labelled-requires
+put-labelled-requires c κs = search needs
 
 add-put-masks : tie.Need-add-put-masks
 add-put-masks c = search needs
@@ -32,21 +25,12 @@ same-length c = search needs
 returns : tie.Need-returns
 unfolding le labelBytes
 returns c =
-    let args = c .before .before .before .before .before .before .before .before .before .before .before .before .before .args in
-    let head = c .before .before .before .before .before .before .before .before .before .before .put-head .last .0 in (
-      stored-then (le 2 14 ++ (le 2 131 ++ le 2 (args .n))) (labelBytes (args .secret) ++ masksBytes (args .masks)) (now (args .out)) (args .at) (args .at + 6) refl (c .before .before .before .before .before .before .before .before .before .before .put-head .ensures)
-          (stored-then (labelBytes (args .secret)) (masksBytes (args .masks)) head (args .at + 6) (args .at + 8) (omega arith) (c .before .before .before .before .before .before .put-label .ensures) (c .before .before .put-masks .ensures)),
+    let args = c .before .before .before .before .before .before .before .before .before .args in (
+      stored-then (le 2 14 ++ (le 2 131 ++ (le 2 (args .n) ++ labelBytes (args .secret)))) (masksBytes (args .masks)) (now (args .out)) (args .at) (args .at + 8) refl
+          (c .before .before .before .before .before .before .put-labelled .ensures) (c .before .before .put-masks .ensures),
       refl,
     )
 
 pub put-loop-spec : {M : Type 1} → statement M
 put-loop-spec =
-    tie.close
-    (tie.spec
-    put-head-requires
-    add-put-label
-    put-label-requires
-    add-put-masks
-    put-masks-requires
-    same-length
-    returns)
+    tie.close (tie.spec put-labelled-requires add-put-masks put-masks-requires same-length returns)

@@ -1,5 +1,8 @@
 -- `put_record` stores the record of a node by its kind.
-use mathlib.Core.Path.{_≡_, sym, ap, ap₂, _∙_}
+use denote.Enum.Declared.{tagOf}
+use types.Run.{OneOf}
+use Rattle.awhile.proofs.Node.{the-type}
+use mathlib.Core.Path.{refl, subst, _≡_, sym, ap, ap₂, _∙_}
 use mathlib.Core.List.{List, _++_}
 use native.Mathlib.Omega.{arith}
 use Prim.Native.Nat.{ℕ, _<_}
@@ -10,47 +13,51 @@ use Rattle.bytes_le.proofs.Numbers.{Below, slice-bytes}
 use Rattle.awhile.specs.Index.{tableOf, nodesIn, truthIn, numericIn}
 use Rattle.awhile.specs.declared.Node.{Node}
 use Rattle.awhile.specs.declared.Node.the-variants.{Sequence, If, While, Read, Write}
-use Rattle.awhile.proofs.Index.{Parts, indexed-parts}
+use Rattle.awhile.proofs.Index.{Parts}
 use Rattle.labels.specs.Labellings.{labelOfA, labelOfB}
 use Rattle.labels.specs.Analysis.{readLabel}
 use Rattle.labels.specs.Notes.{noteIn}
 use Rattle.labels.specs.Sheet.{masksBytes, labelBytes, recordOf, annotated}
 use Rattle.labels.proofs.ExpressionLabels.{child-of-sort}
+use Rattle.labels.proofs.Nodes.{node-parts}
 use Rattle.labels.proofs.SheetLengths.{record-stored, nothing-stored}
-use Rattle.labels.proofs.SheetNodes.{record-length, unrecorded, sequence-record, if-record, while-record, read-record, write-record}
+use Rattle.labels.proofs.SheetNodes.{unnamedRecord, record-length, unrecorded, sequence-record, if-record, while-record, read-record, write-record}
 use borrow.Author.Needs.{needs}
 use Rattle.labels.proofs.sheet.put_record.Statement.{statement}
 use Rattle.labels.proofs.sheet.put_record.Tie as tie
 
 module _ (d : tie.After-node-at) where
-  bytes : Below 256 (now (d .before .before .before .before .before .before .args .table))
-  bytes = slice-bytes (now (d .before .before .before .before .before .before .args .table)) (d .before .before .before .before .before .shared-slice-known .given)
+  abbrev start : tie.Start
+  start = d .before .before .before .before .before .before
+
+  bytes : Below 256 (now (start .args .table))
+  bytes = slice-bytes (now (start .args .table)) (d .before .before .before .before .before .shared-slice-known .given)
 
   abbrev the-record : List ℕ
-  the-record = recordOf (annotated (tableOf (now (d .before .before .before .before .before .before .args .table)))) (d .before .before .before .before .before .before .args .n)
+  the-record = recordOf (annotated (tableOf (now (start .args .table)))) (start .args .n)
 
-  parts : (m : Node) → d .node-at .result ≡ m → Parts (now (d .before .before .before .before .before .before .args .table)) (d .before .before .before .before .before .before .args .n) m
-  parts m e = indexed-parts (now (d .before .before .before .before .before .before .args .table)) (now (d .before .before .before .before .before .before .args .index)) bytes (d .before .before .before .before .before .before .pre .0 .indexed) (d .before .before .before .before .before .before .args .n) (d .before .before .before .before .before .before .pre .1) m (sym (d .node-at .ensures) ∙ e)
+  parts : (m : Node) → d .node-at .result ≡ m → Parts (now (start .args .table)) (start .args .n) m
+  parts = node-parts bytes (start .pre .0 .indexed) (start .pre .1) (d .node-at .ensures)
 
-  noted : (k : ℕ) → k < nodesIn (now (d .before .before .before .before .before .before .args .table)) → (k < length (now (d .before .before .before .before .before .before .args .variables))) × (k < length (now (d .before .before .before .before .before .before .args .arrays))) × (getD (now (d .before .before .before .before .before .before .args .arrays)) k 0 < 131072)
+  noted : (k : ℕ) → k < nodesIn (now (start .args .table)) → (k < length (now (start .args .variables))) × (k < length (now (start .args .arrays))) × (getD (now (start .args .arrays)) k 0 < 131072)
   noted k h =
-      let room = d .before .before .before .before .before .before .pre .0 .room in
+      let room = start .pre .0 .room in
       (omega (arith, room .variables), omega (arith, room .arrays), room .fit k)
 
-  sequence-law : {c f : ℕ} → d .node-at .result ≡ Sequence c f → the-record ≡ le 2 12 ++ (le 2 129 ++ (le 2 (d .before .before .before .before .before .before .args .n) ++ masksBytes (noteIn (now (d .before .before .before .before .before .before .args .variables)) (now (d .before .before .before .before .before .before .args .arrays)) f .labelling)))
-  sequence-law e = sequence-record (now (d .before .before .before .before .before .before .args .table)) (now (d .before .before .before .before .before .before .args .index)) bytes (d .before .before .before .before .before .before .pre .0 .indexed) (now (d .before .before .before .before .before .before .args .variables)) (now (d .before .before .before .before .before .before .args .arrays)) (d .before .before .before .before .before .before .pre .0 .notes) (d .before .before .before .before .before .before .args .n) (d .before .before .before .before .before .before .pre .1) (sym (d .node-at .ensures) ∙ e)
+  sequence-law : {c f : ℕ} → d .node-at .result ≡ Sequence c f → the-record ≡ le 2 12 ++ (le 2 129 ++ (le 2 (start .args .n) ++ masksBytes (noteIn (now (start .args .variables)) (now (start .args .arrays)) f .labelling)))
+  sequence-law e = sequence-record (now (start .args .table)) (now (start .args .index)) bytes (start .pre .0 .indexed) (now (start .args .variables)) (now (start .args .arrays)) (start .pre .0 .notes) (start .args .n) (start .pre .1) (sym (d .node-at .ensures) ∙ e)
 
-  if-law : {b c f : ℕ} → d .node-at .result ≡ If b c f → the-record ≡ le 2 8 ++ (le 2 130 ++ (le 2 (d .before .before .before .before .before .before .args .n) ++ labelBytes (labelOfB (noteIn (now (d .before .before .before .before .before .before .args .variables)) (now (d .before .before .before .before .before .before .args .arrays)) (d .before .before .before .before .before .before .args .n) .labelling) (truthIn (now (d .before .before .before .before .before .before .args .table)) b))))
-  if-law e = if-record (now (d .before .before .before .before .before .before .args .table)) (now (d .before .before .before .before .before .before .args .index)) bytes (d .before .before .before .before .before .before .pre .0 .indexed) (now (d .before .before .before .before .before .before .args .variables)) (now (d .before .before .before .before .before .before .args .arrays)) (d .before .before .before .before .before .before .pre .0 .notes) (d .before .before .before .before .before .before .args .n) (d .before .before .before .before .before .before .pre .1) (sym (d .node-at .ensures) ∙ e)
+  if-law : {b c f : ℕ} → d .node-at .result ≡ If b c f → the-record ≡ le 2 8 ++ (le 2 130 ++ (le 2 (start .args .n) ++ labelBytes (labelOfB (noteIn (now (start .args .variables)) (now (start .args .arrays)) (start .args .n) .labelling) (truthIn (now (start .args .table)) b))))
+  if-law e = if-record (now (start .args .table)) (now (start .args .index)) bytes (start .pre .0 .indexed) (now (start .args .variables)) (now (start .args .arrays)) (start .pre .0 .notes) (start .args .n) (start .pre .1) (sym (d .node-at .ensures) ∙ e)
 
-  while-law : {b c : ℕ} → d .node-at .result ≡ While b c → the-record ≡ le 2 14 ++ (le 2 131 ++ (le 2 (d .before .before .before .before .before .before .args .n) ++ (labelBytes (labelOfB (noteIn (now (d .before .before .before .before .before .before .args .variables)) (now (d .before .before .before .before .before .before .args .arrays)) c .labelling) (truthIn (now (d .before .before .before .before .before .before .args .table)) b)) ++ masksBytes (noteIn (now (d .before .before .before .before .before .before .args .variables)) (now (d .before .before .before .before .before .before .args .arrays)) c .labelling))))
-  while-law e = while-record (now (d .before .before .before .before .before .before .args .table)) (now (d .before .before .before .before .before .before .args .index)) bytes (d .before .before .before .before .before .before .pre .0 .indexed) (now (d .before .before .before .before .before .before .args .variables)) (now (d .before .before .before .before .before .before .args .arrays)) (d .before .before .before .before .before .before .pre .0 .notes) (d .before .before .before .before .before .before .args .n) (d .before .before .before .before .before .before .pre .1) (sym (d .node-at .ensures) ∙ e)
+  while-law : {b c : ℕ} → d .node-at .result ≡ While b c → the-record ≡ le 2 14 ++ (le 2 131 ++ (le 2 (start .args .n) ++ (labelBytes (labelOfB (noteIn (now (start .args .variables)) (now (start .args .arrays)) c .labelling) (truthIn (now (start .args .table)) b)) ++ masksBytes (noteIn (now (start .args .variables)) (now (start .args .arrays)) c .labelling))))
+  while-law e = while-record (now (start .args .table)) (now (start .args .index)) bytes (start .pre .0 .indexed) (now (start .args .variables)) (now (start .args .arrays)) (start .pre .0 .notes) (start .args .n) (start .pre .1) (sym (d .node-at .ensures) ∙ e)
 
-  read-law : {v a i : ℕ} → d .node-at .result ≡ Read v a i → the-record ≡ le 2 10 ++ (le 2 132 ++ (le 2 (d .before .before .before .before .before .before .args .n) ++ (labelBytes (readLabel (noteIn (now (d .before .before .before .before .before .before .args .variables)) (now (d .before .before .before .before .before .before .args .arrays)) (d .before .before .before .before .before .before .args .n) .labelling) (noteIn (now (d .before .before .before .before .before .before .args .variables)) (now (d .before .before .before .before .before .before .args .arrays)) (d .before .before .before .before .before .before .args .n) .context) a (numericIn (now (d .before .before .before .before .before .before .args .table)) i)) ++ labelBytes (labelOfA (noteIn (now (d .before .before .before .before .before .before .args .variables)) (now (d .before .before .before .before .before .before .args .arrays)) (d .before .before .before .before .before .before .args .n) .labelling) (numericIn (now (d .before .before .before .before .before .before .args .table)) i)))))
-  read-law e = read-record (now (d .before .before .before .before .before .before .args .table)) (now (d .before .before .before .before .before .before .args .index)) bytes (d .before .before .before .before .before .before .pre .0 .indexed) (now (d .before .before .before .before .before .before .args .variables)) (now (d .before .before .before .before .before .before .args .arrays)) (d .before .before .before .before .before .before .pre .0 .notes) (d .before .before .before .before .before .before .args .n) (d .before .before .before .before .before .before .pre .1) (sym (d .node-at .ensures) ∙ e)
+  read-law : {v a i : ℕ} → d .node-at .result ≡ Read v a i → the-record ≡ le 2 10 ++ (le 2 132 ++ (le 2 (start .args .n) ++ (labelBytes (readLabel (noteIn (now (start .args .variables)) (now (start .args .arrays)) (start .args .n) .labelling) (noteIn (now (start .args .variables)) (now (start .args .arrays)) (start .args .n) .context) a (numericIn (now (start .args .table)) i)) ++ labelBytes (labelOfA (noteIn (now (start .args .variables)) (now (start .args .arrays)) (start .args .n) .labelling) (numericIn (now (start .args .table)) i)))))
+  read-law e = read-record (now (start .args .table)) (now (start .args .index)) bytes (start .pre .0 .indexed) (now (start .args .variables)) (now (start .args .arrays)) (start .pre .0 .notes) (start .args .n) (start .pre .1) (sym (d .node-at .ensures) ∙ e)
 
-  write-law : {a i v : ℕ} → d .node-at .result ≡ Write a i v → the-record ≡ le 2 8 ++ (le 2 133 ++ (le 2 (d .before .before .before .before .before .before .args .n) ++ labelBytes (labelOfA (noteIn (now (d .before .before .before .before .before .before .args .variables)) (now (d .before .before .before .before .before .before .args .arrays)) (d .before .before .before .before .before .before .args .n) .labelling) (numericIn (now (d .before .before .before .before .before .before .args .table)) i))))
-  write-law e = write-record (now (d .before .before .before .before .before .before .args .table)) (now (d .before .before .before .before .before .before .args .index)) bytes (d .before .before .before .before .before .before .pre .0 .indexed) (now (d .before .before .before .before .before .before .args .variables)) (now (d .before .before .before .before .before .before .args .arrays)) (d .before .before .before .before .before .before .pre .0 .notes) (d .before .before .before .before .before .before .args .n) (d .before .before .before .before .before .before .pre .1) (sym (d .node-at .ensures) ∙ e)
+  write-law : {a i v : ℕ} → d .node-at .result ≡ Write a i v → the-record ≡ le 2 8 ++ (le 2 133 ++ (le 2 (start .args .n) ++ labelBytes (labelOfA (noteIn (now (start .args .variables)) (now (start .args .arrays)) (start .args .n) .labelling) (numericIn (now (start .args .table)) i))))
+  write-law e = write-record (now (start .args .table)) (now (start .args .index)) bytes (start .pre .0 .indexed) (now (start .args .variables)) (now (start .args .arrays)) (start .pre .0 .notes) (start .args .n) (start .pre .1) (sym (d .node-at .ensures) ∙ e)
 
 node-at-requires : tie.Need-node-at-requires
 node-at-requires c κs = search needs
@@ -162,7 +169,7 @@ returns-2 c =
     let labels = c .before .before .before .before .before .noted-labelling2 .ensures in
     record-stored (now (c .before .before .before .before .before .before .before .before .before .before .before .before .before .before .before .args .out)) (c .before .before .before .before .before .before .before .before .before .before .before .before .before .before .before .args .at)
     (if-law (c .before .before .before .before .before .before .before .before .before) (c .before .before .before .before .before .before .before .node2 .given .1) ∙ ap (λ b. le 2 8 ++ (le 2 130 ++ (le 2 (c .before .before .before .before .before .before .before .before .before .before .before .before .before .before .before .args .n) ++ labelBytes b)))
-    (sym (c .before .before .before .before .truth-label .ensures ∙ ap (λ l. labelOfB l (truthIn (now (c .before .before .before .before .before .before .before .before .before .before .before .before .before .before .before .args .table)) (c .before .before .before .before .before .before .before .node2 .given .0 .0))) labels))) (c .before .before .put-labelled .ensures)
+    (sym (c .before .before .before .before .truth-label .ensures ∙ ap (λ l. labelOfB l (truthIn (now (c .before .before .before .before .before .before .before .before .before .before .before .before .before .before .before .args .table)) (c .before .before .before .before .before .before .before .node2 .given .0 .0))) labels))) (c .before .before .put-labelled .ensures, refl)
 
 same-length-3 : tie.Need-same-length-3
 same-length-3 c = search needs
@@ -196,14 +203,15 @@ returns-5 c =
     let labels = c .before .before .before .before .before .noted-labelling5 .ensures in
     record-stored (now (c .before .before .before .before .before .before .before .before .before .before .before .before .before .before .before .args .out)) (c .before .before .before .before .before .before .before .before .before .before .before .before .before .before .before .args .at)
     (write-law (c .before .before .before .before .before .before .before .before .before) (c .before .before .before .before .before .before .before .node5 .given .1) ∙ ap (λ b. le 2 8 ++ (le 2 133 ++ (le 2 (c .before .before .before .before .before .before .before .before .before .before .before .before .before .before .before .args .n) ++ labelBytes b)))
-    (sym (c .before .before .before .before .numeric-label2 .ensures ∙ ap (λ l. labelOfA l (numericIn (now (c .before .before .before .before .before .before .before .before .before .before .before .before .before .before .before .args .table)) (c .before .before .before .before .before .before .before .node5 .given .0 .1 .0))) labels))) (c .before .before .put-labelled2 .ensures)
+    (sym (c .before .before .before .before .numeric-label2 .ensures ∙ ap (λ l. labelOfA l (numericIn (now (c .before .before .before .before .before .before .before .before .before .before .before .before .before .before .before .args .table)) (c .before .before .before .before .before .before .before .node5 .given .0 .1 .0))) labels))) (c .before .before .put-labelled2 .ensures, refl)
 
 returns-6 : tie.Need-returns-6
 returns-6 c =
     let start = c .before .before .before .before .before .before .before in
     let table = now (start .args .table) in
     nothing-stored (now (start .args .out)) (the-record (c .before)) (start .args .at)
-    (unrecorded table (now (start .args .index)) (bytes (c .before)) (start .pre .0 .indexed) (start .args .n) (start .pre .1) (c .before .node-at .result) (c .match .keys6) (sym (c .before .node-at .ensures))
+    (unrecorded table (now (start .args .index)) (bytes (c .before)) (start .pre .0 .indexed) (start .args .n) (start .pre .1)
+    (subst (λ m. OneOf unnamedRecord (tagOf the-type m)) (c .before .node-at .ensures) (c .match .keys6))
     ∙ sym (record-length table (now (start .args .index)) (bytes (c .before)) (start .pre .0 .indexed) (start .args .n) (start .pre .1)))
 
 pub put-record-spec : {M : Type 1} → statement M

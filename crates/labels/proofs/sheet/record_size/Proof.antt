@@ -1,22 +1,24 @@
 -- `record_size` goes by the kind of a node.
-use mathlib.Core.Path.{_≡_, sym, ap, _∙_}
+use mathlib.Core.Path.{subst, _≡_, sym, ap}
 use native.Mathlib.Omega.{arith}
 use denote.Ref.{now}
 use Rattle.bytes_le.proofs.Numbers.{slice-bytes}
 use Rattle.awhile.specs.declared.Node.{Node}
-use Rattle.awhile.proofs.Index.{Parts, indexed-parts}
+use denote.Enum.Declared.{tagOf}
+use types.Run.{OneOf}
+use Rattle.awhile.proofs.Node.{the-type}
+use Rattle.awhile.proofs.Index.{Parts}
+use Rattle.labels.proofs.Nodes.{node-parts}
 use Rattle.labels.specs.Sheet.{recordLength}
-use Rattle.labels.proofs.SheetNodes.{unrecorded}
+use Rattle.labels.proofs.SheetNodes.{unnamedRecord, unrecorded}
 use borrow.Author.Needs.{needs}
 use Rattle.labels.proofs.sheet.record_size.Statement.{statement}
 use Rattle.labels.proofs.sheet.record_size.Tie as tie
 
 parts : (d : tie.After-node-at) (m : Node) → d .node-at .result ≡ m → Parts (now (d .before .before .before .args .table)) (d .before .before .before .args .n) m
-parts d m e =
+parts d =
     let start = d .before .before .before in
-    let table = now (start .args .table) in
-    indexed-parts table (now (start .args .index)) (slice-bytes table (d .before .before .shared-slice-known .given)) (start .pre .0) (start .args .n) (start .pre .1) m
-    (sym (d .node-at .ensures) ∙ e)
+    node-parts (slice-bytes (now (start .args .table)) (d .before .before .shared-slice-known .given)) (start .pre .0) (start .pre .1) (d .node-at .ensures)
 
 node-at-requires : tie.Need-node-at-requires
 node-at-requires c κs = search needs
@@ -66,7 +68,7 @@ returns-6 c =
     let start = c .before .before .before .before in
     let table = now (start .args .table) in (
       unrecorded table (now (start .args .index)) (slice-bytes table (c .before .before .before .shared-slice-known .given)) (start .pre .0) (start .args .n) (start .pre .1)
-          (c .before .node-at .result) (c .match .keys6) (sym (c .before .node-at .ensures)),
+          (subst (λ m. OneOf unnamedRecord (tagOf the-type m)) (c .before .node-at .ensures) (c .match .keys6)),
       omega arith,
     )
 
