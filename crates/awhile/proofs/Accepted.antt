@@ -36,19 +36,19 @@ module _ {A : Type 0} (r : Refusal) where
   check-test true a x e = refl
   check-test false a x e = cc
 
-  check-rest : (b : Bool) (a : Answer A) (x : A) → check b r a ≡ got x → a ≡ got x
+  pub check-rest : (b : Bool) (a : Answer A) (x : A) → check b r a ≡ got x → a ≡ got x
   unfolding check
   check-rest true a x e = e
   check-rest false a x e = cc
 
-got-same : {A : Type 0} (x y : A) → _≡_ {A = Answer A} (got x) (got y) → x ≡ y
+pub got-same : {A : Type 0} (x y : A) → _≡_ {A = Answer A} (got x) (got y) → x ≡ y
 got-same x y e = cc
 
 refused-got : {A : Type 0} (r : Refusal) (x : A) → _≡_ {A = Answer A} (refused r) (got x) → ⊥
 refused-got r x e = let z : _≡_ {A = ℕ} 0 1 = cc in omega arith
 
 -- what is gone on with was got
-then-got : {A B : Type 0} (Q : Type 0) (a : Answer A) (f : A → Answer B) (y : B) → andThen a f ≡ got y → ((x : A) → a ≡ got x → f x ≡ got y → Q) → Q
+pub then-got : {A B : Type 0} (Q : Type 0) (a : Answer A) (f : A → Answer B) (y : B) → andThen a f ≡ got y → ((x : A) → a ≡ got x → f x ≡ got y → Q) → Q
 unfolding andThen
 then-got Q (refused r) f y e next = absurd (refused-got r y e)
 then-got Q (got x) f y e next = next x refl e
@@ -60,7 +60,7 @@ record Passed (s : List ℕ) (at wanted : ℕ) : Type 0 where
   inside : at + wanted ≤ length s
 
 module _ {A : Type 0} (s : List ℕ) (at wanted : ℕ) (rest : Answer A) (x : A) where
-  framed-rest : framed s at wanted rest ≡ got x → rest ≡ got x
+  pub framed-rest : framed s at wanted rest ≡ got x → rest ≡ got x
   unfolding framed
   framed-rest e =
       let first = check-rest _ (leb (at + 4) (length s)) _ x e in
@@ -145,6 +145,7 @@ module _ (s : List ℕ) where
         nodesFit = leb-true nodes maxNodes (and-second four (leb nodes maxNodes) test);
       })
 
+  -- a header that was read is within the limits
   pub header-fits : (h : Header) → readHeader s ≡ got h → HeaderFits h
   unfolding readHeader
   header-fits h e = header-test h (leAt 2 s 4) (leAt 1 s 6) (leAt 1 s 7) (leAt 2 s 8) (framed-rest s 0 (lengthOfKind 1 headerSize s 0) _ h e)
@@ -188,15 +189,15 @@ module _ (s : List ℕ) where
       })
 
   -- the counts read after others: so many, each positive, within the sum
-  record CountsFit (left : ℕ) (before counts : List ℕ) : Type 0 where
-    more : List ℕ
-    whole : counts ≡ before ++ more
-    counted : length more ≡ left
+  pub record CountsFit (left : ℕ) (before counts : List ℕ) : Type 0 where
+    pub more : List ℕ
+    pub whole : counts ≡ before ++ more
+    pub counted : length more ≡ left
     positive : (i : ℕ) → i < length more → 0 < getD more i 0
     total : sum before + sum more ≤ maxCells
 
   -- the loop has read the next one
-  counts-first : (Q : Type 0) (left at : ℕ) (before counts : List ℕ) → readCounts (suc left) s at before ≡ got counts
+  pub counts-first : (Q : Type 0) (left at : ℕ) (before counts : List ℕ) → readCounts (suc left) s at before ≡ got counts
       → ((n : ℕ) → readCount s at (sum before) ≡ got n → readCounts left s (at + arraySize) (before ++ (n ∷ [])) ≡ got counts → Q) → Q
   counts-first Q left at before counts e next = go (readCount s at (sum before)) refl
     where
@@ -219,7 +220,7 @@ module _ (s : List ℕ) where
       positive zero inside = first .positive
       positive (suc i) inside = rest .positive i (omega arith)
 
-  counts-fit : (left at : ℕ) (before counts : List ℕ) → sum before ≤ maxCells → readCounts left s at before ≡ got counts → CountsFit left before counts
+  pub counts-fit : (left at : ℕ) (before counts : List ℕ) → sum before ≤ maxCells → readCounts left s at before ≡ got counts → CountsFit left before counts
   unfolding readCounts sum
   counts-fit zero at before counts small e =
       record {
@@ -239,9 +240,9 @@ module _ (s : List ℕ) where
   -- ---- the nodes
   module _ (bytes : Below 256 s) (h : Header) where
     -- a node that was read fits, and its record stands there
-    record NodeRead (at : ℕ) (before : List Node) (n : Node) : Type 0 where
-      fits : NodeFits (h .variables) (h .arrays) before n
-      there : NodeAt s at n
+    pub record NodeRead (at : ℕ) (before : List Node) (n : Node) : Type 0 where
+      pub fits : NodeFits (h .variables) (h .arrays) before n
+      pub there : NodeAt s at n
 
     known-read : (at : ℕ) (before : List Node) (m n : Node) → decodeAt s at ≡ Known m
         → framed s at (sizeOf m) (check (inRange (h .variables) (h .arrays) (length before) m) (OutOfRange at) (check (sorted before m) (WrongSort at) (got m))) ≡ got n
@@ -265,7 +266,7 @@ module _ (s : List ℕ) where
           there = record { isLength = passed .isLength; decoded = d; inside = passed .inside };
         })
 
-    node-read : (at : ℕ) (before : List Node) (n : Node) → readNode h s at before ≡ got n → NodeRead at before n
+    pub node-read : (at : ℕ) (before : List Node) (n : Node) → readNode h s at before ≡ got n → NodeRead at before n
     node-read at before n e = go (decodeAt s at) refl
       where
         go : (d : Decoded) → decodeAt s at ≡ d → NodeRead at before n

@@ -18,9 +18,19 @@ use Rattle.awhile.proofs.Lists.{and-both, and-first, and-second, sum-ap
 use Rattle.awhile.specs.declared.Sort.the-variants.{Command}
 use Rattle.awhile.specs.declared.Node.{Node}
 use Rattle.awhile.specs.declared.Node.the-variants.{Skip}
+use Rattle.awhile.specs.declared.Decoded.{Decoded}
 use Rattle.awhile.specs.declared.Decoded.the-variants.{Known, Unknown}
 use Rattle.awhile.specs.declared.Refusal.{Refusal}
 use Rattle.awhile.specs.declared.Refusal.the-variants.{OutOfRange, WrongSort}
+
+-- ---- what was decoded
+-- one record is one node
+pub decoded-same : (d : Decoded) (m n : Node) → d ≡ Known m → d ≡ Known n → m ≡ n
+decoded-same d m n p q = cc
+
+-- and not no node
+pub decoded-apart : (d : Decoded) (n : Node) → d ≡ Unknown → d ≡ Known n → ⊥
+decoded-apart d n p q = let z : _≡_ {A = ℕ} 0 1 = cc in omega arith
 
 module _ (s : List ℕ) (at : ℕ) where
   -- ---- array records

@@ -3,22 +3,21 @@ use Prim.Native.Nat.{ℕ, suc, _+_, _-_, _*_, _/_, _^_, _≤_, _<_}
 use native.Mathlib.Nat.{one-le-pow, div-eq-of-lt, le-div-iff-mul-le, one-mul}
 use native.Mathlib.Omega.{arith}
 use mathlib.Core.Bool.{Bool, true, false, _&&_}
-use mathlib.Core.Path.{_≡_, refl, sym, ap, _∙_}
+use mathlib.Core.Path.{_≡_, refl, ap, _∙_}
 use mathlib.Core.List.{List, [], _∷_, _++_}
-use lib.ListN.{length}
 use lib.Dec.{eqb, ltb, leb}
-use borrow.Author.Tests.{ltb-true, ltb-false, eq-eqb, ne-eqb, leb-true}
+use borrow.Author.Tests.{ltb-true, ltb-false, eq-eqb, ne-eqb}
 use Rattle.bytes_le.specs.Numbers.{leAt}
 use Rattle.awhile.specs.Lists.{sum}
 use Rattle.awhile.specs.Refusals.{Answer, refused, got, check}
 use Rattle.awhile.specs.Tables.{Header, maxVariables, maxArrays, maxNodes, maxCells, headerSize, labelsSize, arraySize}
 use Rattle.awhile.specs.Tables.{framed, lengthOfKind, readHeader, readLabels, readCount, readCounts}
-use Rattle.awhile.specs.Reader.{framedAs, countAs, cellsAs}
+use Rattle.awhile.specs.Reader.{checkedAs, countAs, cellsAs}
 use Rattle.awhile.proofs.Lists.{sum-append}
 use Rattle.awhile.proofs.Cases.{counts-next, counts-refused}
 use Rattle.awhile.proofs.Accepted.{count-fits}
-use Rattle.awhile.proofs.Passing.{framed-refused, framed-whole}
-use Rattle.awhile.specs.declared.frames.Framed.the-variants.{Refused, Whole}
+use Rattle.awhile.proofs.Passing.{framed-refused, framed-passed-on}
+use Rattle.awhile.specs.declared.checks.Checked.the-variants.{Refused, Passed}
 use Rattle.awhile.specs.declared.declarations.CellsRead.the-variants.{Cells}
 use Rattle.awhile.specs.declared.declarations.CountRead.the-variants.{Refused as CountRefused, Count}
 use Rattle.awhile.specs.declared.Refusal.{Refusal}
@@ -40,6 +39,7 @@ unfolding countAs
 count-got (refused r) n e = cc
 count-got (got m) n e = cc
 
+-- a refusal that the reader hands on is the one of the record
 pub count-not-got : (a : Answer ℕ) (r : Refusal) → countAs a ≡ CountRefused r → a ≡ refused r
 unfolding countAs
 count-not-got (refused q) r e = cc
@@ -47,37 +47,40 @@ count-not-got (got m) r e = cc
 
 module _ (s : List ℕ) where
   -- ---- the header
-  pub header-refused : (r : Refusal) → framedAs (framed s 0 (lengthOfKind 1 headerSize s 0) (got tt)) ≡ Refused r → readHeader s ≡ refused r
+  pub header-refused : (r : Refusal) → checkedAs (framed s 0 (lengthOfKind 1 headerSize s 0) (got tt)) ≡ Refused r → readHeader s ≡ refused r
   unfolding readHeader
   header-refused r e = framed-refused s 0 (lengthOfKind 1 headerSize s 0) _ r e
 
-  pub header-tested : (b : Bool) → framedAs (framed s 0 (lengthOfKind 1 headerSize s 0) (got tt)) ≡ Whole
+  -- a whole header is accepted where its fields are within the limits
+  pub header-tested : (b : Bool) → checkedAs (framed s 0 (lengthOfKind 1 headerSize s 0) (got tt)) ≡ Passed
       → (eqb (leAt 2 s 4) 1 && leb (leAt 1 s 6) maxVariables && leb (leAt 1 s 7) maxArrays && ltb 0 (leAt 2 s 8) && leb (leAt 2 s 8) maxNodes) ≡ b
       → readHeader s ≡ check b (BeyondLimit 0) (got (record { variables = leAt 1 s 6; arrays = leAt 1 s 7; nodes = leAt 2 s 8 }))
   unfolding readHeader
-  header-tested b whole e = framed-whole s 0 (lengthOfKind 1 headerSize s 0) _ whole ∙ rw e
+  header-tested b whole e = framed-passed-on s 0 (lengthOfKind 1 headerSize s 0) _ whole ∙ rw e
 
   -- ---- the labels
-  pub labels-refused : (h : Header) (r : Refusal) → framedAs (framed s 10 (lengthOfKind 3 labelsSize s 10) (got tt)) ≡ Refused r → readLabels s h ≡ refused r
+  pub labels-refused : (h : Header) (r : Refusal) → checkedAs (framed s 10 (lengthOfKind 3 labelsSize s 10) (got tt)) ≡ Refused r → readLabels s h ≡ refused r
   unfolding readLabels
   labels-refused h r e = framed-refused s 10 (lengthOfKind 3 labelsSize s 10) _ r e
 
-  pub labels-tested : (h : Header) (a b : Bool) → framedAs (framed s 10 (lengthOfKind 3 labelsSize s 10) (got tt)) ≡ Whole
+  -- a whole labels record is accepted where its masks fit
+  pub labels-tested : (h : Header) (a b : Bool) → checkedAs (framed s 10 (lengthOfKind 3 labelsSize s 10) (got tt)) ≡ Passed
       → ltb (leAt 4 s 14) (2 ^ h .variables) ≡ a → ltb (leAt 2 s 18) (2 ^ h .arrays) ≡ b
       → readLabels s h ≡ check (a && b) (BeyondLimit 10) (got (record { variables = leAt 4 s 14; arrays = leAt 2 s 18 }))
   unfolding readLabels
-  labels-tested h a b whole p q = framed-whole s 10 (lengthOfKind 3 labelsSize s 10) _ whole ∙ rw (p, q)
+  labels-tested h a b whole p q = framed-passed-on s 10 (lengthOfKind 3 labelsSize s 10) _ whole ∙ rw (p, q)
 
   -- ---- the arrays
   module _ (at before : ℕ) where
-    pub count-refused : (r : Refusal) → framedAs (framed s at (lengthOfKind 2 arraySize s at) (got tt)) ≡ Refused r → readCount s at before ≡ refused r
+    pub count-refused : (r : Refusal) → checkedAs (framed s at (lengthOfKind 2 arraySize s at) (got tt)) ≡ Refused r → readCount s at before ≡ refused r
     unfolding readCount
     count-refused r e = framed-refused s at (lengthOfKind 2 arraySize s at) _ r e
 
-    pub count-tested : (n : ℕ) (a b : Bool) → framedAs (framed s at (lengthOfKind 2 arraySize s at) (got tt)) ≡ Whole → leAt 2 s (at + 4) ≡ n
+    -- a whole array record is accepted where its count is positive and the cells are not too many
+    pub count-tested : (n : ℕ) (a b : Bool) → checkedAs (framed s at (lengthOfKind 2 arraySize s at) (got tt)) ≡ Passed → leAt 2 s (at + 4) ≡ n
         → ltb 0 n ≡ a → leb (before + n) maxCells ≡ b → readCount s at before ≡ check (a && b) (BeyondLimit at) (got n)
     unfolding readCount
-    count-tested n a b whole e p q = framed-whole s at (lengthOfKind 2 arraySize s at) _ whole ∙ rw (e, p, q)
+    count-tested n a b whole e p q = framed-passed-on s at (lengthOfKind 2 arraySize s at) _ whole ∙ rw (e, p, q)
 
   -- ---- all arrays
   -- what is left to read from here is what is to be read of all arrays
@@ -88,6 +91,7 @@ module _ (s : List ℕ) where
     pub place : at + arraySize * left ≡ 20 + arraySize * arrays
     pub few : cells ≤ maxCells
 
+  -- before the first array nothing is read
   pub counts-start : (arrays : ℕ) → CountsLeft arrays arrays 20 0
   unfolding sum
   counts-start arrays = record { before = []; summed = refl; same = refl; place = refl; few = omega arith }

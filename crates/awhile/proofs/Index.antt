@@ -16,7 +16,7 @@ use Rattle.awhile.specs.Lists.{all}
 use Rattle.awhile.specs.Nodes.{Field, form, sortOf, fieldInRange, inRange, fieldSorted, sorted}
 use Rattle.awhile.specs.Nodes.{word as wordField, constant as constantField, variable as variableField, array as arrayField, child as childField}
 use Rattle.awhile.specs.Tables.{maxNodes}
-use Rattle.awhile.specs.Trees.{numeric, truth, command, asNumeric, asTruth, asCommand, treeOf, trees, rootOf}
+use Rattle.awhile.specs.Trees.{numeric, truth, command, asNumeric, asTruth, asCommand, treeOf, rootOf}
 use Rattle.awhile.specs.WellFormed.{WellFormed}
 use Rattle.awhile.specs.Index.{tableOf, nodesIn, nodeIn, treeIn, numericIn, truthIn, commandIn, Indexed}
 use Rattle.awhile.proofs.Lists.{all-head, all-tail}
@@ -155,10 +155,12 @@ module _ (table index : List ℕ) (bytes : Below 256 table) (indexed : Indexed t
   unfolding nodesIn nodeIn treeIn
   indexed-numeric n inside e = numeric-tree (treeIn table n) (tree-sort (tableOf table .nodes) n inside ∙ e)
 
+  -- a truth
   pub indexed-truth : (n : ℕ) → n < nodesIn table → sortOf (nodeIn table n) ≡ Truth → treeIn table n ≡ truth (truthIn table n)
   unfolding nodesIn nodeIn treeIn
   indexed-truth n inside e = truth-tree (treeIn table n) (tree-sort (tableOf table .nodes) n inside ∙ e)
 
+  -- a command
   pub indexed-command : (n : ℕ) → n < nodesIn table → sortOf (nodeIn table n) ≡ Command → treeIn table n ≡ command (commandIn table n)
   unfolding nodesIn nodeIn treeIn
   indexed-command n inside e = command-tree (treeIn table n) (tree-sort (tableOf table .nodes) n inside ∙ e)
@@ -173,6 +175,7 @@ module _ (table index : List ℕ) (bytes : Below 256 table) (indexed : Indexed t
   unfolding nodesIn
   indexed-some = indexed-well-formed .hasNodes
 
+  -- no more than the limit
   pub indexed-few : nodesIn table ≤ maxNodes
   unfolding nodesIn
   indexed-few = indexed-well-formed .nodesFit
@@ -182,6 +185,7 @@ module _ (table index : List ℕ) (bytes : Below 256 table) (indexed : Indexed t
   unfolding rootOf nodesIn treeIn
   indexed-root = refl
 
+  -- it is of the sort of commands
   pub indexed-root-sort : sortOf (nodeIn table (nodesIn table - 1)) ≡ Command
   unfolding nodesIn nodeIn
   indexed-root-sort =

@@ -20,3 +20,8 @@ pub mod Index
 pub mod LongInput
 pub mod Passing
 pub mod Declaring
+pub mod Sorting
+pub mod Tally
+pub mod Walking
+pub mod Searching
+pub mod Answering

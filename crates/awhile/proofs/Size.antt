@@ -20,7 +20,7 @@ use Rattle.awhile.proofs.Lists.{sum-append, flatMap-append, all-cons, a
 use Rattle.awhile.proofs.Cases.{in-order-last, in-order-child, each-in-order}
 use Rattle.awhile.proofs.Children.{EachChild, sameSort-true}
 use Rattle.awhile.proofs.Trees.{treeSort, command-tree, tree-sort, tree-note, tree-of-node, tree-children}
-use Rattle.awhile.proofs.Sums.{sumBelow, sumBelow-same, sum-by-number}
+use Rattle.awhile.proofs.Sums.{sumBelow, sumBelow-same, sumBelow-ones, sum-by-number}
 use Rattle.awhile.specs.declared.Sort.the-variants.{Numeric, Truth, Command}
 use Rattle.awhile.specs.declared.Node.{Node}
 use Rattle.awhile.specs.declared.Node.the-variants.{Number, Variable, Add, Subtract, Multiply, Choice}
@@ -97,13 +97,6 @@ module _ (t : Table) (w : WellFormed t) where
       let sorts = tree-children (t .nodes) (t .variables) (length (t .counts)) i inside (w .eachFits i inside) (λ s c. treeSort (tree c) ≡ s) (λ s c below e. e) in
       ap treeSize (tree-of-node (t .nodes) (t .variables) (length (t .counts)) i inside (w .eachFits i inside)) ∙ treeSize-treeOf tree i n sorts
 
-  sizes : (count : ℕ) → count ≤ length (t .nodes) → sumBelow count sizeAt ≡ count + sum (map sizeAt (flatMap childrenOf (take count (t .nodes))))
-  unfolding sumBelow flatMap sum
-  sizes zero fits = refl
-  sizes (suc i) fits =
-      rw (take-suc (t .nodes) i Skip fits, flatMap-append, map-append, sum-append, append-nil)
-      (omega (arith, sizes i (omega arith), size-node i fits))
-
   lower : (count : ℕ) → count ≤ length (t .nodes) → all (λ c. ltb c (length (t .nodes) - 1)) (flatMap childrenOf (take count (t .nodes))) ≡ true
   unfolding flatMap all childrenOf
   lower zero fits = refl
@@ -143,20 +136,37 @@ module _ (t : Table) (w : WellFormed t) where
       let some = w .hasNodes in
       tree-note (t .nodes) (length (t .nodes) - 1) (omega arith) last-command
 
+  -- what is added up over the nodes of each tree: at the root, the sum over all the table's nodes
+  module _ (own total : ℕ → ℕ) (built : (i : ℕ) → i < length (t .nodes) → total i ≡ own i + sum (map total (childrenOf (getD (t .nodes) i Skip)))) where
+    totals : (count : ℕ) → count ≤ length (t .nodes) → sumBelow count total ≡ sumBelow count own + sum (map total (flatMap childrenOf (take count (t .nodes))))
+    unfolding sumBelow flatMap sum
+    totals zero fits = refl
+    totals (suc i) fits =
+        rw (take-suc (t .nodes) i Skip fits, flatMap-append, map-append, sum-append, append-nil)
+        (omega (arith, totals i (omega arith), built i fits))
+
+    pub root-total : total (length (t .nodes) - 1) ≡ sumBelow (length (t .nodes)) own
+    unfolding sumBelow usesOf
+    root-total =
+        let ns : List Node = t .nodes in
+        let some = w .hasNodes in
+        let last : ℕ = length ns - 1 in
+        let children : List ℕ = flatMap childrenOf ns in
+        let all-nodes : sumBelow (length ns) total ≡ sumBelow (length ns) own + sum (map total children) =
+        subst (λ l. sumBelow (length ns) total ≡ sumBelow (length ns) own + sum (map total (flatMap childrenOf l))) (take-length ns) (totals (length ns) (omega arith)) in
+        let below : all (λ c. ltb c last) children ≡ true = subst (λ l. all (λ c. ltb c last) (flatMap childrenOf l) ≡ true) (take-length ns) (lower (length ns) (omega arith)) in
+        let by-number = sum-by-number total last children below in
+        let once = sumBelow-same last (λ n. occurrences n children * total n) total (λ n inside. ap (λ k. k * total n) (used-once n inside) ∙ one-mul (total n)) in
+        let many : length ns ≡ suc last = omega arith in
+        let next : sumBelow (length ns) total ≡ sumBelow last total + total last = ap (λ k. sumBelow k total) many in
+        omega (arith, all-nodes, by-number, once, next)
+
   -- the root's tree has all the table's nodes
   pub root-size : nodesOf (rootOf t) ≡ length (t .nodes)
-  unfolding rootOf sumBelow usesOf sizeAt
+  unfolding rootOf sizeAt
   root-size =
-      let ns : List Node = t .nodes in
       let some = w .hasNodes in
-      let last : ℕ = length ns - 1 in
-      let tree : Tree = treeAt (trees ns) last in
-      let children : List ℕ = flatMap childrenOf ns in
-      let all-nodes : sumBelow (length ns) sizeAt ≡ length ns + sum (map sizeAt children) =
-      subst (λ l. sumBelow (length ns) sizeAt ≡ length ns + sum (map sizeAt (flatMap childrenOf l))) (take-length ns) (sizes (length ns) (omega arith)) in
-      let below : all (λ c. ltb c last) children ≡ true = subst (λ l. all (λ c. ltb c last) (flatMap childrenOf l) ≡ true) (take-length ns) (lower (length ns) (omega arith)) in
-      let by-number = sum-by-number sizeAt last children below in
-      let once = sumBelow-same last (λ n. occurrences n children * sizeAt n) sizeAt (λ n inside. ap (λ k. k * sizeAt n) (used-once n inside) ∙ one-mul (sizeAt n)) in
-      let many : length ns ≡ suc last = omega arith in
-      let next : sumBelow (length ns) sizeAt ≡ sumBelow last sizeAt + sizeAt last = ap (λ k. sumBelow k sizeAt) many in
-      size-command tree (tree-sort ns last (omega arith) ∙ last-command) ∙ omega (arith, all-nodes, by-number, once, next)
+      let last : ℕ = length (t .nodes) - 1 in
+      size-command (treeAt (trees (t .nodes)) last) (tree-sort (t .nodes) last (omega arith) ∙ last-command)
+      ∙ root-total (λ i. 1) sizeAt size-node
+      ∙ sumBelow-ones (length (t .nodes))

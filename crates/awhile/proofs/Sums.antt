@@ -33,11 +33,18 @@ unfolding sumBelow
 sumBelow-add zero f g = refl
 sumBelow-add (suc n) f g = omega (arith, sumBelow-add n f g)
 
+-- 1 for each number
+pub sumBelow-ones : (bound : ℕ) → sumBelow bound (λ n. 1) ≡ bound
+unfolding sumBelow
+sumBelow-ones zero = refl
+sumBelow-ones (suc n) = omega (arith, sumBelow-ones n)
+
 -- one number's value, and 0 for the others
-unfoldable only : (m : ℕ) → (ℕ → ℕ) → ℕ → ℕ
+unfoldable pub only : (m : ℕ) → (ℕ → ℕ) → ℕ → ℕ
 only m f n = cond (eqb n m) (f n) 0
 
-sumBelow-only : (bound m : ℕ) (f : ℕ → ℕ) → sumBelow bound (only m f) ≡ cond (ltb m bound) (f m) 0
+-- its sum is that value, if the number is below the bound
+pub sumBelow-only : (bound m : ℕ) (f : ℕ → ℕ) → sumBelow bound (only m f) ≡ cond (ltb m bound) (f m) 0
 unfolding sumBelow only
 sumBelow-only zero m f = rw (le-ltb m 0 (omega arith))
 sumBelow-only (suc n) m f = rw (sumBelow-only n m f) (go (ltb m n) (eqb n m) refl refl)

@@ -3,9 +3,17 @@ use Prim.Native.Nat.{ℕ, _<_, _≤_}
 use mathlib.Core.List.{List, []}
 use mathlib.Core.Path.{_≡_}
 use lib.ListN.{length, getD}
-use Rattle.awhile.specs.Tables.{Table, Reading, rejected, notATree, accepted, readTable, offsetOf}
+use Rattle.awhile.specs.Lists.{sum}
+use Rattle.awhile.specs.Tables.{Table, rejected, notATree, accepted, readTable, offsetOf, BreaksRule, nodesStart, readHeader, readLabels, readCounts, readRecords}
+use Rattle.awhile.specs.Refusals.{got}
+use Rattle.awhile.specs.Reader.{Kept}
 use Rattle.awhile.specs.Language.{AExp, BExp, Com}
 use Rattle.awhile.specs.Trees.{Tree, treeAt, trees, asNumeric, asTruth, asCommand}
+use Rattle.awhile.specs.declared.Labelling.{Labelling}
+use Rattle.awhile.specs.declared.Read.{Read}
+use Rattle.awhile.specs.declared.Read.the-variants.{Refused, Accepted}
+use Rattle.awhile.specs.declared.Refusal.{Refusal}
+use Rattle.awhile.specs.declared.Refusal.the-variants.{NotATree}
 use Rattle.awhile.specs.declared.Node.{Node}
 use Rattle.awhile.specs.declared.Node.the-variants.{Skip}
 
@@ -43,3 +51,37 @@ pub record Indexed (table index : List ℕ) : Type 0 where
   pub reads : readTable table ≡ accepted (tableOf table)
   pub long : nodesIn table ≤ length index
   pub offsets : (n : ℕ) → n < nodesIn table → getD index n 0 ≡ offsetOf (tableOf table) n
+
+-- ---- what the reader answers
+-- the numbers of an accepted table
+unfoldable pub acceptedAs : Table → Read
+acceptedAs t = Accepted (t .variables) (length (t .counts)) (length (t .nodes)) (sum (t .counts)) (t .labels) (offsetOf t (length (t .nodes)))
+
+-- The reader's answer says what the bytes read as; of an accepted table the index is left. Of the index of a refused one nothing is said.
+pub data Answers (s index : List ℕ) (answer : Read) : Type 0 where
+  isRejected : (r : Refusal) → readTable s ≡ rejected r → answer ≡ Refused r → Answers s index answer
+  isNotATree : (t : Table) (place : ℕ) → readTable s ≡ notATree t → BreaksRule t place → answer ≡ Refused (NotATree place) → Answers s index answer
+  isAccepted : Indexed s index → answer ≡ acceptedAs (tableOf s) → Answers s index answer
+
+-- what the reader knows of a table whose records were read
+pub record Declares (t : Table) (variables arrays nodes cells : ℕ) (labels : Labelling) : Type 0 where
+  pub isVariables : t .variables ≡ variables
+  pub isArrays : length (t .counts) ≡ arrays
+  pub isNodes : length (t .nodes) ≡ nodes
+  pub isCells : sum (t .counts) ≡ cells
+  pub isLabels : t .labels ≡ labels
+
+-- the answer where all records were read, kept in an index and in counts of uses
+pub record Finishes (s index uses : List ℕ) (variables arrays nodes cells : ℕ) (labels : Labelling) (end : ℕ) (answer : Read) : Type 0 where
+  pub answers : (t : Table) → readRecords s ≡ got t → Declares t variables arrays nodes cells labels → offsetOf t (length (t .nodes)) ≡ end
+      → Kept s index uses (nodesStart (length (t .counts))) (t .nodes) → Answers s index answer
+
+-- the answer where the declarations were read
+pub record ReadsOn (s index : List ℕ) (variables arrays nodes cells : ℕ) (labels : Labelling) (answer : Read) : Type 0 where
+  pub answers : (cs : List ℕ) → readHeader s ≡ got (record { variables = variables; arrays = arrays; nodes = nodes })
+      → readLabels s (record { variables = variables; arrays = arrays; nodes = nodes }) ≡ got labels
+      → readCounts arrays s 20 [] ≡ got cs → sum cs ≡ cells → Answers s index answer
+
+-- the answer where the header was read
+pub record ReadsDeclared (s index : List ℕ) (variables arrays nodes : ℕ) (answer : Read) : Type 0 where
+  pub answers : readHeader s ≡ got (record { variables = variables; arrays = arrays; nodes = nodes }) → Answers s index answer

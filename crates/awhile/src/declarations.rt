@@ -12,10 +12,11 @@ use crate::MAX_CELLS;
 use crate::MAX_NODES;
 use crate::MAX_VARIABLES;
 use crate::Refusal;
-use crate::frames;
-use crate::frames::Framed;
+use crate::checks;
+use crate::checks::Checked;
 use bytes_le::get;
 
+// What reading the header answers.
 pub enum HeaderRead {
     Refused {
         refusal: Refusal,
@@ -50,7 +51,7 @@ fn within_limits(version: usize, variables: usize, arrays: usize, nodes: usize) 
 pub fn read_header(table: &[u8]) -> HeaderRead
     ensures { λ r. ⌜ r ≡ headerAs (readHeader (now (table .entry))) ⌝ }
 {
-    if let Framed::Refused { refusal } = frames::frame_of_kind(table, 0, 1, 10) {
+    if let Checked::Refused { refusal } = checks::frame_of_kind(table, 0, 1, 10) {
         return HeaderRead::Refused { refusal };
     }
     let version = get::u16_at(table, 4);
@@ -69,6 +70,7 @@ pub fn read_header(table: &[u8]) -> HeaderRead
     }
 }
 
+// What reading the labels record answers.
 pub enum LabelsRead {
     Refused { refusal: Refusal },
     Labels { labels: Labelling },
@@ -87,7 +89,7 @@ pub fn read_labels(table: &[u8], variables: usize, arrays: usize) -> LabelsRead
     requires { ⌜ (variables ≤ maxVariables) × (arrays ≤ maxArrays) ⌝ }
     ensures { λ r. ⌜ ((nodes : ℕ) → r ≡ labelsAs (readLabels (now (table .entry)) (record { variables = variables; arrays = arrays; nodes = nodes }))) ⌝ }
 {
-    if let Framed::Refused { refusal } = frames::frame_of_kind(table, 10, 3, 10) {
+    if let Checked::Refused { refusal } = checks::frame_of_kind(table, 10, 3, 10) {
         return LabelsRead::Refused { refusal };
     }
     let variable_mask = get::u32_at(table, 14) as u64;
@@ -107,6 +109,7 @@ pub fn read_labels(table: &[u8], variables: usize, arrays: usize) -> LabelsRead
     }
 }
 
+// What reading one array record answers.
 pub enum CountRead {
     Refused { refusal: Refusal },
     Count { count: usize },
@@ -117,7 +120,7 @@ fn read_count(table: &[u8], at: usize, before: usize) -> CountRead
     requires { ⌜ (at + 6 < 2 ^ 64) × (before ≤ maxCells) ⌝ }
     ensures { λ r. ⌜ r ≡ countAs (readCount (now (table .entry)) at before) ⌝ }
 {
-    if let Framed::Refused { refusal } = frames::frame_of_kind(table, at, 2, 6) {
+    if let Checked::Refused { refusal } = checks::frame_of_kind(table, at, 2, 6) {
         return CountRead::Refused { refusal };
     }
     let count = get::u16_at(table, at + 4);
@@ -131,6 +134,7 @@ fn read_count(table: &[u8], at: usize, before: usize) -> CountRead
     }
 }
 
+// What reading all array records answers: how many cells they declare.
 pub enum CellsRead {
     Refused { refusal: Refusal },
     Cells { cells: usize },

@@ -1,8 +1,13 @@
 // The language AWHILE as a table of records: what a record can be, and why a table is refused.
+pub mod checks;
 pub mod declarations;
 pub mod decode;
-pub mod frames;
+pub mod fields;
 pub mod lookup;
+pub mod reader;
+pub mod tables;
+pub mod uses;
+pub mod walk;
 
 // The limits of document 01.
 pub const MAX_VARIABLES: usize = 32;

@@ -4,7 +4,7 @@ ghost use mathlib.Core.Path.{_≡_};
 ghost use Rattle.awhile.specs.Index.{Indexed, nodesIn, nodeIn};
 use crate::Decoded;
 use crate::Node;
-use crate::decode;
+use crate::reader;
 
 // The node of a number: one look at the index, one record decoded.
 pub fn node_at(table: &[u8], index: &[u16], n: usize) -> Node
@@ -12,7 +12,7 @@ pub fn node_at(table: &[u8], index: &[u16], n: usize) -> Node
     ensures { λ r. ⌜ r ≡ nodeIn (now (table .entry)) n ⌝ }
 {
     let at = index[n] as usize;
-    let Decoded::Known { node } = decode::decode_at(table, at) else {
+    let Decoded::Known { node } = reader::decoded_at(table, at) else {
         // an index leads to nodes only
         return Node::Skip;
     };

@@ -8,7 +8,7 @@ use mathlib.Core.Path.{_≡_, refl}
 use mathlib.Core.List.{List}
 use lib.Dec.{ltb}
 use borrow.Author.Tests.{ltb-true, ltb-false}
-use lib.ListN.{length, getD, take, drop, drop-of-length-le, List·getD-eq-default}
+use lib.ListN.{length, getD, drop-of-length-le, List·getD-eq-default}
 use lib.Seq.{drop-cons, take-nil}
 use Rattle.bytes_le.specs.Numbers.{fromLe, leAt}
 
@@ -29,13 +29,16 @@ module _ (s : List ℕ) where
           let past = ltb-false at (length s) e in
           omega (arith, leAt-past (suc width) at past, leAt-past width (at + 1) (omega arith), List·getD-eq-default s 0 past)
 
+  -- one byte
   pub leAt-one : (at : ℕ) → leAt 1 s at ≡ getD s at 0
   unfolding leAt fromLe
   leAt-one at = omega (arith, leAt-next 0 at)
 
+  -- two bytes
   pub leAt-two : (at : ℕ) → leAt 2 s at ≡ getD s at 0 + 256 * getD s (at + 1) 0
   leAt-two at = omega (arith, leAt-next 1 at, leAt-one (at + 1))
 
+  -- four bytes
   pub leAt-four : (at : ℕ) → leAt 4 s at ≡ getD s at 0 + 256 * getD s (at + 1) 0 + 65536 * getD s (at + 2) 0 + 16777216 * getD s (at + 3) 0
   leAt-four at =
       let second : leAt 3 s (at + 1) ≡ getD s (at + 1) 0 + 256 * leAt 2 s (at + 2) = rw (add-assoc at 1 1) at (leAt-next 2 (at + 1)) in

@@ -5,6 +5,7 @@ ghost use lib.ListN.{length};
 ghost use lib.Seq.{sets};
 ghost use Rattle.bytes_le.specs.Numbers.{le};
 
+// A number in 1 byte at an offset.
 pub fn put8(out: &mut [u8], at: usize, v: usize)
     requires { ⌜ at + 1 ≤ length (now out) ⌝ }
     ensures { λ _. ⌜ now (out .exit) ≡ sets (now (out .entry)) at (le 1 v) ⌝ }
@@ -12,6 +13,7 @@ pub fn put8(out: &mut [u8], at: usize, v: usize)
     out[at] = (v % 256) as u8;
 }
 
+// A number in 2 bytes at an offset.
 pub fn put16(out: &mut [u8], at: usize, v: usize)
     requires { ⌜ at + 2 ≤ length (now out) ⌝ }
     ensures { λ _. ⌜ now (out .exit) ≡ sets (now (out .entry)) at (le 2 v) ⌝ }
@@ -20,6 +22,7 @@ pub fn put16(out: &mut [u8], at: usize, v: usize)
     out[at + 1] = (v / 256 % 256) as u8;
 }
 
+// A number in 4 bytes at an offset.
 pub fn put32(out: &mut [u8], at: usize, v: u32)
     requires { ⌜ at + 4 ≤ length (now out) ⌝ }
     ensures { λ _. ⌜ now (out .exit) ≡ sets (now (out .entry)) at (le 4 v) ⌝ }
@@ -28,6 +31,7 @@ pub fn put32(out: &mut [u8], at: usize, v: u32)
     put16(&mut *out, at + 2, (v / 65536) as usize);
 }
 
+// A number in 8 bytes at an offset.
 pub fn put64(out: &mut [u8], at: usize, v: u64)
     requires { ⌜ at + 8 ≤ length (now out) ⌝ }
     ensures { λ _. ⌜ now (out .exit) ≡ sets (now (out .entry)) at (le 8 v) ⌝ }

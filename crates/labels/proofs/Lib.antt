@@ -14,3 +14,4 @@ pub mod ExpressionLabels
 pub mod CommandNotes
 pub mod Settling
 pub mod CommandCases
+pub mod Standing

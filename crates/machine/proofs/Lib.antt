@@ -11,5 +11,11 @@ pub mod DirectiveLists
 pub mod Room
 pub mod Numbering
 pub mod NodeKinds
+pub mod Counts
+pub mod CellPlaces
+pub mod Guides
+pub mod ShownSteps
+pub mod NextSteps
+pub mod Effects
 pub mod Evaluation
 pub mod Actions

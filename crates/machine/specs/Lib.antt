@@ -9,3 +9,7 @@ pub mod Prefixes
 pub mod Listed
 pub mod Evaluation
 pub mod Actions
+pub mod Fitting
+pub mod Guiding
+pub mod Stepping
+pub mod Effects

@@ -20,7 +20,7 @@ pub enum Back {
 pub enum Change {
     PutBack { back: Back },
     Assign { variable: usize, value: u32 },
-    Store { place: usize, value: u32 },
+    Store { place: u32, value: u32 },
 }
 
 // What a step shows: a branch with its two sides, a read into a variable, or a write of a value.

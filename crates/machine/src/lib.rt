@@ -3,6 +3,12 @@
 pub mod action;
 pub mod directives;
 pub mod evaluate;
+pub mod fit;
+pub mod guide;
+pub mod memory;
+pub mod places;
+pub mod state;
+pub mod step;
 
 // What the attacker picks for one shown step.
 pub enum Directive {

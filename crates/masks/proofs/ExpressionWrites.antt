@@ -88,9 +88,9 @@ module _ (from : ℕ) (c : BExp) (a b : AExp) {l m k rest : List ℕ} {s r : Siz
       (append-assoc (writeB from c) (writeA (from + s .nodes) a ++ writeA (from + s .nodes + nodesOfA a) b) (Choice i (p .left) (p .right) ∷ [])
       ∙ ap (λ x. writeB from c ++ x) (append-assoc (writeA (from + s .nodes) a) (writeA (from + s .nodes + nodesOfA a) b) (Choice i (p .left) (p .right) ∷ []))
       ∙ ap (λ x. writeB from c ++ (writeA (from + s .nodes) a ++ (writeA (from + s .nodes + nodesOfA a) b ++ (x ∷ []))))
-        (ap (λ x. Choice x (p .left) (p .right)) e
-        ∙ ap (λ x. Choice (from + s .nodes - 1) x (p .right)) (v .leftIs)
-        ∙ ap (Choice (from + s .nodes - 1) (from + s .nodes + nodesOfA a - 1)) (v .rightIs))
+      (ap (λ x. Choice x (p .left) (p .right)) e
+      ∙ ap (λ x. Choice (from + s .nodes - 1) x (p .right)) (v .leftIs)
+      ∙ ap (Choice (from + s .nodes - 1) (from + s .nodes + nodesOfA a - 1)) (v .rightIs))
       ∙ ap whole (first .nodesCounted))
 
 -- ---- a constant

@@ -25,8 +25,7 @@ module _ (from : ℕ) {ms : List Node} (ns : ℕ → List Node) {i j k h : ℕ} 
       → Few (from + s .nodes + u .nodes) (s .bytes + u .bytes) × (0 < s .nodes)
   two-few r enough some f g =
       let first = wrote-sized w a in
-      let second = wrote-sized v (b (from + s .nodes)) in
-      (
+      let second = wrote-sized v (b (from + s .nodes)) in (
         record {
           fewNodes = omega (arith, r .numbers, first .nodesCounted, second .nodesCounted);
           fewBytes = omega (arith, r .numbers, first .bytesCounted, second .bytesCounted, f .short, g .short);

@@ -54,6 +54,7 @@ module _ (n : Node) {size : ℕ} (own : sizeOf n ≡ size) {ms : List Node} {i j
 
 mutual
   unfolding writeA nodesOfA bytesOfA sizeOf form fieldSize sum binary ternary
+
   pub counted-A : (from : ℕ) (e : AExp) → Counted (writeA from e) (nodesOfA e) (bytesOfA e)
   counted-A from (number n) = counted-node (Number n)
   counted-A from (variable x) = counted-node (Variable x)
@@ -84,6 +85,7 @@ counted-C from (write n a i e) = over-two _ refl (counted-A from i) (counted-A (
 -- no record is longer than 10 bytes
 mutual
   unfolding nodesOfA bytesOfA
+
   pub bytes-A : (e : AExp) → Short (nodesOfA e) (bytesOfA e)
   bytes-A (number n) = record { short = omega arith }
   bytes-A (variable x) = record { short = omega arith }

@@ -51,11 +51,11 @@ module _ {ns : List Node} {l m : List ℕ} {s : Size} (w : Wrote ns l m s) where
       let c = counted-append {ms = ns} (record { nodesAre = refl; bytesAre = refl }) (counted-node n) in
       record {
         stored =
-          a .stored
-          ∙ ap (λ h. sets h (s .bytes) (nodeBytes n)) (w .stored)
-          ∙ ap (λ i. sets (sets l 0 bytes) i (nodeBytes n)) (w .bytesCounted ∙ sym (zero-plus (length bytes)))
-          ∙ sym (sets-append bytes (nodeBytes n) l 0)
-          ∙ ap (sets l 0) (ap (λ b. bytes ++ b) (sym (append-nil (nodeBytes n))) ∙ sym (flatMap-append nodeBytes ns (n ∷ [])));
+            a .stored
+            ∙ ap (λ h. sets h (s .bytes) (nodeBytes n)) (w .stored)
+            ∙ ap (λ i. sets (sets l 0 bytes) i (nodeBytes n)) (w .bytesCounted ∙ sym (zero-plus (length bytes)))
+            ∙ sym (sets-append bytes (nodeBytes n) l 0)
+            ∙ ap (sets l 0) (ap (λ b. bytes ++ b) (sym (append-nil (nodeBytes n))) ∙ sym (flatMap-append nodeBytes ns (n ∷ [])));
         nodesCounted = a .nodesCounted ∙ ap (λ i. i + 1) (w .nodesCounted) ∙ sym (c .nodesAre);
         bytesCounted = a .bytesCounted ∙ ap (λ i. i + sizeOf n) (w .bytesCounted) ∙ sym (c .bytesAre);
       }
@@ -73,12 +73,12 @@ module _ {ns : List Node} {l m : List ℕ} {s : Size} (w : Wrote ns l m s) where
       let at : s .bytes ≡ 0 + length bytes = omega (arith, w .bytesCounted) in
       record {
         stored =
-          ap (withRest (s .bytes) m) (v .stored)
-          ∙ sets-rest m (s .bytes) more there
-          ∙ ap (λ h. sets h (s .bytes) more) (w .stored)
-          ∙ ap (λ i. sets (sets l 0 bytes) i more) at
-          ∙ sym (sets-append bytes more l 0)
-          ∙ ap (sets l 0) (sym (flatMap-append nodeBytes ns ms));
+            ap (withRest (s .bytes) m) (v .stored)
+            ∙ sets-rest m (s .bytes) more there
+            ∙ ap (λ h. sets h (s .bytes) more) (w .stored)
+            ∙ ap (λ i. sets (sets l 0 bytes) i more) at
+            ∙ sym (sets-append bytes more l 0)
+            ∙ ap (sets l 0) (sym (flatMap-append nodeBytes ns ms));
         nodesCounted = rw length-append (omega (arith, w .nodesCounted, v .nodesCounted));
         bytesCounted = rw (flatMap-append nodeBytes ns ms, length-append) (omega (arith, w .bytesCounted, v .bytesCounted));
       }

@@ -121,7 +121,12 @@ pub fn put_value_mask(flag: usize, variable: usize, from: usize, out: &mut [u8])
     ensures { λ r. ⌜ Wrote (writeC from (maskValueOf flag variable)) (now (out .entry)) (now (out .exit)) r ⌝ }
 {
     let guard = put_guard(flag, from, &mut *out);
-    let value = append(&mut *out, guard.nodes, guard.bytes, Node::Variable { variable });
+    let value = append(
+        &mut *out,
+        guard.nodes,
+        guard.bytes,
+        Node::Variable { variable },
+    );
     let choice = append(
         &mut *out,
         value.nodes,

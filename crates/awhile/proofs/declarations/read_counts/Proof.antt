@@ -1,10 +1,9 @@
 -- `read_counts`: at every turn what is left to read is what is to be read of all arrays.
 use Prim.Native.Nat.{_+_, _-_}
 use native.Mathlib.Omega.{arith}
-use mathlib.Core.Path.{_≡_, sym, ap, _∙_}
+use mathlib.Core.Path.{sym, ap, _∙_}
 use denote.Ref.{now}
 use borrow.Author.Needs.{needs}
-use Rattle.awhile.specs.Refusals.{refused, got}
 use Rattle.awhile.specs.Tables.{readCount}
 use Rattle.awhile.specs.Reader.{cellsAs}
 use Rattle.awhile.proofs.Declaring.{CountsLeft, counts-start, counts-more, counts-stop, counts-done, count-got, count-not-got}

@@ -1,22 +1,22 @@
 -- `node_at` decodes the record at the index's offset, which is the node's.
-use Prim.Native.Nat.{ℕ}
 use native.Mathlib.Omega.{arith}
 use mathlib.Core.Path.{_≡_, _∙_}
 use denote.Ref.{now}
 use borrow.Author.Needs.{needs}
 use Rattle.bytes_le.proofs.Numbers.{slice-bytes}
 use Rattle.awhile.specs.Index.{nodeIn}
+use Rattle.awhile.proofs.Cases.{decoded-same, decoded-apart}
 use Rattle.awhile.proofs.Index.{indexed-node}
 use Rattle.awhile.specs.declared.Decoded.the-variants.{Known}
 use Rattle.awhile.proofs.lookup.node_at.Statement.{statement}
 use Rattle.awhile.proofs.lookup.node_at.Tie as tie
 
 -- what was decoded is the node
-decoded : (c : tie.After-decode-at) → c .decode-at .result ≡ Known (nodeIn (now (c .before .before .before .before .args .table)) (c .before .before .before .before .args .n))
+decoded : (c : tie.After-decoded-at) → c .decoded-at .result ≡ Known (nodeIn (now (c .before .before .before .before .args .table)) (c .before .before .before .before .args .n))
 decoded c =
     let start = c .before .before .before .before in
     let table = now (start .args .table) in
-    c .decode-at .ensures
+    c .decoded-at .ensures
     ∙ indexed-node table (now (start .args .index)) (slice-bytes table (c .before .before .before .shared-slice-known .given)) (start .pre .0) (start .args .n) (start .pre .1) .decoded
 
 mul-at : tie.Need-mul-at
@@ -28,8 +28,8 @@ shared-slice-read-at c = search needs
 cast-at : tie.Need-cast-at
 cast-at c = omega (arith, c .shared-slice-known3 .given (c .before .before .before .args .n))
 
-decode-at-requires : tie.Need-decode-at-requires
-decode-at-requires c κs = omega (arith, c .shared-slice-known3 .given (c .before .before .before .args .n))
+decoded-at-requires : tie.Need-decoded-at-requires
+decoded-at-requires c κs = omega (arith, c .shared-slice-known3 .given (c .before .before .before .args .n))
 
 enum-known-node : tie.Need-enum-known-node
 enum-known-node c = search needs
@@ -38,16 +38,10 @@ enum-told : tie.Need-enum-told
 enum-told c = search needs
 
 returns : tie.Need-returns
-returns c =
-    let e = decoded (c .before .before) in
-    let f = c .enum-told .given .1 in
-    absurd (let z : _≡_ {A = ℕ} 0 1 = cc in omega arith)
+returns c = absurd (decoded-apart _ _ (c .enum-told .given .1) (decoded (c .before .before)))
 
 returns-2 : tie.Need-returns-2
-returns-2 c =
-    let e = decoded (c .before .before .before) in
-    let f = c .before .node .given .1 in
-    cc
+returns-2 c = decoded-same _ _ _ (c .before .node .given .1) (decoded (c .before .before .before))
 
 pub node-at-spec : {M : Type 1} → statement M
 node-at-spec =
@@ -56,7 +50,7 @@ node-at-spec =
     mul-at
     shared-slice-read-at
     cast-at
-    decode-at-requires
+    decoded-at-requires
     enum-known-node
     enum-told
     returns

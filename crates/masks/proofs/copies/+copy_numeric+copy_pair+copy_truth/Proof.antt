@@ -375,8 +375,7 @@ copy-pair-copy-numeric-requires-2 t c κs =
     let start = d .before .before .before .before .before in
     let left = numericIn (now (start .args .table)) (start .args .left) in
     let right = numericIn (now (start .args .table)) (start .args .right) in
-    let room = start .pre .1 .1 in
-    (
+    let room = start .pre .1 .1 in (
       second-of-pair (start .args .left) (start .args .right) (start .pre .0),
       (start .pre .1 .0 .1, room-rest (d .copy-numeric .ensures) (counted-A (start .args .from) left) room (omega arith) (omega arith)),
     )
@@ -626,7 +625,7 @@ copy-truth-returns-6 t c =
 
 pub +copy-numeric+copy-pair+copy-truth-spec : {M : Type 1} → statement M
 +copy-numeric+copy-pair+copy-truth-spec =
-    close μ-copy-numeric μ-copy-pair μ-copy-truth (λ t. copy-numeric-lts.spec (copy-numeric-calls t) 
+    close μ-copy-numeric μ-copy-pair μ-copy-truth (λ t. copy-numeric-lts.spec (copy-numeric-calls t)
     (copy-numeric-at t)
     copy-numeric.Post
     (copy-numeric-node-at-requires t)
@@ -667,7 +666,7 @@ pub +copy-numeric+copy-pair+copy-truth-spec : {M : Type 1} → statement M
     (copy-numeric-same-length-6 t)
     (copy-numeric-returns-6 t)
     (copy-numeric-returns-7 t))
-    (λ t. copy-pair-lts.spec (copy-pair-calls t) 
+    (λ t. copy-pair-lts.spec (copy-pair-calls t)
     (copy-pair-at t)
     copy-pair.Post
     (copy-pair-copy-numeric-requires t)
@@ -679,7 +678,7 @@ pub +copy-numeric+copy-pair+copy-truth-spec : {M : Type 1} → statement M
     (copy-pair-both-requires t)
     (copy-pair-same-length t)
     (copy-pair-returns t))
-    λ t. copy-truth-lts.spec (copy-truth-calls t) 
+    λ t. copy-truth-lts.spec (copy-truth-calls t)
     (copy-truth-at t)
     copy-truth.Post
     (copy-truth-node-at-requires t)

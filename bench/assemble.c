@@ -1,0 +1,120 @@
+#include "assemble.h"
+
+#include <stdio.h>
+#include <stdlib.h>
+#include <string.h>
+
+#include "kinds.h"
+#include "little_endian.h"
+
+static void buffer_reserve(struct buffer *b, size_t more)
+{
+    if (b->capacity - b->length >= more)
+        return;
+    b->capacity = 2 * (b->length + more);
+    b->bytes = realloc(b->bytes, b->capacity);
+    if (b->bytes == NULL) {
+        perror("realloc");
+        exit(2);
+    }
+}
+
+void buffer_append(struct buffer *b, const uint8_t *bytes, size_t length)
+{
+    if (length == 0)
+        return;
+    buffer_reserve(b, length);
+    memcpy(b->bytes + b->length, bytes, length);
+    b->length += length;
+}
+
+void buffer_append16(struct buffer *b, uint32_t value)
+{
+    uint8_t bytes[2];
+    put16(bytes, value);
+    buffer_append(b, bytes, sizeof bytes);
+}
+
+void buffer_append32(struct buffer *b, uint32_t value)
+{
+    uint8_t bytes[4];
+    put32(bytes, value);
+    buffer_append(b, bytes, sizeof bytes);
+}
+
+void buffer_free(struct buffer *b)
+{
+    free(b->bytes);
+    *b = (struct buffer){0};
+}
+
+static void append_head(struct buffer *b, uint32_t length, uint32_t kind)
+{
+    buffer_append16(b, length);
+    buffer_append16(b, kind);
+}
+
+void assemble_table(struct buffer *table, unsigned variables, unsigned arrays, const uint16_t *counts,
+                    uint32_t secret_variables, uint32_t secret_arrays)
+{
+    append_head(table, 10, FLOW_HEADER);
+    buffer_append16(table, FLOW_VERSION);
+    buffer_append16(table, variables | arrays << 8);
+    buffer_append16(table, 0);
+    append_head(table, 10, FLOW_LABELS);
+    buffer_append32(table, secret_variables);
+    buffer_append16(table, secret_arrays);
+    for (unsigned array = 0; array < arrays; array++) {
+        append_head(table, 6, FLOW_ARRAY);
+        buffer_append16(table, counts[array]);
+    }
+}
+
+unsigned assemble_node(struct buffer *table, unsigned kind, const uint32_t *fields)
+{
+    const char *letters = fields_of(kind);
+    append_head(table, (uint32_t)record_length(letters), kind);
+    for (unsigned i = 0; letters[i]; i++) {
+        if (letters[i] == 'n')
+            buffer_append32(table, fields[i]);
+        else
+            buffer_append16(table, fields[i]);
+    }
+    unsigned number = get16(table->bytes + 8);
+    put16(table->bytes + 8, number + 1);
+    return number;
+}
+
+unsigned assemble_node0(struct buffer *table, unsigned kind)
+{
+    return assemble_node(table, kind, NULL);
+}
+
+unsigned assemble_node1(struct buffer *table, unsigned kind, uint32_t one)
+{
+    return assemble_node(table, kind, &one);
+}
+
+unsigned assemble_node2(struct buffer *table, unsigned kind, uint32_t one, uint32_t two)
+{
+    uint32_t fields[] = {one, two};
+    return assemble_node(table, kind, fields);
+}
+
+unsigned assemble_node3(struct buffer *table, unsigned kind, uint32_t one, uint32_t two, uint32_t three)
+{
+    uint32_t fields[] = {one, two, three};
+    return assemble_node(table, kind, fields);
+}
+
+void assemble_directive(struct buffer *list, unsigned kind)
+{
+    append_head(list, 4, kind);
+}
+
+void assemble_redirect(struct buffer *list, unsigned kind, unsigned array, uint32_t index)
+{
+    append_head(list, 10, kind);
+    buffer_append16(list, array);
+    buffer_append32(list, index);
+}

@@ -1,0 +1,37 @@
+/* Buffers that grow, and tables and directive lists put together in them. */
+#ifndef ASSEMBLE_H
+#define ASSEMBLE_H
+
+#include <stddef.h>
+#include <stdint.h>
+
+struct buffer {
+    uint8_t *bytes;
+    size_t length, capacity;
+};
+
+void buffer_append(struct buffer *b, const uint8_t *bytes, size_t length);
+void buffer_append16(struct buffer *b, uint32_t value);
+void buffer_append32(struct buffer *b, uint32_t value);
+void buffer_free(struct buffer *b);
+
+/* Starts a table: header, labels and an array record for each count.  Each node put after it is counted in the header. */
+void assemble_table(struct buffer *table, unsigned variables, unsigned arrays, const uint16_t *counts,
+                    uint32_t secret_variables, uint32_t secret_arrays);
+
+/* Puts a node of this kind and returns its number.  `fields` holds as many as the kind has. */
+unsigned assemble_node(struct buffer *table, unsigned kind, const uint32_t *fields);
+
+/* The same for a given number of fields. */
+unsigned assemble_node0(struct buffer *table, unsigned kind);
+unsigned assemble_node1(struct buffer *table, unsigned kind, uint32_t one);
+unsigned assemble_node2(struct buffer *table, unsigned kind, uint32_t one, uint32_t two);
+unsigned assemble_node3(struct buffer *table, unsigned kind, uint32_t one, uint32_t two, uint32_t three);
+
+/* Puts step or force. */
+void assemble_directive(struct buffer *list, unsigned kind);
+
+/* Puts load or store. */
+void assemble_redirect(struct buffer *list, unsigned kind, unsigned array, uint32_t index);
+
+#endif

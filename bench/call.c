@@ -1,0 +1,104 @@
+#include "call.h"
+
+#include <stdlib.h>
+#include <string.h>
+
+#include "flow.h"
+#include "little_endian.h"
+#include "reference.h"
+
+const char *const entry_names[ENTRIES] = {"flow_sheet", "flow_harden", "flow_run", "flow_guess"};
+const char *const slice_names[SLICES] = {"table", "directives", "variables", "cells",
+                                         "pending", "observations", "output", "answer"};
+
+void slice_new(struct slice *s, size_t length)
+{
+    s->length = length;
+    s->bytes = malloc(length); /* of an empty slice: NULL, or a block in which no access is right */
+    if (s->bytes == NULL && length != 0) {
+        perror("malloc");
+        exit(2);
+    }
+}
+
+void slice_from(struct slice *s, const uint8_t *bytes, size_t length)
+{
+    slice_new(s, length);
+    if (length != 0)
+        memcpy(s->bytes, bytes, length);
+}
+
+void slice_free(struct slice *s)
+{
+    free(s->bytes);
+    *s = (struct slice){0};
+}
+
+bool slice_equal(const struct slice *one, const struct slice *other)
+{
+    return one->length == other->length && (one->length == 0 || memcmp(one->bytes, other->bytes, one->length) == 0);
+}
+
+struct call call_copy(const struct call *call)
+{
+    struct call copy = *call;
+    for (unsigned i = 0; i < SLICES; i++)
+        if (call->slices[i].bytes != NULL)
+            slice_from(&copy.slices[i], call->slices[i].bytes, call->slices[i].length);
+    return copy;
+}
+
+void call_free(struct call *call)
+{
+    for (unsigned i = 0; i < SLICES; i++)
+        slice_free(&call->slices[i]);
+}
+
+/* The arguments of a slice. */
+#define LENT(name) call->slices[SLICE_##name].bytes, call->slices[SLICE_##name].length
+
+uint64_t call_library(struct call *call)
+{
+    switch (call->entry) {
+    case ENTRY_SHEET:
+        return flow_sheet(LENT(TABLE), LENT(OUTPUT), LENT(ANSWER));
+    case ENTRY_HARDEN:
+        return flow_harden(LENT(TABLE), LENT(OUTPUT), LENT(ANSWER));
+    case ENTRY_RUN:
+        return flow_run(LENT(TABLE), LENT(VARIABLES), LENT(CELLS), LENT(PENDING), LENT(OBSERVATIONS), call->budget,
+                        LENT(ANSWER));
+    default:
+        return flow_guess(LENT(TABLE), LENT(DIRECTIVES), LENT(VARIABLES), LENT(CELLS), LENT(PENDING), LENT(OBSERVATIONS),
+                          call->budget, LENT(ANSWER));
+    }
+}
+
+uint64_t call_reference(struct call *call)
+{
+    switch (call->entry) {
+    case ENTRY_SHEET:
+        return reference_sheet(LENT(TABLE), LENT(OUTPUT), LENT(ANSWER));
+    case ENTRY_HARDEN:
+        return reference_harden(LENT(TABLE), LENT(OUTPUT), LENT(ANSWER));
+    case ENTRY_RUN:
+        return reference_run(LENT(TABLE), LENT(VARIABLES), LENT(CELLS), LENT(PENDING), LENT(OBSERVATIONS), call->budget,
+                             LENT(ANSWER));
+    default:
+        return reference_guess(LENT(TABLE), LENT(DIRECTIVES), LENT(VARIABLES), LENT(CELLS), LENT(PENDING),
+                               LENT(OBSERVATIONS), call->budget, LENT(ANSWER));
+    }
+}
+
+uint64_t call_answer(const struct call *call, unsigned number)
+{
+    const struct slice *answer = &call->slices[SLICE_ANSWER];
+    return answer->length >= 8 * (number + 1) ? get64(answer->bytes + 8 * number) : 0;
+}
+
+void print_hex(FILE *to, const uint8_t *bytes, size_t length)
+{
+    if (length == 0)
+        fputc('-', to); /* so that an empty slice is a word too */
+    for (size_t i = 0; i < length; i++)
+        fprintf(to, "%02x", bytes[i]);
+}

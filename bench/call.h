@@ -1,0 +1,55 @@
+/* A call of an entry: which one, and every slice that it lends. */
+#ifndef CALL_H
+#define CALL_H
+
+#include <stdbool.h>
+#include <stddef.h>
+#include <stdint.h>
+#include <stdio.h>
+
+enum entry { ENTRY_SHEET, ENTRY_HARDEN, ENTRY_RUN, ENTRY_GUESS, ENTRIES };
+
+enum slice_name {
+    SLICE_TABLE,
+    SLICE_DIRECTIVES,
+    SLICE_VARIABLES,
+    SLICE_CELLS,
+    SLICE_PENDING,
+    SLICE_OBSERVATIONS,
+    SLICE_OUTPUT, /* the sheet or the hardened table */
+    SLICE_ANSWER,
+    SLICES
+};
+
+/* Each slice has a block of its own of exactly its length, so that valgrind sees an access beside it.  An empty one may be NULL. */
+struct slice {
+    uint8_t *bytes;
+    size_t length;
+};
+
+struct call {
+    enum entry entry;
+    uint32_t budget;
+    struct slice slices[SLICES]; /* those that the entry does not take are (NULL, 0) */
+};
+
+extern const char *const entry_names[ENTRIES];
+extern const char *const slice_names[SLICES];
+
+void slice_new(struct slice *s, size_t length);
+void slice_from(struct slice *s, const uint8_t *bytes, size_t length);
+void slice_free(struct slice *s);
+bool slice_equal(const struct slice *one, const struct slice *other);
+
+struct call call_copy(const struct call *call);
+void call_free(struct call *call);
+
+uint64_t call_library(struct call *call);
+uint64_t call_reference(struct call *call);
+
+/* A number of the answer slice; 0 if the slice does not hold it whole. */
+uint64_t call_answer(const struct call *call, unsigned number);
+
+void print_hex(FILE *to, const uint8_t *bytes, size_t length);
+
+#endif

@@ -1,0 +1,279 @@
+#include "cases.h"
+
+#include <stdio.h>
+#include <string.h>
+
+#include "assemble.h"
+#include "flow.h"
+#include "little_endian.h"
+
+static bool all_hold;
+
+static void expect(bool holds, const char *what)
+{
+    if (holds)
+        return;
+    all_hold = false;
+    printf("case fails: %s\n", what);
+}
+
+/* ---- Small programs ----------------------------------------------------------------------------------------------------- */
+
+static unsigned number(struct buffer *t, uint32_t value)
+{
+    return assemble_node1(t, FLOW_NUMBER, value);
+}
+
+static unsigned variable(struct buffer *t, unsigned x)
+{
+    return assemble_node1(t, FLOW_VARIABLE, x);
+}
+
+static unsigned skip(struct buffer *t)
+{
+    return assemble_node0(t, FLOW_SKIP);
+}
+
+/* x := y */
+static unsigned move(struct buffer *t, unsigned x, unsigned y)
+{
+    unsigned from = variable(t, y);
+    return assemble_node2(t, FLOW_ASSIGN, x, from);
+}
+
+static unsigned set(struct buffer *t, unsigned x, uint32_t value)
+{
+    unsigned to = number(t, value);
+    return assemble_node2(t, FLOW_ASSIGN, x, to);
+}
+
+/* x = value, or x < value */
+static unsigned compare(struct buffer *t, unsigned kind, unsigned x, uint32_t value)
+{
+    unsigned left = variable(t, x);
+    unsigned right = number(t, value);
+    return assemble_node2(t, kind, left, right);
+}
+
+static unsigned sequence(struct buffer *t, unsigned first, unsigned second)
+{
+    return assemble_node2(t, FLOW_SEQUENCE, first, second);
+}
+
+/* x:=y; (y:=z; z:=s), numbers 0 to 3, s secret; in a loop while x<3, if wanted */
+static void chain_table(struct buffer *t, bool in_loop)
+{
+    assemble_table(t, 4, 0, NULL, 8, 0);
+    unsigned condition = in_loop ? compare(t, FLOW_LESS, 0, 3) : 0;
+    unsigned first = move(t, 0, 1);
+    unsigned second = move(t, 1, 2);
+    unsigned third = move(t, 2, 3);
+    unsigned body = sequence(t, first, sequence(t, second, third));
+    if (in_loop)
+        assemble_node2(t, FLOW_WHILE, condition, body);
+}
+
+/* if s=0 then x:=1 else skip, x 0, s 1 and secret; then x:=2, if wanted */
+static void branch_table(struct buffer *t, bool then_assign)
+{
+    assemble_table(t, 2, 0, NULL, 2, 0);
+    unsigned condition = compare(t, FLOW_EQUAL, 1, 0);
+    unsigned one = set(t, 0, 1);
+    unsigned other = skip(t);
+    unsigned branch = assemble_node3(t, FLOW_IF, condition, one, other);
+    if (then_assign)
+        sequence(t, branch, set(t, 0, 2));
+}
+
+/* if x=0 then skip else skip */
+static void skips_table(struct buffer *t, uint32_t secret, unsigned variables)
+{
+    assemble_table(t, variables, 0, NULL, secret, 0);
+    unsigned condition = compare(t, FLOW_EQUAL, 0, 0);
+    unsigned one = skip(t);
+    unsigned other = skip(t);
+    assemble_node3(t, FLOW_IF, condition, one, other);
+}
+
+/* i, j, x are variables 0, 1, 2 */
+void bounds_check_table(struct buffer *t)
+{
+    static const uint16_t counts[] = {4, 256, 1};
+    assemble_table(t, 3, 3, counts, 0, 4);
+    unsigned condition = compare(t, FLOW_LESS, 0, 4);
+    unsigned i = variable(t, 0);
+    unsigned first = assemble_node3(t, FLOW_READ, 1, 0, i);
+    unsigned j = variable(t, 1);
+    unsigned second = assemble_node3(t, FLOW_READ, 2, 1, j);
+    unsigned reads = sequence(t, first, second);
+    assemble_node3(t, FLOW_IF, condition, reads, skip(t));
+}
+
+/* As many skips as make this many nodes (odd), or one more by a loop that never turns. */
+static void skip_chain_table(struct buffer *t, unsigned nodes)
+{
+    assemble_table(t, 1, 0, NULL, 1, 0);
+    unsigned condition = nodes % 2 == 0 ? assemble_node1(t, FLOW_NOT, assemble_node1(t, FLOW_CONSTANT, 1)) : 0;
+    unsigned last = skip(t);
+    if (nodes % 2 == 0)
+        last = assemble_node2(t, FLOW_WHILE, condition, last);
+    while (last + 1 < nodes)
+        last = sequence(t, last, skip(t));
+}
+
+/* ---- The cases ---------------------------------------------------------------------------------------------------------- */
+
+static uint8_t output[FLOW_SHEET_BYTES];
+static uint8_t answer[FLOW_ANSWER_BYTES];
+
+static uint64_t answered(unsigned number)
+{
+    return get64(answer + 8 * number);
+}
+
+static uint64_t sheet(const struct buffer *t)
+{
+    return flow_sheet(t->bytes, t->length, output, sizeof output, answer, sizeof answer);
+}
+
+static uint64_t harden(const struct buffer *t)
+{
+    return flow_harden(t->bytes, t->length, output, sizeof output, answer, sizeof answer);
+}
+
+static void case_no_bytes(void)
+{
+    expect(flow_sheet(NULL, 0, NULL, 0, answer, sizeof answer) == FLOW_CUT && answered(1) == 0, "no bytes: 1 at 0");
+    expect(flow_harden(NULL, 0, NULL, 0, NULL, 0) == FLOW_CUT, "no bytes, nothing lent: 1");
+}
+
+static void case_limits(void)
+{
+    struct buffer t = {0};
+    skip_chain_table(&t, 512);
+    expect(harden(&t) == FLOW_ACCEPTED, "N 512 hardens");
+    buffer_free(&t);
+    skip_chain_table(&t, 513);
+    expect(harden(&t) == FLOW_TOO_MANY_NODES && answered(1) == 0, "N 513 is 8");
+    buffer_free(&t);
+    skips_table(&t, 0, 31);
+    expect(harden(&t) == FLOW_ACCEPTED, "V 31 hardens");
+    buffer_free(&t);
+    skips_table(&t, 0, 32);
+    expect(harden(&t) == FLOW_NO_FREE_VARIABLE && answered(1) == 0, "V 32 is 9");
+    buffer_free(&t);
+}
+
+static void case_chain(void)
+{
+    struct buffer t = {0};
+    chain_table(&t, true);
+    expect(sheet(&t) == FLOW_ACCEPTED && get32(output + 8) == 15, "the chain in a loop: variable mask 15");
+    const uint8_t *loop = output + answered(1) - 14; /* the last record */
+    expect(get16(loop + 2) == FLOW_SHEET_WHILE && get16(loop + 6) == 1 && get32(loop + 8) == 15, "its condition is secret");
+    buffer_free(&t);
+    chain_table(&t, false);
+    expect(sheet(&t) == FLOW_ACCEPTED && get32(output + 8) == 12, "the chain without the loop: variable mask 12");
+    buffer_free(&t);
+}
+
+static void case_branch(void)
+{
+    struct buffer t = {0};
+    branch_table(&t, false);
+    expect(sheet(&t) == FLOW_ACCEPTED && get32(output + 8) == 3, "assigned under a secret condition: secret");
+    buffer_free(&t);
+    branch_table(&t, true);
+    expect(sheet(&t) == FLOW_ACCEPTED && get32(output + 8) == 2, "then assigned a number: public");
+    buffer_free(&t);
+}
+
+static void case_sizes(void)
+{
+    struct buffer t = {0};
+    skips_table(&t, 1, 1);
+    expect(t.length == 60 && harden(&t) == FLOW_ACCEPTED && answered(1) == 274 && get16(output + 8) == 34,
+           "6 nodes and 60 bytes become 34 nodes and 274 bytes");
+    buffer_free(&t);
+    skips_table(&t, 0, 1);
+    expect(harden(&t) == FLOW_ACCEPTED && get16(output + 8) == 22, "x public: 22 nodes");
+    buffer_free(&t);
+}
+
+/* One run of the bounds check, on a table and with i as given.  Array 2 holds 77. */
+static size_t guess_bounds_check(const uint8_t *table, size_t length, uint32_t i, const struct buffer *list, uint8_t *seen)
+{
+    uint8_t variables[4 * 4] = {0}, cells[4 * 261] = {0}, pending[4 * 256];
+    size_t words = table[6];
+    put32(variables, i);
+    put32(cells + 4 * 260, 77);
+    flow_guess(table, length, list->bytes, list->length, variables, 4 * words, cells, sizeof cells, pending, sizeof pending,
+               seen, 60, 1000, answer, sizeof answer);
+    return answered(4);
+}
+
+/* branch 0, read 0 4, read 1 and the last index */
+static bool shows_bounds_check(const uint8_t *seen, size_t length, uint8_t last)
+{
+    const uint8_t shown[26] = {6, 0, 64, 0, 0, 0, 10, 0, 65, 0, 0, 0, 4, 0, 0, 0, 10, 0, 65, 0, 1, 0, last};
+    return length == sizeof shown && memcmp(seen, shown, sizeof shown) == 0;
+}
+
+static void case_bounds_check(void)
+{
+    struct buffer t = {0}, list = {0}, short_list = {0};
+    uint8_t seen[60];
+    bounds_check_table(&t);
+    assemble_directive(&list, FLOW_FORCE);
+    assemble_redirect(&list, FLOW_LOAD, 2, 0);
+    assemble_directive(&list, FLOW_STEP);
+    size_t length = guess_bounds_check(t.bytes, t.length, 4, &list, seen);
+    expect(shows_bounds_check(seen, length, 77), "bounds check, plain: branch 0, read 0 4, read 1 77");
+    expect(harden(&t) == FLOW_ACCEPTED, "the bounds check hardens");
+    size_t hardened = answered(1);
+    length = guess_bounds_check(output, hardened, 4, &list, seen);
+    expect(shows_bounds_check(seen, length, 0), "bounds check, hardened: branch 0, read 0 4, read 1 0");
+    assemble_directive(&short_list, FLOW_FORCE);
+    assemble_redirect(&short_list, FLOW_LOAD, 2, 0);
+    length = guess_bounds_check(t.bytes, t.length, 3, &short_list, seen);
+    expect(length == 6 && get16(seen + 4) == 1 && answered(1) == FLOW_FINISHED && answered(3) == 1,
+           "i = 3 with force, load: branch 1, finished, one directive used");
+    buffer_free(&t);
+    buffer_free(&list);
+    buffer_free(&short_list);
+}
+
+static void case_budget_zero(void)
+{
+    struct buffer t = {0};
+    uint8_t variables[12] = {0}, cells[4 * 261] = {0}, pending[4 * 32];
+    bounds_check_table(&t);
+    expect(flow_run(t.bytes, t.length, variables, sizeof variables, cells, sizeof cells, pending, sizeof pending, NULL, 0, 0,
+                    answer, sizeof answer) == FLOW_ACCEPTED &&
+               answered(1) == FLOW_SPENT && answered(2) == 0,
+           "budget 0: spent, 0 steps");
+    buffer_free(&t);
+}
+
+static void case_skip(void)
+{
+    static const uint8_t input[] = {10, 0, 1, 0, 1, 0, 0, 0, 1, 0, 10, 0, 3, 0, 0, 0, 0, 0, 0, 0, 4, 0, 48, 0};
+    static const uint8_t wanted[] = {10, 0, 1, 0, 1, 0, 1, 0, 1, 0, 10, 0, 3, 0, 0, 0, 0, 0, 0, 0, 4, 0, 48, 0};
+    expect(flow_harden(input, sizeof input, output, sizeof output, answer, sizeof answer) == FLOW_ACCEPTED &&
+               answered(1) == sizeof wanted && memcmp(output, wanted, sizeof wanted) == 0,
+           "skip hardens to the bytes that document 01 gives");
+}
+
+bool cases_hold(void)
+{
+    all_hold = true;
+    case_no_bytes();
+    case_limits();
+    case_chain();
+    case_branch();
+    case_sizes();
+    case_bounds_check();
+    case_budget_zero();
+    case_skip();
+    return all_hold;
+}

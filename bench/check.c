@@ -1,0 +1,197 @@
+/*
+ * Compares libflow.a with the reference on generated calls of all entries: the result, every byte of every slice.  Also plays
+ * demands 2 and 3.
+ * Usage: check [seed [count [first]]].  Without a count it stops by itself after some 20 seconds.
+ */
+#define _XOPEN_SOURCE 700
+
+#include <inttypes.h>
+#include <signal.h>
+#include <stdio.h>
+#include <stdlib.h>
+#include <string.h>
+#include <time.h>
+#include <unistd.h>
+
+#include "call.h"
+#include "cases.h"
+#include "demands.h"
+#include "flow.h"
+#include "generate.h"
+#include "little_endian.h"
+#include "reference.h"
+
+enum { DEFAULT_SECONDS = 20, HANGING_SECONDS = 120, MOST_REFUSAL = 23, MOST_END = 5 };
+
+struct tally {
+    uint64_t refusals[ENTRIES][MOST_REFUSAL + 1]; /* 0: accepted */
+    uint64_t ends[ENTRIES][MOST_END + 1];
+    struct plays plays;
+};
+
+/* ---- Comparing ---------------------------------------------------------------------------------------------------------- */
+
+/* The place of refusal 6 is free: where the library's is allowed, it becomes the reference's before bytes are compared. */
+static void settle_free_place(struct call *library, const struct call *reference, uint64_t result)
+{
+    struct slice *answer = &library->slices[SLICE_ANSWER];
+    const struct slice *table = &library->slices[SLICE_TABLE];
+    if (result == FLOW_NOT_A_TREE && answer->length >= 16 &&
+        reference_breaks_tree_rule(table->bytes, table->length, call_answer(library, 1)))
+        put64(answer->bytes + 8, call_answer(reference, 1));
+}
+
+static void print_call(const struct call *call)
+{
+    printf("  %s, budget %" PRIu32 "\n", entry_names[call->entry], call->budget);
+    for (unsigned i = 0; i < SLICES; i++) {
+        printf("    %-13s %6zu bytes%s ", slice_names[i], call->slices[i].length, call->slices[i].bytes == NULL ? ", NULL" : "");
+        print_hex(stdout, call->slices[i].bytes, call->slices[i].length);
+        printf("\n");
+    }
+}
+
+static void print_difference(const struct call *before, const struct call *library, const struct call *reference,
+                             uint64_t library_result, uint64_t reference_result)
+{
+    printf("result: library %" PRIu64 ", reference %" PRIu64 "\n", library_result, reference_result);
+    for (unsigned i = 0; i < SLICES; i++)
+        if (!slice_equal(&library->slices[i], &reference->slices[i]))
+            printf("slice %s differs\n", slice_names[i]);
+    printf("at entry:\n");
+    print_call(before);
+    printf("after the library:\n");
+    print_call(library);
+    printf("after the reference:\n");
+    print_call(reference);
+}
+
+static void count_call(struct tally *tally, const struct call *reference, uint64_t result)
+{
+    tally->refusals[reference->entry][result]++;
+    bool machine = reference->entry == ENTRY_RUN || reference->entry == ENTRY_GUESS;
+    if (machine && result == FLOW_ACCEPTED && reference->slices[SLICE_ANSWER].length >= 16)
+        tally->ends[reference->entry][call_answer(reference, 1)]++;
+}
+
+static bool compare_call(const struct call *call, struct tally *tally)
+{
+    struct call library = call_copy(call);
+    struct call reference = call_copy(call);
+    uint64_t library_result = call_library(&library);
+    uint64_t reference_result = call_reference(&reference);
+    bool same = library_result == reference_result;
+    settle_free_place(&library, &reference, library_result);
+    for (unsigned i = 0; i < SLICES; i++)
+        same = same && slice_equal(&library.slices[i], &reference.slices[i]);
+    if (same)
+        count_call(tally, &reference, reference_result);
+    else
+        print_difference(call, &library, &reference, library_result, reference_result);
+    call_free(&library);
+    call_free(&reference);
+    return same;
+}
+
+static bool compare_generated(struct random *r, struct tally *tally)
+{
+    struct call call;
+    generate_call(r, false, &call);
+    bool same = compare_call(&call, tally);
+    call_free(&call);
+    return same;
+}
+
+/* ---- Crashes and hanging ------------------------------------------------------------------------------------------------ */
+
+static volatile uint64_t current_seed, current_number;
+
+/* A call that crashes or hangs is a difference too: says which it was, and how to have it again. */
+static void on_signal(int signal_number)
+{
+    char text[160];
+    int length = snprintf(text, sizeof text, "signal %d in call %" PRIu64 ": check %" PRIu64 " 1 %" PRIu64 " has it again\n",
+                          signal_number, current_number, current_seed, current_number);
+    if (write(STDOUT_FILENO, text, (size_t)length) < 0)
+        _exit(2);
+    _exit(1);
+}
+
+static void watch_signals(void)
+{
+    static char other_stack[65536]; /* the usual one may be what ran out */
+    stack_t stack = {.ss_sp = other_stack, .ss_size = sizeof other_stack};
+    struct sigaction action = {.sa_handler = on_signal, .sa_flags = SA_ONSTACK};
+    sigaltstack(&stack, NULL);
+    sigaction(SIGSEGV, &action, NULL);
+    sigaction(SIGBUS, &action, NULL);
+    sigaction(SIGILL, &action, NULL);
+    sigaction(SIGFPE, &action, NULL);
+    sigaction(SIGALRM, &action, NULL);
+}
+
+/* ---- The whole ---------------------------------------------------------------------------------------------------------- */
+
+static void print_counts(const char *heading, const uint64_t *counts, unsigned first, unsigned last)
+{
+    printf("    %s", heading);
+    for (unsigned i = first; i <= last; i++)
+        if (counts[i] > 0)
+            printf("  %u: %" PRIu64, i, counts[i]);
+    printf("\n");
+}
+
+static void print_tally(const struct tally *tally)
+{
+    for (unsigned entry = 0; entry < ENTRIES; entry++) {
+        uint64_t calls = 0;
+        for (unsigned refusal = 0; refusal <= MOST_REFUSAL; refusal++)
+            calls += tally->refusals[entry][refusal];
+        printf("  %s: %" PRIu64 " calls, %" PRIu64 " accepted\n", entry_names[entry], calls, tally->refusals[entry][0]);
+        print_counts("refusals", tally->refusals[entry], 1, MOST_REFUSAL);
+        if (entry == ENTRY_RUN || entry == ENTRY_GUESS)
+            print_counts("ends    ", tally->ends[entry], 1, MOST_END);
+    }
+    const struct plays *plays = &tally->plays;
+    printf("  demand 2: %" PRIu64 " runs of hardened programs without guessing, as the original's\n", plays->same_runs);
+    printf("  demand 3: %" PRIu64 " pairs of states, %" PRIu64 " with related plain runs; %" PRIu64 " scripts played to these, "
+           "with %" PRIu64 " forces and %" PRIu64 " loads and stores\n",
+           plays->pairs, plays->related, plays->scripts, plays->forced, plays->redirected);
+    printf("    (%" PRIu64 " scripts told the states apart on the program before hardening)\n", plays->leaks_before);
+}
+
+static bool check_number(uint64_t seed, uint64_t number, struct tally *tally)
+{
+    struct random r = random_from(seed, number);
+    current_seed = seed;
+    current_number = number;
+    alarm(HANGING_SECONDS);
+    bool same = number % 8 == 7 ? play_demands(&r, &tally->plays) : compare_generated(&r, tally);
+    if (!same)
+        printf("this was call %" PRIu64 ": check %" PRIu64 " 1 %" PRIu64 " has it again\n", number, seed, number);
+    return same;
+}
+
+static bool time_is_up(time_t start, uint64_t done, uint64_t count)
+{
+    return count > 0 ? done == count : time(NULL) - start >= DEFAULT_SECONDS;
+}
+
+int main(int argc, char **argv)
+{
+    static struct tally tally;
+    uint64_t seed = argc > 1 ? strtoull(argv[1], NULL, 10) : 1;
+    uint64_t count = argc > 2 ? strtoull(argv[2], NULL, 10) : 0;
+    uint64_t first = argc > 3 ? strtoull(argv[3], NULL, 10) : 0;
+    time_t start = time(NULL);
+    setvbuf(stdout, NULL, _IOLBF, 0);
+    watch_signals();
+    if (!cases_hold())
+        return 1;
+    for (uint64_t done = 0; !time_is_up(start, done, count); done++)
+        if (!check_number(seed, first + done, &tally))
+            return 1;
+    printf("library and reference agree (seed %" PRIu64 ")\n", seed);
+    print_tally(&tally);
+    return 0;
+}

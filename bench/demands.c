@@ -1,0 +1,376 @@
+#include "demands.h"
+
+#include <stdio.h>
+#include <string.h>
+
+#include "flow.h"
+#include "little_endian.h"
+
+enum {
+    MOST_STEPS = 600,
+    SLOWER = 6, /* a hardened program takes fewer than this many steps for one of the original's */
+    SCRIPTS = 4
+};
+
+/* A program, hardened, and two states of its variables and cells. */
+struct scene {
+    struct buffer table;
+    struct slice hardened;
+    unsigned variables;
+    struct slice state_variables[2], state_cells[2];
+};
+
+/* What a run shows and leaves, and which directives led it. */
+struct shown {
+    struct slice bytes, variables, cells;
+    uint64_t end;
+    unsigned forced, redirected;
+};
+
+static void free_shown(struct shown *shown)
+{
+    slice_free(&shown->bytes);
+    slice_free(&shown->variables);
+    slice_free(&shown->cells);
+}
+
+/* ---- The program -------------------------------------------------------------------------------------------------------- */
+
+/* The variables i, j, x and k of a gadget; arrays 0 and 1 are public, array 2 is secret. */
+enum { I, J, X, K };
+
+static unsigned gadget_sequence(struct buffer *t, unsigned first, unsigned second)
+{
+    return assemble_node2(t, FLOW_SEQUENCE, first, second);
+}
+
+/* j := array[index], the index a variable or, where it is none, 0 */
+static unsigned gadget_read(struct buffer *t, unsigned array, unsigned index)
+{
+    unsigned at = index <= K ? assemble_node1(t, FLOW_VARIABLE, index) : assemble_node1(t, FLOW_NUMBER, 0);
+    return assemble_node3(t, FLOW_READ, J, array, at);
+}
+
+/* An access that shows j: x := a1[j], or a1[j] := k */
+static unsigned gadget_access(struct random *r, struct buffer *t)
+{
+    unsigned index = assemble_node1(t, FLOW_VARIABLE, J);
+    if (random_percent(r, 50))
+        return assemble_node3(t, FLOW_READ, X, 1, index);
+    return assemble_node3(t, FLOW_WRITE, 1, index, assemble_node1(t, FLOW_VARIABLE, K));
+}
+
+/* Before the branch, maybe, j := a2[0], and before that a2[1] := 0, which must not make the array public. */
+static unsigned gadget_start(struct random *r, struct buffer *t)
+{
+    if (random_percent(r, 40))
+        return assemble_node0(t, FLOW_SKIP);
+    unsigned secret = gadget_read(t, 2, K + 1);
+    if (random_percent(r, 50))
+        return secret;
+    unsigned index = assemble_node1(t, FLOW_NUMBER, 1);
+    unsigned write = assemble_node3(t, FLOW_WRITE, 2, index, assemble_node1(t, FLOW_NUMBER, 0));
+    return gadget_sequence(t, write, secret);
+}
+
+/*
+ * start; if i<bound then (j:=a0[i]; access j) else skip, or its like with a loop or without the first read, with sizes and labels
+ * by chance: the programs that leak most easily.
+ */
+static void generate_gadget(struct random *r, struct buffer *t)
+{
+    uint16_t counts[] = {(uint16_t)(1 + random_below(r, 4)), (uint16_t)(1 + random_below(r, 6)), 3};
+    assemble_table(t, 4, 3, counts, random_below(r, 2) << K, 4);
+    unsigned start = gadget_start(r, t);
+    unsigned i = assemble_node1(t, FLOW_VARIABLE, I);
+    unsigned condition = assemble_node2(t, FLOW_LESS, i, assemble_node1(t, FLOW_NUMBER, random_below(r, counts[0] + 1u)));
+    unsigned body = gadget_access(r, t);
+    if (random_percent(r, 60))
+        body = gadget_sequence(t, gadget_read(t, 0, I), body);
+    if (random_percent(r, 50))
+        body = assemble_node3(t, FLOW_IF, condition, body, assemble_node0(t, FLOW_SKIP));
+    else
+        body = assemble_node2(t, FLOW_WHILE, condition, body);
+    gadget_sequence(t, start, body);
+}
+
+static void generate_program(struct random *r, struct buffer *table)
+{
+    if (random_percent(r, 30)) {
+        generate_gadget(r, table);
+        return;
+    }
+    struct plan plan = plan_small(r, random_percent(r, 80) ? 50 : 150);
+    plan.accesses = 60;
+    generate_table(r, &plan, table);
+}
+
+/* ---- The states --------------------------------------------------------------------------------------------------------- */
+
+static void make_states(struct random *r, struct scene *scene)
+{
+    const uint8_t *table = scene->table.bytes;
+    unsigned variables = table[6], arrays = table[7];
+    uint32_t secret_variables = get32(table + 14), secret_arrays = get16(table + 18);
+    size_t cells = 0;
+    for (unsigned array = 0; array < arrays; array++)
+        cells += get16(table + 24 + 6 * array);
+    scene->variables = variables;
+    slice_new(&scene->state_variables[0], 4 * (size_t)variables);
+    slice_new(&scene->state_cells[0], 4 * cells);
+    generate_words(r, scene->state_variables[0].bytes, variables);
+    generate_words(r, scene->state_cells[0].bytes, cells);
+    slice_from(&scene->state_variables[1], scene->state_variables[0].bytes, 4 * (size_t)variables);
+    slice_from(&scene->state_cells[1], scene->state_cells[0].bytes, 4 * cells);
+    unsigned changed = random_percent(r, 50) ? 100 : 40; /* percent of the secrets that differ */
+    for (unsigned x = 0; x < variables; x++)
+        if ((secret_variables >> x & 1) != 0 && random_percent(r, changed))
+            generate_words(r, scene->state_variables[1].bytes + 4 * x, 1);
+    uint8_t *cell = scene->state_cells[1].bytes;
+    for (unsigned array = 0; array < arrays; array++) {
+        unsigned count = get16(table + 24 + 6 * array);
+        if ((secret_arrays >> array & 1) != 0 && random_percent(r, changed))
+            generate_words(r, cell, count);
+        cell += 4 * count;
+    }
+}
+
+/* ---- Runs --------------------------------------------------------------------------------------------------------------- */
+
+/* A call that runs the table from one of the states.  A variable beyond the state's, the flag of a hardened table, is 0. */
+static struct call make_run(const struct scene *scene, const uint8_t *table, size_t length, unsigned state, uint32_t budget)
+{
+    struct call call = {.entry = ENTRY_RUN, .budget = budget};
+    const struct slice *variables = &scene->state_variables[state];
+    const struct slice *cells = &scene->state_cells[state];
+    slice_from(&call.slices[SLICE_TABLE], table, length);
+    slice_new(&call.slices[SLICE_VARIABLES], 4 * (size_t)table[6]);
+    if (table[6] > 0)
+        memset(call.slices[SLICE_VARIABLES].bytes, 0, call.slices[SLICE_VARIABLES].length);
+    if (variables->length > 0)
+        memcpy(call.slices[SLICE_VARIABLES].bytes, variables->bytes, variables->length);
+    slice_from(&call.slices[SLICE_CELLS], cells->bytes, cells->length);
+    slice_new(&call.slices[SLICE_PENDING], 4 * (size_t)get16(table + 8));
+    slice_new(&call.slices[SLICE_OBSERVATIONS], 10 * (size_t)budget);
+    slice_new(&call.slices[SLICE_ANSWER], FLOW_ANSWER_BYTES);
+    return call;
+}
+
+static void count_directives(const struct call *call, struct shown *shown)
+{
+    const uint8_t *at = call->slices[SLICE_DIRECTIVES].bytes;
+    for (uint64_t left = call_answer(call, 3); left > 0; left--) {
+        unsigned kind = get16(at + 2);
+        shown->forced += kind == FLOW_FORCE;
+        shown->redirected += kind == FLOW_LOAD || kind == FLOW_STORE;
+        at += get16(at);
+    }
+}
+
+/* Runs without guessing where `list` is NULL. */
+static struct shown show(const struct scene *scene, const uint8_t *table, size_t length, unsigned state,
+                         const struct buffer *list, uint32_t budget)
+{
+    struct shown shown = {0};
+    struct call call = make_run(scene, table, length, state, budget);
+    if (list != NULL) {
+        call.entry = ENTRY_GUESS;
+        slice_from(&call.slices[SLICE_DIRECTIVES], list->bytes, list->length);
+    }
+    if (call_library(&call) == FLOW_ACCEPTED) {
+        const struct slice *variables = &call.slices[SLICE_VARIABLES], *cells = &call.slices[SLICE_CELLS];
+        shown.end = call_answer(&call, 1);
+        slice_from(&shown.bytes, call.slices[SLICE_OBSERVATIONS].bytes, call_answer(&call, 4));
+        slice_from(&shown.variables, variables->bytes, variables->length);
+        slice_from(&shown.cells, cells->bytes, cells->length);
+        count_directives(&call, &shown);
+    }
+    call_free(&call);
+    return shown;
+}
+
+/* Does one of the two begin the other?  Both are whole records, so bytes decide it. */
+static bool one_begins(const struct slice *one, const struct slice *other)
+{
+    size_t shorter = one->length < other->length ? one->length : other->length;
+    return shorter == 0 || memcmp(one->bytes, other->bytes, shorter) == 0;
+}
+
+/* A shorter budget shows the beginning of what a longer one shows, so the longest decides all. */
+static bool plain_runs_related(const struct scene *scene)
+{
+    struct shown one = show(scene, scene->table.bytes, scene->table.length, 0, NULL, MOST_STEPS);
+    struct shown other = show(scene, scene->table.bytes, scene->table.length, 1, NULL, MOST_STEPS);
+    bool related = one_begins(&one.bytes, &other.bytes);
+    free_shown(&one);
+    free_shown(&other);
+    return related;
+}
+
+/* ---- Demand 2 ----------------------------------------------------------------------------------------------------------- */
+
+static void print_named(const char *name, const uint8_t *bytes, size_t length)
+{
+    printf("  %-14s", name);
+    print_hex(stdout, bytes, length);
+    printf("\n");
+}
+
+/* The hardened program's variables are the original's and a flag that is 0. */
+static bool same_variables(const struct shown *original, const struct shown *hardened)
+{
+    size_t length = original->variables.length;
+    return hardened->variables.length == length + 4 && get32(hardened->variables.bytes + length) == 0 &&
+           (length == 0 || memcmp(original->variables.bytes, hardened->variables.bytes, length) == 0);
+}
+
+/* Finishes or sticks as the original does, having shown the same; a run of the original that was cut is at least begun. */
+static bool runs_as(const struct shown *original, const struct shown *hardened)
+{
+    if (original->end == FLOW_SPENT)
+        return original->bytes.length <= hardened->bytes.length && one_begins(&original->bytes, &hardened->bytes);
+    return original->end == hardened->end && slice_equal(&original->bytes, &hardened->bytes) &&
+           same_variables(original, hardened) && slice_equal(&original->cells, &hardened->cells);
+}
+
+static bool play_same_run(const struct scene *scene, unsigned state, struct plays *plays)
+{
+    struct shown original = show(scene, scene->table.bytes, scene->table.length, state, NULL, MOST_STEPS);
+    struct shown hardened = show(scene, scene->hardened.bytes, scene->hardened.length, state, NULL, SLOWER * MOST_STEPS);
+    bool same = runs_as(&original, &hardened);
+    plays->same_runs++;
+    if (!same) {
+        printf("the hardened program does not run as the original without guessing (demand 2)\n");
+        print_named("table", scene->table.bytes, scene->table.length);
+        print_named("hardened", scene->hardened.bytes, scene->hardened.length);
+        print_named("variables", scene->state_variables[state].bytes, scene->state_variables[state].length);
+        print_named("cells", scene->state_cells[state].bytes, scene->state_cells[state].length);
+        print_named("original shows", original.bytes.bytes, original.bytes.length);
+        print_named("hardened shows", hardened.bytes.bytes, hardened.bytes.length);
+    }
+    free_shown(&original);
+    free_shown(&hardened);
+    return same;
+}
+
+/* ---- Demand 3 ----------------------------------------------------------------------------------------------------------- */
+
+static void write_script(struct random *r, const struct scene *scene, const uint8_t *table, size_t length, struct buffer *list)
+{
+    if (random_percent(r, 85)) {
+        struct call call = make_run(scene, table, length, random_below(r, 2), MOST_STEPS);
+        call.entry = ENTRY_GUESS;
+        generate_script(r, &call, 1 + random_below(r, 25), 10 + random_below(r, 70), list);
+        call_free(&call);
+    }
+    if (random_percent(r, 30))
+        generate_directives(r, 10, list);
+}
+
+static void print_scene(const struct scene *scene, const struct buffer *list, const uint32_t *budgets, const struct shown *shown)
+{
+    static const char *const names[2][3] = {{"variables 1", "cells 1", "shows 1"}, {"variables 2", "cells 2", "shows 2"}};
+    printf("the hardened program tells two states apart (demand 3), budgets %u and %u\n", budgets[0], budgets[1]);
+    print_named("table", scene->table.bytes, scene->table.length);
+    print_named("hardened", scene->hardened.bytes, scene->hardened.length);
+    print_named("directives", list->bytes, list->length);
+    for (unsigned state = 0; state < 2; state++) {
+        print_named(names[state][0], scene->state_variables[state].bytes, scene->state_variables[state].length);
+        print_named(names[state][1], scene->state_cells[state].bytes, scene->state_cells[state].length);
+        print_named(names[state][2], shown[state].bytes.bytes, shown[state].bytes.length);
+    }
+}
+
+static bool play_script(struct random *r, const struct scene *scene, struct plays *plays)
+{
+    struct buffer list = {0};
+    struct shown shown[2];
+    uint32_t budgets[2] = {MOST_STEPS, MOST_STEPS};
+    if (random_percent(r, 25)) {
+        budgets[0] = random_below(r, MOST_STEPS);
+        budgets[1] = random_below(r, MOST_STEPS);
+    }
+    write_script(r, scene, scene->hardened.bytes, scene->hardened.length, &list);
+    for (unsigned state = 0; state < 2; state++)
+        shown[state] = show(scene, scene->hardened.bytes, scene->hardened.length, state, &list, budgets[state]);
+    bool same = one_begins(&shown[0].bytes, &shown[1].bytes);
+    plays->scripts++;
+    plays->forced += shown[0].forced + shown[1].forced;
+    plays->redirected += shown[0].redirected + shown[1].redirected;
+    if (!same)
+        print_scene(scene, &list, budgets, shown);
+    for (unsigned state = 0; state < 2; state++)
+        free_shown(&shown[state]);
+    buffer_free(&list);
+    return same;
+}
+
+/* Does a script written for the program before hardening tell the states apart there? */
+static bool leaks_before_hardening(struct random *r, const struct scene *scene)
+{
+    struct buffer list = {0};
+    write_script(r, scene, scene->table.bytes, scene->table.length, &list);
+    struct shown one = show(scene, scene->table.bytes, scene->table.length, 0, &list, MOST_STEPS);
+    struct shown other = show(scene, scene->table.bytes, scene->table.length, 1, &list, MOST_STEPS);
+    bool leaks = !one_begins(&one.bytes, &other.bytes);
+    free_shown(&one);
+    free_shown(&other);
+    buffer_free(&list);
+    return leaks;
+}
+
+/* ---- A play ------------------------------------------------------------------------------------------------------------- */
+
+static bool harden_table(struct scene *scene)
+{
+    struct call call = {.entry = ENTRY_HARDEN};
+    slice_from(&call.slices[SLICE_TABLE], scene->table.bytes, scene->table.length);
+    slice_new(&call.slices[SLICE_OUTPUT], FLOW_TABLE_BYTES);
+    slice_new(&call.slices[SLICE_ANSWER], FLOW_ANSWER_BYTES);
+    bool accepted = call_library(&call) == FLOW_ACCEPTED;
+    if (accepted)
+        slice_from(&scene->hardened, call.slices[SLICE_OUTPUT].bytes, call_answer(&call, 1));
+    call_free(&call);
+    return accepted;
+}
+
+static void free_scene(struct scene *scene)
+{
+    buffer_free(&scene->table);
+    slice_free(&scene->hardened);
+    for (unsigned state = 0; state < 2; state++) {
+        slice_free(&scene->state_variables[state]);
+        slice_free(&scene->state_cells[state]);
+    }
+}
+
+static bool play_scripts(struct random *r, const struct scene *scene, struct plays *plays)
+{
+    bool same = true;
+    plays->related++;
+    for (unsigned script = 0; same && script < SCRIPTS; script++) {
+        same = play_script(r, scene, plays);
+        plays->leaks_before += leaks_before_hardening(r, scene);
+    }
+    return same;
+}
+
+bool play_demands(struct random *r, struct plays *plays)
+{
+    struct scene scene = {0};
+    bool same = true;
+    generate_program(r, &scene.table);
+    make_states(r, &scene);
+    plays->pairs++;
+    if (!harden_table(&scene)) {
+        printf("a valid table does not harden\n");
+        print_named("table", scene.table.bytes, scene.table.length);
+        same = false;
+    } else {
+        same = play_same_run(&scene, 0, plays) && play_same_run(&scene, 1, plays);
+        if (same && plain_runs_related(&scene))
+            same = play_scripts(r, &scene, plays);
+    }
+    free_scene(&scene);
+    return same;
+}

@@ -1,0 +1,910 @@
+#include "generate.h"
+
+#include <stdlib.h>
+#include <string.h>
+
+#include "kinds.h"
+#include "little_endian.h"
+#include "reference.h"
+
+/* ---- Chance ------------------------------------------------------------------------------------------------------------- */
+
+/* splitmix64 */
+static uint64_t random_next(struct random *r)
+{
+    uint64_t x = r->state += 0x9e3779b97f4a7c15u;
+    x = (x ^ x >> 30) * 0xbf58476d1ce4e5b9u;
+    x = (x ^ x >> 27) * 0x94d049bb133111ebu;
+    return x ^ x >> 31;
+}
+
+struct random random_from(uint64_t seed, uint64_t number)
+{
+    struct random r = {seed};
+    r.state = random_next(&r) ^ number * 0xd1342543de82ef95u;
+    r.state = random_next(&r);
+    return r;
+}
+
+uint32_t random_below(struct random *r, uint32_t bound)
+{
+    return (uint32_t)(random_next(r) % bound);
+}
+
+bool random_percent(struct random *r, unsigned percent)
+{
+    return random_below(r, 100) < percent;
+}
+
+void random_fill(struct random *r, uint8_t *bytes, size_t length)
+{
+    for (size_t i = 0; i < length; i++)
+        bytes[i] = (uint8_t)random_next(r);
+}
+
+static uint32_t random_word(struct random *r)
+{
+    uint32_t chance = random_below(r, 100);
+    if (chance < 75)
+        return random_below(r, 6);
+    if (chance < 85)
+        return (uint32_t)0 - random_below(r, 4);
+    if (chance < 92)
+        return random_below(r, 300);
+    return (uint32_t)random_next(r);
+}
+
+/* ---- Plans -------------------------------------------------------------------------------------------------------------- */
+
+static uint32_t random_mask(struct random *r, unsigned width)
+{
+    uint32_t mask = (uint32_t)random_next(r);
+    switch (random_below(r, 4)) {
+    case 0: mask = 0; break;
+    case 1: mask &= (uint32_t)random_next(r) & (uint32_t)random_next(r); break;
+    case 2: mask &= (uint32_t)random_next(r); break;
+    }
+    return width == 32 ? mask : mask & (((uint32_t)1 << width) - 1);
+}
+
+static void plan_labels(struct random *r, struct plan *plan)
+{
+    plan->secret_variables = random_mask(r, plan->variables);
+    plan->secret_arrays = random_mask(r, plan->arrays);
+}
+
+static void plan_style(struct random *r, struct plan *plan)
+{
+    plan->shape = random_below(r, SHAPES);
+    plan->order = random_below(r, ORDERS);
+    plan->loops = random_below(r, 4) * 12;
+    plan->accesses = 20 + random_below(r, 50);
+    plan->long_expressions = random_percent(r, 15) ? random_below(r, 40) : 0;
+}
+
+struct plan plan_small(struct random *r, unsigned most_nodes)
+{
+    struct plan plan = {0};
+    plan.variables = random_percent(r, 5) ? 0 : 1 + random_below(r, 6);
+    plan.arrays = random_percent(r, 15) ? 0 : 1 + random_below(r, 3);
+    plan.nodes = 1 + random_below(r, most_nodes);
+    for (unsigned array = 0; array < plan.arrays; array++)
+        plan.counts[array] = (uint16_t)(1 + random_below(r, 5));
+    plan_style(r, &plan);
+    plan_labels(r, &plan);
+    return plan;
+}
+
+/* Counts that sum to exactly the most cells, or to a few fewer. */
+static void plan_most_cells(struct random *r, struct plan *plan)
+{
+    unsigned left = FLOW_MAX_CELLS - (random_percent(r, 30) ? random_below(r, 3) : 0);
+    for (unsigned array = 0; array < plan->arrays; array++) {
+        unsigned after = plan->arrays - 1 - array;
+        unsigned count = after == 0 ? left : 1 + random_below(r, left - after);
+        plan->counts[array] = (uint16_t)count;
+        left -= count;
+    }
+}
+
+struct plan plan_boundary(struct random *r)
+{
+    static const unsigned nodes[] = {1, 2, 3, 511, 512, 512, 513, 4095, 4096};
+    static const unsigned variables[] = {0, 1, 30, 31, 31, 32};
+    static const unsigned arrays[] = {0, 1, 15, 16};
+    struct plan plan = {0};
+    plan.nodes = nodes[random_below(r, sizeof nodes / sizeof *nodes)];
+    plan.variables = variables[random_below(r, sizeof variables / sizeof *variables)];
+    plan.arrays = arrays[random_below(r, sizeof arrays / sizeof *arrays)];
+    if (random_percent(r, 40))
+        plan_most_cells(r, &plan);
+    else
+        for (unsigned array = 0; array < plan.arrays; array++)
+            plan.counts[array] = (uint16_t)(1 + random_below(r, 9));
+    plan_style(r, &plan);
+    plan_labels(r, &plan);
+    return plan;
+}
+
+/* Loops in loops, which a careless analysis takes exponential time for. */
+static struct plan plan_loops(struct random *r)
+{
+    struct plan plan = plan_small(r, 512);
+    plan.nodes = 100 + random_below(r, 413);
+    plan.shape = SHAPE_DEEP;
+    plan.loops = 80;
+    return plan;
+}
+
+struct plan plan_any(struct random *r)
+{
+    unsigned chance = random_below(r, 100);
+    if (chance < 60)
+        return plan_small(r, 40);
+    if (chance < 88)
+        return plan_small(r, 160);
+    if (chance < 94)
+        return plan_loops(r);
+    return plan_boundary(r);
+}
+
+/* ---- Trees -------------------------------------------------------------------------------------------------------------- */
+
+enum { NO_PARENT = 0xffff };
+
+/* A tree that has no numbers yet: children are indices into `nodes`, the root is index 0. */
+struct sketch_node {
+    unsigned kind;
+    uint32_t fields[3];
+    unsigned size;           /* of the subtree, to be filled */
+    unsigned parent;
+    unsigned open_children;  /* those without a number */
+    uint32_t number;
+};
+
+struct sketch {
+    const struct plan *plan;
+    struct random *random;
+    unsigned count;
+    struct sketch_node nodes[FLOW_MAX_NODES];
+};
+
+/* Is there a subtree of this sort and exactly this size? */
+static bool size_exists(const struct plan *plan, char sort, unsigned size)
+{
+    if (size != 2)
+        return size >= 1;
+    return sort == 'T' || (sort == 'C' && plan->variables > 0);
+}
+
+static bool kind_possible(const struct plan *plan, unsigned kind)
+{
+    for (const char *field = fields_of(kind); *field; field++)
+        if ((*field == 'x' && plan->variables == 0) || (*field == 'a' && plan->arrays == 0))
+            return false;
+    return true;
+}
+
+static unsigned pick(struct random *r, const uint8_t *kinds, unsigned count)
+{
+    return kinds[random_below(r, count)];
+}
+
+static unsigned pick_command(struct sketch *s, unsigned size)
+{
+    struct random *r = s->random;
+    if (size == 1)
+        return FLOW_SKIP;
+    if ((size < 12 && random_percent(r, 50)) || random_percent(r, s->plan->long_expressions))
+        return !random_percent(r, s->plan->accesses) ? FLOW_ASSIGN : random_percent(r, 60) ? FLOW_READ : FLOW_WRITE;
+    if (random_percent(r, s->plan->loops))
+        return FLOW_WHILE;
+    static const uint8_t larger[] = {FLOW_SEQUENCE, FLOW_SEQUENCE, FLOW_SEQUENCE, FLOW_IF, FLOW_IF, FLOW_WHILE};
+    return pick(r, larger, sizeof larger);
+}
+
+/* A kind that may suit; whether parts of the right sizes exist for it is tried afterwards. */
+static unsigned pick_kind(struct sketch *s, char sort, unsigned size)
+{
+    static const uint8_t leaves[] = {FLOW_NUMBER, FLOW_VARIABLE, FLOW_VARIABLE};
+    static const uint8_t numerics[] = {FLOW_ADD, FLOW_SUBTRACT, FLOW_MULTIPLY, FLOW_CHOICE};
+    static const uint8_t truths[] = {FLOW_EQUAL, FLOW_LESS, FLOW_LESS, FLOW_NOT, FLOW_AND};
+    if (sort == 'N')
+        return size == 1 ? pick(s->random, leaves, sizeof leaves) : pick(s->random, numerics, sizeof numerics);
+    if (sort == 'T')
+        return size == 1 ? FLOW_CONSTANT : pick(s->random, truths, sizeof truths);
+    return pick_command(s, size);
+}
+
+/* A kind whose parts have sizes for certain, where the tries above have failed. */
+static unsigned fallback_kind(char sort, unsigned size)
+{
+    switch (sort) {
+    case 'N': return size == 1 ? FLOW_NUMBER : size == 4 ? FLOW_CHOICE : FLOW_ADD;
+    case 'T': return size == 1 ? FLOW_CONSTANT : FLOW_NOT;
+    default: return size == 1 ? FLOW_SKIP : size == 2 ? FLOW_ASSIGN : size == 4 ? FLOW_IF : FLOW_SEQUENCE;
+    }
+}
+
+/* Shares `total` out among `count` parts of at least 1. */
+static void share(struct random *r, enum shape shape, unsigned total, unsigned count, unsigned *parts)
+{
+    unsigned spare = total - count;
+    unsigned favourite = random_below(r, count);
+    for (unsigned i = 0; i < count; i++)
+        parts[i] = 1;
+    if (shape == SHAPE_DEEP)
+        parts[favourite] += spare;
+    else if (shape == SHAPE_BALANCED)
+        for (unsigned i = 0; i < count; i++)
+            parts[i] += spare / count + ((i + favourite) % count < spare % count);
+    else
+        for (unsigned i = 0; i < count; i++) {
+            unsigned more = i + 1 == count ? spare : random_below(r, spare + 1);
+            parts[i] += more;
+            spare -= more;
+        }
+}
+
+/*
+ * Sizes for the children of a node, in `sizes` by field.  An expression beside commands stays small, so that programs are mostly
+ * commands.  False: too few nodes.
+ */
+static bool share_fields(struct sketch *s, const char *fields, unsigned size, unsigned *sizes)
+{
+    unsigned total = size - 1, which[3], parts[3], children = 0, commands = 0;
+    for (unsigned i = 0; fields[i]; i++) {
+        children += is_child(fields[i]);
+        commands += fields[i] == 'C';
+    }
+    if (total < children || (children == 0 && total != 0))
+        return false;
+    unsigned count = 0;
+    for (unsigned i = 0; fields[i]; i++) {
+        if (!is_child(fields[i]))
+            continue;
+        if (commands > 0 && fields[i] != 'C' && !random_percent(s->random, s->plan->long_expressions)) {
+            unsigned spare = total - children;
+            sizes[i] = 1 + random_below(s->random, spare < 6 ? spare + 1 : 7);
+            total -= sizes[i];
+            children--;
+        } else
+            which[count++] = i;
+    }
+    if (count > 0)
+        share(s->random, s->plan->shape, total, count, parts);
+    for (unsigned i = 0; i < count; i++)
+        sizes[which[i]] = parts[i];
+    return true;
+}
+
+static bool sizes_exist(const struct plan *plan, const char *fields, const unsigned *sizes)
+{
+    for (unsigned i = 0; fields[i]; i++)
+        if (is_child(fields[i]) && !size_exists(plan, fields[i], sizes[i]))
+            return false;
+    return true;
+}
+
+static unsigned choose_kind(struct sketch *s, char sort, unsigned size, unsigned *sizes)
+{
+    for (unsigned tries = 0; tries < 20; tries++) {
+        unsigned kind = pick_kind(s, sort, size);
+        if (kind_possible(s->plan, kind) && share_fields(s, fields_of(kind), size, sizes) &&
+            sizes_exist(s->plan, fields_of(kind), sizes))
+            return kind;
+    }
+    unsigned kind = fallback_kind(sort, size);
+    const char *fields = fields_of(kind);
+    unsigned left = size - 1;
+    unsigned last = 0;
+    for (unsigned i = 0; fields[i]; i++)
+        if (is_child(fields[i])) {
+            sizes[i] = 1;
+            left--;
+            last = i;
+        }
+    if (left > 0 && *fields)
+        sizes[last] += left;
+    return kind;
+}
+
+static uint32_t random_field(struct sketch *s, char field)
+{
+    switch (field) {
+    case 'n': return random_word(s->random);
+    case 'b': return random_below(s->random, 2);
+    case 'x': return random_below(s->random, s->plan->variables);
+    default: return random_below(s->random, s->plan->arrays);
+    }
+}
+
+static unsigned sketch_open(struct sketch *s, unsigned parent, unsigned size)
+{
+    struct sketch_node *node = &s->nodes[s->count];
+    *node = (struct sketch_node){.size = size, .parent = parent};
+    return s->count++;
+}
+
+/* Fills nodes in the order in which they were opened; each opens its children behind all others. */
+static void sketch_tree(struct sketch *s)
+{
+    char sorts[FLOW_MAX_NODES];
+    sorts[sketch_open(s, NO_PARENT, s->plan->nodes)] = 'C';
+    for (unsigned at = 0; at < s->count; at++) {
+        struct sketch_node *node = &s->nodes[at];
+        unsigned sizes[3];
+        node->kind = choose_kind(s, sorts[at], node->size, sizes);
+        const char *fields = fields_of(node->kind);
+        for (unsigned i = 0; fields[i]; i++) {
+            if (is_child(fields[i])) {
+                node->fields[i] = sketch_open(s, at, sizes[i]);
+                sorts[node->fields[i]] = fields[i];
+                node->open_children++;
+            } else
+                node->fields[i] = random_field(s, fields[i]);
+        }
+    }
+}
+
+static unsigned pick_ready(struct sketch *s, unsigned first, unsigned count)
+{
+    switch (s->plan->order) {
+    case ORDER_NEWEST_FIRST: return count - 1;
+    case ORDER_OLDEST_FIRST: return first;
+    default: return first + random_below(s->random, count - first);
+    }
+}
+
+/* Gives out numbers and puts the nodes: a node is ready when all its children have numbers. */
+static void number_tree(struct sketch *s, struct buffer *table)
+{
+    unsigned ready[FLOW_MAX_NODES], first = 0, count = 0;
+    for (unsigned at = 0; at < s->count; at++)
+        if (s->nodes[at].open_children == 0)
+            ready[count++] = at;
+    while (first < count) {
+        unsigned chosen = pick_ready(s, first, count);
+        struct sketch_node *node = &s->nodes[ready[chosen]];
+        if (s->plan->order == ORDER_NEWEST_FIRST)
+            count--;
+        else {
+            ready[chosen] = ready[first];
+            first++;
+        }
+        const char *fields = fields_of(node->kind);
+        for (unsigned i = 0; fields[i]; i++)
+            if (is_child(fields[i]))
+                node->fields[i] = s->nodes[node->fields[i]].number;
+        node->number = assemble_node(table, node->kind, node->fields);
+        if (node->parent != NO_PARENT && --s->nodes[node->parent].open_children == 0)
+            ready[count++] = node->parent;
+    }
+}
+
+void generate_table(struct random *r, const struct plan *plan, struct buffer *table)
+{
+    struct plan possible = *plan;
+    if (!size_exists(&possible, 'C', possible.nodes))
+        possible.nodes++;
+    struct sketch *s = malloc(sizeof *s);
+    if (s == NULL)
+        abort();
+    s->plan = &possible;
+    s->random = r;
+    s->count = 0;
+    sketch_tree(s);
+    assemble_table(table, possible.variables, possible.arrays, possible.counts,
+                   possible.secret_variables, possible.secret_arrays);
+    number_tree(s, table);
+    free(s);
+}
+
+void nested_loops_table(unsigned depth, struct buffer *t)
+{
+    assemble_table(t, 2, 0, NULL, 2, 0);
+    unsigned inner = assemble_node0(t, FLOW_SKIP);
+    for (unsigned level = 0; level < depth; level++) {
+        unsigned condition = assemble_node1(t, FLOW_CONSTANT, 1);
+        unsigned clear = assemble_node2(t, FLOW_ASSIGN, 0, assemble_node1(t, FLOW_NUMBER, 0));
+        unsigned taint = assemble_node2(t, FLOW_ASSIGN, 0, assemble_node1(t, FLOW_VARIABLE, 1));
+        unsigned rest = assemble_node2(t, FLOW_SEQUENCE, inner, taint);
+        inner = assemble_node2(t, FLOW_WHILE, condition, assemble_node2(t, FLOW_SEQUENCE, clear, rest));
+    }
+}
+
+/* ---- Damage ------------------------------------------------------------------------------------------------------------- */
+
+/* The records of a valid table. */
+struct records {
+    unsigned declarations; /* header, labels, arrays */
+    unsigned count;
+    size_t places[2 + FLOW_MAX_ARRAYS + FLOW_MAX_NODES];
+};
+
+static void find_records(const struct buffer *table, struct records *found)
+{
+    found->count = 0;
+    found->declarations = 2u + table->bytes[7];
+    for (size_t at = 0; at < table->length; at += get16(table->bytes + at))
+        found->places[found->count++] = at;
+}
+
+static void insert_bytes(struct buffer *b, size_t at, const uint8_t *bytes, size_t length)
+{
+    buffer_append(b, bytes, length); /* for the room; the contents are moved next */
+    memmove(b->bytes + at + length, b->bytes + at, b->length - length - at);
+    memcpy(b->bytes + at, bytes, length);
+}
+
+static void delete_bytes(struct buffer *b, size_t at, size_t length)
+{
+    memmove(b->bytes + at, b->bytes + at + length, b->length - at - length);
+    b->length -= length;
+}
+
+static size_t any_record(struct random *r, const struct records *records)
+{
+    return records->places[random_below(r, records->count)];
+}
+
+static unsigned any_node(struct random *r, const struct records *records)
+{
+    return random_below(r, records->count - records->declarations);
+}
+
+static void damage_bits(struct random *r, struct buffer *table)
+{
+    for (unsigned times = 1 + random_below(r, 3); times > 0; times--)
+        table->bytes[random_below(r, (uint32_t)table->length)] ^= (uint8_t)(1u << random_below(r, 8));
+}
+
+static void damage_end(struct random *r, struct buffer *table, const struct records *records)
+{
+    uint8_t extra[12];
+    switch (random_below(r, 4)) {
+    case 0:
+        table->length = random_below(r, (uint32_t)table->length);
+        break;
+    case 1:
+        table->length = any_record(r, records) + random_below(r, 5);
+        break;
+    case 2:
+        random_fill(r, extra, sizeof extra);
+        buffer_append(table, extra, 1 + random_below(r, sizeof extra));
+        break;
+    default:
+        buffer_append16(table, 4);
+        buffer_append16(table, FLOW_SKIP);
+    }
+}
+
+static void damage_length(struct random *r, struct buffer *table, const struct records *records)
+{
+    uint8_t *at = table->bytes + any_record(r, records);
+    static const int changes[] = {-2, -1, 1, 2, 256};
+    put16(at, random_percent(r, 20) ? random_below(r, 65536) : get16(at) + (uint32_t)changes[random_below(r, 5)]);
+}
+
+static void damage_kind(struct random *r, struct buffer *table, const struct records *records)
+{
+    static const uint8_t kinds[] = {0, 1, 2, 3, 15, 16, 17, 18, 19, 20, 21, 22, 32, 33, 34, 35, 36, 37, 48, 49, 50, 51, 52, 53, 54, 55};
+    uint8_t *at = table->bytes + any_record(r, records);
+    unsigned kind = kinds[random_below(r, sizeof kinds)];
+    /* mostly one of the same length, so that it is not the length that gets it refused */
+    for (unsigned tries = 0; tries < 30 && (fields_of(kind) == NULL || record_length(fields_of(kind)) != get16(at)); tries++)
+        kind = kinds[random_below(r, sizeof kinds)];
+    put16(at + 2, random_percent(r, 10) ? kind + 256 : kind);
+}
+
+/* The lowest number that a field must not have. */
+static uint32_t first_refused(const struct buffer *table, unsigned node, char field)
+{
+    switch (field) {
+    case 'b': return 2;
+    case 'x': return table->bytes[6];
+    case 'a': return table->bytes[7];
+    default: return node;
+    }
+}
+
+/* A child, variable, array or constant becomes another number: at its limit, a node below, or some other. */
+static void damage_field(struct random *r, struct buffer *table, const struct records *records)
+{
+    unsigned node = any_node(r, records);
+    uint8_t *at = table->bytes + records->places[records->declarations + node];
+    const char *fields = fields_of(get16(at + 2));
+    if (*fields == 0)
+        return;
+    unsigned which = random_below(r, (uint32_t)strlen(fields));
+    uint32_t limit = first_refused(table, node, fields[which]);
+    uint32_t below = node == 0 ? 0 : random_below(r, node);
+    uint32_t values[] = {limit, limit, limit + 1, below, below, below, 65535, 256, random_below(r, 40)};
+    put16(at + RECORD_HEAD + 2 * which, values[random_below(r, sizeof values / sizeof *values)]);
+}
+
+static void damage_header(struct random *r, struct buffer *table)
+{
+    uint8_t *version = table->bytes + 4, *variables = table->bytes + 6, *arrays = table->bytes + 7, *nodes = table->bytes + 8;
+    static const uint32_t counts[] = {0, 1, 16, 17, 31, 32, 33, 255};
+    switch (random_below(r, 6)) {
+    case 0: put16(version, random_percent(r, 50) ? random_below(r, 4) : 257); break;
+    case 1: *variables = (uint8_t)counts[random_below(r, 8)]; break;
+    case 2: *arrays = (uint8_t)counts[random_below(r, 8)]; break;
+    case 3: put16(nodes, get16(nodes) + 1); break;
+    case 4: put16(nodes, get16(nodes) - 1); break;
+    default: put16(nodes, random_percent(r, 50) ? 0 : 4096 + random_below(r, 3)); break;
+    }
+}
+
+static void damage_masks(struct random *r, struct buffer *table)
+{
+    uint8_t *mask = table->bytes + 14 + (random_percent(r, 50) ? 4 : 0);
+    unsigned bit = random_below(r, mask == table->bytes + 14 ? 32 : 16);
+    mask[bit / 8] |= (uint8_t)(1u << bit % 8);
+}
+
+static void damage_counts(struct random *r, struct buffer *table)
+{
+    static const uint32_t counts[] = {0, 1, 16383, 16384, 16385, 65535};
+    unsigned arrays = table->bytes[7];
+    if (arrays > 0)
+        put16(table->bytes + 20 + 6 * random_below(r, arrays) + RECORD_HEAD, counts[random_below(r, 6)]);
+}
+
+/* Whole records go, come twice or change places. */
+static void damage_records(struct random *r, struct buffer *table, const struct records *records)
+{
+    unsigned which = random_below(r, records->count);
+    size_t at = records->places[which];
+    size_t length = get16(table->bytes + at);
+    uint8_t copy[16];
+    memcpy(copy, table->bytes + at, length);
+    switch (random_below(r, 4)) {
+    case 0:
+        delete_bytes(table, at, length);
+        break;
+    case 1:
+        insert_bytes(table, at, copy, length);
+        break;
+    case 2:
+        delete_bytes(table, at, length);
+        insert_bytes(table, which == 0 ? 0 : records->places[which - 1], copy, length);
+        break;
+    default: /* with the header's count in step: orphans, or a child's child at the root */
+        if (which >= records->declarations && get16(table->bytes + 8) > 1) {
+            delete_bytes(table, at, length);
+            put16(table->bytes + 8, get16(table->bytes + 8) - 1);
+        } else {
+            buffer_append16(table, 4);
+            buffer_append16(table, FLOW_SKIP);
+            put16(table->bytes + 8, get16(table->bytes + 8) + 1);
+        }
+    }
+}
+
+/* The root becomes both parts of a new one: no node is left over, one is a child twice. */
+static void share_root(struct buffer *table)
+{
+    unsigned root = get16(table->bytes + 8) - 1;
+    if (root + 1 < FLOW_MAX_NODES)
+        assemble_node2(table, FLOW_SEQUENCE, root, root);
+}
+
+void damage_table(struct random *r, struct buffer *table)
+{
+    struct records records;
+    find_records(table, &records);
+    if (random_percent(r, 10)) { /* together with the next, a choice among causes */
+        damage_field(r, table, &records);
+        damage_field(r, table, &records);
+    }
+    if (random_percent(r, 3))
+        share_root(table);
+    switch (random_below(r, 13)) {
+    case 0: damage_bits(r, table); break;
+    case 1: damage_end(r, table, &records); break;
+    case 2: damage_length(r, table, &records); break;
+    case 3: damage_kind(r, table, &records); break;
+    case 4:
+    case 5:
+    case 6: damage_field(r, table, &records); break;
+    case 7: damage_header(r, table); break;
+    case 8: damage_masks(r, table); break;
+    case 9: damage_counts(r, table); break;
+    case 10: share_root(table); break;
+    default: damage_records(r, table, &records); break;
+    }
+}
+
+static void generate_noise(struct random *r, struct buffer *table)
+{
+    uint8_t noise[64];
+    random_fill(r, noise, sizeof noise);
+    if (random_percent(r, 50)) { /* a head that gets a reader going */
+        put16(noise, 10);
+        put16(noise + 2, 1);
+        put16(noise + 4, 1);
+        noise[6] &= 31;
+        noise[7] &= 3;
+        put16(noise + 8, 1 + (noise[8] & 3));
+        put16(noise + 10, 10);
+        put16(noise + 12, 3);
+        memset(noise + 14, 0, 6);
+    }
+    buffer_append(table, noise, random_below(r, sizeof noise + 1));
+}
+
+/* ---- States and directives ---------------------------------------------------------------------------------------------- */
+
+void generate_words(struct random *r, uint8_t *words, size_t count)
+{
+    for (size_t i = 0; i < count; i++)
+        put32(words + 4 * i, random_word(r));
+}
+
+void generate_directives(struct random *r, unsigned most, struct buffer *list)
+{
+    for (unsigned count = random_below(r, most + 1); count > 0; count--) {
+        unsigned chance = random_below(r, 100);
+        if (chance < 50)
+            assemble_directive(list, FLOW_STEP);
+        else if (chance < 75)
+            assemble_directive(list, FLOW_FORCE);
+        else
+            assemble_redirect(list, random_percent(r, 60) ? FLOW_LOAD : FLOW_STORE, random_below(r, 3), random_below(r, 4));
+    }
+}
+
+static void damage_directives(struct random *r, struct buffer *list)
+{
+    static const uint8_t kinds[] = {0, 64, 71, 72, 73, 74, 75, 76, 255};
+    if (list->length == 0 || random_percent(r, 30)) {
+        uint8_t noise[11];
+        random_fill(r, noise, sizeof noise);
+        buffer_append(list, noise, 1 + random_below(r, sizeof noise));
+        return;
+    }
+    size_t last = 0;
+    for (size_t at = 0; at < list->length; at += get16(list->bytes + at))
+        if (random_percent(r, 30))
+            last = at;
+    switch (random_below(r, 4)) {
+    case 0: list->length -= 1 + random_below(r, list->length < 10 ? (uint32_t)list->length : 10); break;
+    case 1: put16(list->bytes + last, random_percent(r, 50) ? 4 : random_below(r, 12)); break;
+    case 2: put16(list->bytes + last + 2, kinds[random_below(r, sizeof kinds)]); break;
+    default: list->bytes[random_below(r, (uint32_t)list->length)] ^= (uint8_t)(1u << random_below(r, 8)); break;
+    }
+}
+
+/* A valid table as a script writer sees it. */
+struct layout {
+    unsigned arrays;
+    uint32_t counts[FLOW_MAX_ARRAYS];
+    struct records records;
+};
+
+static void find_layout(const struct slice *table, struct layout *layout)
+{
+    struct buffer view = {.bytes = table->bytes, .length = table->length};
+    find_records(&view, &layout->records);
+    layout->arrays = table->bytes[7];
+    for (unsigned array = 0; array < layout->arrays; array++)
+        layout->counts[array] = get16(table->bytes + 20 + 6 * array + RECORD_HEAD);
+}
+
+/* A load at a read, a store at a write; seldom the other one, or a cell that does not exist. */
+static void append_redirect(struct random *r, const struct layout *layout, unsigned access, struct buffer *list)
+{
+    bool load = (access == FLOW_READ) != random_percent(r, 6);
+    unsigned array = random_below(r, layout->arrays);
+    uint32_t index = random_below(r, layout->counts[array]);
+    if (random_percent(r, 8))
+        index = layout->counts[array] + random_below(r, 2);
+    if (random_percent(r, 8))
+        array = layout->arrays + random_below(r, 2);
+    assemble_redirect(list, load ? FLOW_LOAD : FLOW_STORE, array, index);
+}
+
+/* The end, directives used and next node of the guessing call with this list. */
+struct outcome {
+    uint64_t refusal, end, used, next;
+};
+
+static struct outcome try_script(const struct call *call, const struct buffer *list)
+{
+    struct call trial = call_copy(call);
+    slice_free(&trial.slices[SLICE_DIRECTIVES]);
+    slice_free(&trial.slices[SLICE_ANSWER]);
+    slice_from(&trial.slices[SLICE_DIRECTIVES], list->bytes, list->length);
+    slice_new(&trial.slices[SLICE_ANSWER], FLOW_ANSWER_BYTES);
+    struct outcome outcome = {.refusal = call_reference(&trial), .end = call_answer(&trial, 1),
+                              .used = call_answer(&trial, 3), .next = call_answer(&trial, 6)};
+    call_free(&trial);
+    return outcome;
+}
+
+void generate_script(struct random *r, const struct call *call, unsigned most, unsigned forces, struct buffer *list)
+{
+    struct layout layout;
+    bool read_yet = false;
+    bool redirected = false;
+    for (unsigned count = 0; count < 2 * most; count++) {
+        struct outcome outcome = try_script(call, list);
+        if (outcome.refusal != FLOW_ACCEPTED)
+            return;
+        if (!read_yet)
+            find_layout(&call->slices[SLICE_TABLE], &layout);
+        read_yet = true;
+        const uint8_t *node = call->slices[SLICE_TABLE].bytes + layout.records.places[layout.records.declarations + outcome.next];
+        unsigned kind = get16(node + 2);
+        bool branch = kind == FLOW_IF || kind == FLOW_WHILE;
+        if (outcome.end == FLOW_OUT_OF_DIRECTIVES && outcome.used < most) {
+            redirected = !branch && random_percent(r, 4); /* before it is known whether the index is out of bounds */
+            if (redirected)
+                append_redirect(r, &layout, kind, list);
+            else
+                assemble_directive(list, branch && random_percent(r, forces) ? FLOW_FORCE : FLOW_STEP);
+        } else if (outcome.end == FLOW_STUCK && !redirected && !branch) {
+            list->length -= 4; /* the step that did not fit */
+            append_redirect(r, &layout, kind, list);
+            redirected = true;
+        } else
+            return;
+    }
+}
+
+/* ---- Calls -------------------------------------------------------------------------------------------------------------- */
+
+static void fill_slice(struct random *r, struct slice *s, size_t length)
+{
+    if (length == 0 && random_percent(r, 50)) {
+        *s = (struct slice){0};
+        return;
+    }
+    slice_new(s, length);
+    random_fill(r, s->bytes, length);
+}
+
+/* A length that is right, or now and then not. */
+static size_t odd_length(struct random *r, size_t right, unsigned percent)
+{
+    if (!random_percent(r, percent))
+        return right;
+    switch (random_below(r, 6)) {
+    case 0: return 0;
+    case 1: return right == 0 ? 1 : right - 1;
+    case 2: return right + 1;
+    case 3: return right < 4 ? right + 4 : right - 4;
+    case 4: return right + 4;
+    default: return random_below(r, 2 * (uint32_t)right + 9);
+    }
+}
+
+static void fill_words(struct random *r, struct slice *s, size_t right)
+{
+    fill_slice(r, s, odd_length(r, right, 4));
+    generate_words(r, s->bytes, s->length / 4);
+}
+
+static uint32_t generate_budget(struct random *r)
+{
+    switch (random_below(r, 8)) {
+    case 0: return random_below(r, 3);
+    case 1: return UINT32_MAX; /* the run ends when the observation buffer is full, since every loop shows its condition */
+    case 2:
+    case 3: return random_below(r, 30);
+    default: return random_below(r, 1500);
+    }
+}
+
+static size_t generate_room(struct random *r)
+{
+    switch (random_below(r, 4)) {
+    case 0: return random_below(r, 8);
+    case 1: return random_below(r, 61);
+    case 2: return random_below(r, 400);
+    default: return 3000;
+    }
+}
+
+/* The length of the sheet or table that the call writes, if it is accepted. */
+static size_t output_length(const struct call *call)
+{
+    struct call trial = {.entry = call->entry};
+    const struct slice *table = &call->slices[SLICE_TABLE];
+    slice_from(&trial.slices[SLICE_TABLE], table->bytes, table->length);
+    slice_new(&trial.slices[SLICE_OUTPUT], FLOW_SHEET_BYTES);
+    slice_new(&trial.slices[SLICE_ANSWER], FLOW_ANSWER_BYTES);
+    size_t length = call_reference(&trial) == FLOW_ACCEPTED ? call_answer(&trial, 1) : 40;
+    call_free(&trial);
+    return length;
+}
+
+static void lend_output(struct random *r, struct call *call)
+{
+    size_t right = output_length(call);
+    fill_slice(r, &call->slices[SLICE_OUTPUT], random_percent(r, 40) ? right : odd_length(r, right, 100));
+}
+
+/* The last step of a list that fits becomes a directive that may not: a load in bounds, a force at a read. */
+static void spoil_last_directive(struct random *r, struct buffer *list)
+{
+    if (list->length < 4 || get16(list->bytes + list->length - 4) != 4 || get16(list->bytes + list->length - 2) != FLOW_STEP)
+        return;
+    list->length -= 4;
+    if (random_percent(r, 30))
+        assemble_directive(list, FLOW_FORCE);
+    else
+        assemble_redirect(list, random_percent(r, 50) ? FLOW_LOAD : FLOW_STORE, 0, 0);
+}
+
+static void lend_directives(struct random *r, struct call *call)
+{
+    struct buffer list = {0};
+    if (random_percent(r, 70))
+        generate_script(r, call, random_below(r, 30), random_below(r, 60), &list);
+    if (random_percent(r, 8))
+        spoil_last_directive(r, &list);
+    if (random_percent(r, 30))
+        generate_directives(r, 8, &list);
+    if (random_percent(r, 8))
+        damage_directives(r, &list);
+    if (list.length > 0 || random_percent(r, 50))
+        slice_from(&call->slices[SLICE_DIRECTIVES], list.bytes, list.length);
+    buffer_free(&list);
+}
+
+static void lend_state(struct random *r, const struct plan *plan, struct call *call)
+{
+    size_t cells = 0;
+    for (unsigned array = 0; array < plan->arrays; array++)
+        cells += plan->counts[array];
+    size_t nodes = 4 * (size_t)plan->nodes;
+    fill_words(r, &call->slices[SLICE_VARIABLES], 4 * (size_t)plan->variables);
+    fill_words(r, &call->slices[SLICE_CELLS], 4 * cells);
+    fill_slice(r, &call->slices[SLICE_PENDING], random_percent(r, 60) ? nodes : nodes + random_below(r, 30));
+    if (random_percent(r, 5)) {
+        slice_free(&call->slices[SLICE_PENDING]);
+        fill_slice(r, &call->slices[SLICE_PENDING], odd_length(r, nodes, 100));
+    }
+    fill_slice(r, &call->slices[SLICE_OBSERVATIONS], generate_room(r));
+    call->budget = generate_budget(r);
+    if (call->entry == ENTRY_GUESS)
+        lend_directives(r, call);
+}
+
+/* Any table, and the plan of the state that goes with it. */
+static void generate_input(struct random *r, bool small, struct plan *plan, struct buffer *table)
+{
+    *plan = small ? plan_small(r, 60) : plan_any(r);
+    if (random_percent(r, 3)) {
+        generate_noise(r, table);
+        return;
+    }
+    if (!small && random_percent(r, 1)) {
+        nested_loops_table(1 + random_below(r, random_percent(r, 50) ? 62 : 510), table);
+        plan->variables = 2;
+        plan->arrays = 0;
+    } else
+        generate_table(r, plan, table);
+    plan->nodes = get16(table->bytes + 8);
+    if (random_percent(r, 25))
+        damage_table(r, table);
+}
+
+void generate_call(struct random *r, bool small, struct call *call)
+{
+    struct buffer table = {0};
+    struct plan plan;
+    *call = (struct call){.entry = random_below(r, ENTRIES)};
+    generate_input(r, small, &plan, &table);
+    if (table.length > 0 || random_percent(r, 50))
+        slice_from(&call->slices[SLICE_TABLE], table.bytes, table.length);
+    buffer_free(&table);
+    fill_slice(r, &call->slices[SLICE_ANSWER], random_percent(r, 50) ? FLOW_ANSWER_BYTES : random_below(r, 61));
+    if (call->entry == ENTRY_SHEET || call->entry == ENTRY_HARDEN)
+        lend_output(r, call);
+    else
+        lend_state(r, &plan, call);
+}

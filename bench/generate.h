@@ -1,0 +1,72 @@
+/* Tables, states, directive lists and whole calls by chance, the same for the same seed. */
+#ifndef GENERATE_H
+#define GENERATE_H
+
+#include <stdbool.h>
+#include <stddef.h>
+#include <stdint.h>
+
+#include "assemble.h"
+#include "call.h"
+#include "flow.h"
+
+struct random {
+    uint64_t state;
+};
+
+/* Every number of a seed gives a sequence of its own, so that one call can be made again without those before it. */
+struct random random_from(uint64_t seed, uint64_t number);
+uint32_t random_below(struct random *r, uint32_t bound);
+bool random_percent(struct random *r, unsigned percent);
+void random_fill(struct random *r, uint8_t *bytes, size_t length);
+
+/* How the nodes of a command or expression are shared out among its parts. */
+enum shape { SHAPE_BUSHY, SHAPE_DEEP, SHAPE_BALANCED, SHAPES };
+
+/* Which of the nodes whose children all have numbers gets the next number. */
+enum order { ORDER_SHUFFLED, ORDER_NEWEST_FIRST, ORDER_OLDEST_FIRST, ORDERS };
+
+/* What a table is to be like. */
+struct plan {
+    unsigned variables, arrays, nodes;
+    uint16_t counts[FLOW_MAX_ARRAYS];
+    uint32_t secret_variables, secret_arrays;
+    enum shape shape;
+    enum order order;
+    unsigned loops;     /* percent of the larger commands that are loops */
+    unsigned accesses;  /* percent of the smaller commands that read or write an array */
+    unsigned long_expressions; /* percent of commands whose expressions may take all their nodes */
+};
+
+struct plan plan_small(struct random *r, unsigned most_nodes);
+struct plan plan_boundary(struct random *r); /* sizes at and beside the limits */
+struct plan plan_any(struct random *r);
+
+/* Puts a valid table of exactly the planned size.  (Where the plan has no variables, 2 nodes are made 3.) */
+void generate_table(struct random *r, const struct plan *plan, struct buffer *table);
+
+/*
+ * Puts loops nested this deep: while 1 do (x:=0; (inner; x:=s)), s secret.  Each level takes at least two passes, which a careless
+ * analysis multiplies.
+ */
+void nested_loops_table(unsigned depth, struct buffer *table);
+
+/* Spoils a valid table: one cause of refusal or several, seldom none. */
+void damage_table(struct random *r, struct buffer *table);
+
+/* Words that programs compare and use as indices: mostly small. */
+void generate_words(struct random *r, uint8_t *words, size_t count);
+
+/*
+ * Puts a list of at most `most` directives that fits, step by step, a run of the guessing call (whose own list is ignored).
+ * `forces`: percent of branches that are guessed wrong.
+ */
+void generate_script(struct random *r, const struct call *call, unsigned most, unsigned forces, struct buffer *list);
+
+/* Puts a list of directives by chance. */
+void generate_directives(struct random *r, unsigned most, struct buffer *list);
+
+/* Makes any call of any entry.  With `small`, tables stay small. */
+void generate_call(struct random *r, bool small, struct call *call);
+
+#endif

@@ -1,0 +1,179 @@
+/*
+ * Flow: labels, hardens and runs AWHILE programs.  Link with libflow.a.
+ *
+ * Every entry takes byte slices, each as a pointer and then a size_t.  An empty slice may be (NULL, 0).  Slices need no
+ * alignment.  They must not overlap, and each must be readable (where it is lent for writing: writable) over its whole length.
+ * All numbers in all slices are little-endian and unsigned.
+ *
+ * THE ANSWER.  An entry returns 0 if it accepted the call, else the number of the refusal.  The same number stands first in the
+ * answer slice, which holds numbers of 8 bytes each:
+ *
+ *     accepted, flow_sheet and flow_harden:  0, bytes written                                                        (2 numbers)
+ *     accepted, flow_run and flow_guess:     0, end, steps, directives used, observation bytes, flag, next node      (7 numbers)
+ *     refused, every entry:                  refusal, place                                                          (2 numbers)
+ *
+ * Numbers that do not fit whole into the answer slice are dropped, and its other bytes stay as they were: an answer slice of
+ * 0 bytes is fine, and FLOW_ANSWER_BYTES holds every answer.
+ *
+ * A REFUSED CALL changes no lent memory except the answer slice.  Nothing is ever refused but for the causes listed below.
+ *
+ * STACK: see README.  An entry keeps nothing between calls: what it answers depends on what it is lent alone.
+ */
+#ifndef FLOW_H
+#define FLOW_H
+
+#include <stddef.h>
+#include <stdint.h>
+
+#ifdef __cplusplus
+extern "C" {
+#endif
+
+/* The limits of a table. */
+enum {
+    FLOW_VERSION = 1,
+    FLOW_MAX_VARIABLES = 32,
+    FLOW_MAX_ARRAYS = 16,
+    FLOW_MAX_NODES = 4096,
+    FLOW_MAX_CELLS = 16384,          /* all arrays together */
+    FLOW_MAX_HARDENED_NODES = 512,   /* the most nodes of a table that flow_harden takes */
+    FLOW_GROWTH = 8                  /* at most this many nodes come out of flow_harden per node put in */
+};
+
+/* Buffers of these lengths always suffice. */
+enum {
+    FLOW_TABLE_BYTES = 10 + 10 + 6 * FLOW_MAX_ARRAYS + 10 * FLOW_MAX_NODES,
+    FLOW_SHEET_BYTES = 14 + 14 * FLOW_MAX_NODES,
+    FLOW_ANSWER_BYTES = 56
+};
+
+/*
+ * Refusals.  The place is the byte offset, in the table, of the record concerned; for 7 it is the offset of the first extra byte,
+ * and from 8 up it is 0.  The first failing record decides; within a record the order is 1 (head), 2, 1 (body), 3, 4, 5.
+ * Then come 6, 7, 8, 9, 10 and then 20 to 23.
+ */
+enum flow_refusal {
+    FLOW_ACCEPTED = 0,
+    FLOW_CUT = 1,              /* fewer than 4 bytes, or fewer than the record's length, remain */
+    FLOW_WRONG_RECORD = 2,     /* kind or length wrong for this point */
+    FLOW_BEYOND_LIMITS = 3,    /* version, count or mask beyond the limits; a cell sum at the array record that passes it */
+    FLOW_OUT_OF_RANGE = 4,     /* variable not below V, array not below A, child not below its parent, constant above 1 */
+    FLOW_WRONG_SORT = 5,       /* a child of the wrong sort */
+    FLOW_NOT_A_TREE = 6,       /* a node not the last is a child never or more than once, or the last is no command;
+                                  the place is the record of any such node */
+    FLOW_EXTRA_BYTES = 7,      /* bytes after the last node */
+    FLOW_TOO_MANY_NODES = 8,   /* hardening with more than FLOW_MAX_HARDENED_NODES nodes */
+    FLOW_NO_FREE_VARIABLE = 9, /* hardening with FLOW_MAX_VARIABLES variables: none is left for the flag */
+    FLOW_BAD_DIRECTIVES = 10,  /* directive list cut, or a wrong kind or length in it */
+    FLOW_VARIABLES_LENGTH = 20, /* the variables slice is not exactly 4 V bytes */
+    FLOW_CELLS_LENGTH = 21,    /* the cells slice is not exactly 4 bytes for each cell of all arrays */
+    FLOW_PENDING_SHORT = 22,   /* the pending slice is shorter than 4 N bytes */
+    FLOW_OUTPUT_SHORT = 23     /* the sheet or the hardened table is longer than its buffer */
+};
+
+/* How a run ended.  Before each step these are tested in this order. */
+enum flow_end {
+    FLOW_FINISHED = 1,         /* nothing is pending */
+    FLOW_SPENT = 2,            /* the budget is used */
+    FLOW_OUT_OF_DIRECTIVES = 3, /* the next step is shown and no directive is left (flow_guess only) */
+    FLOW_STUCK = 4,            /* an index or a directive does not fit the next step */
+    FLOW_FULL = 5              /* the next observation is longer than what is left of the observation buffer */
+};
+
+/* The kinds of records.  A record is a 2-byte length (of the whole record), a 2-byte kind, then fields of 2 bytes unless noted. */
+enum flow_kind {
+    /* tables: header, labels, A array records, N nodes */
+    FLOW_HEADER = 1,           /* version, variables V (1 byte), arrays A (1 byte), nodes N */
+    FLOW_ARRAY = 2,            /* cell count */
+    FLOW_LABELS = 3,           /* variable mask (4 bytes), array mask; a bit set means secret */
+    FLOW_NUMBER = 16,          /* numeric: value (4 bytes) */
+    FLOW_VARIABLE = 17,        /* numeric: variable */
+    FLOW_ADD = 18,             /* numeric: numeric, numeric; modulo 2^32, like the next two */
+    FLOW_SUBTRACT = 19,
+    FLOW_MULTIPLY = 20,
+    FLOW_CHOICE = 21,          /* numeric: truth, numeric if true, numeric if false */
+    FLOW_CONSTANT = 32,        /* truth: 0 or 1 */
+    FLOW_EQUAL = 33,           /* truth: numeric, numeric */
+    FLOW_LESS = 34,            /* truth: numeric, numeric; unsigned */
+    FLOW_NOT = 35,             /* truth: truth */
+    FLOW_AND = 36,             /* truth: truth, truth */
+    FLOW_SKIP = 48,            /* command */
+    FLOW_ASSIGN = 49,          /* command: variable, numeric */
+    FLOW_SEQUENCE = 50,        /* command: command, command */
+    FLOW_IF = 51,              /* command: truth, command if true, command if false */
+    FLOW_WHILE = 52,           /* command: truth, command */
+    FLOW_READ = 53,            /* command: variable, array, numeric index */
+    FLOW_WRITE = 54,           /* command: array, numeric index, numeric value */
+    /* observations, written by the machines */
+    FLOW_SHOWN_BRANCH = 64,    /* value of the condition; length 6 */
+    FLOW_SHOWN_READ = 65,      /* array, index (4 bytes); length 10 */
+    FLOW_SHOWN_WRITE = 66,     /* array, index (4 bytes); length 10 */
+    /* directives, read by the guessing machine: one for each shown step */
+    FLOW_STEP = 72,            /* go on as the program says; length 4 */
+    FLOW_FORCE = 73,           /* at a branch: go the other way and set the flag; length 4 */
+    FLOW_LOAD = 74,            /* at a read: array, index (4 bytes) of the cell to use; length 10 */
+    FLOW_STORE = 75,           /* at a write: array, index (4 bytes) of the cell to use; length 10.  Load and store fit only with
+                                  the flag set and the program's own index out of bounds, and the named cell must exist */
+    /* label sheets: the header, then by node number; label 1 is secret */
+    FLOW_SHEET = 128,          /* version, N, final variable mask (4 bytes), final array mask */
+    FLOW_SHEET_SEQUENCE = 129, /* node, variable mask (4 bytes) and array mask after its first part */
+    FLOW_SHEET_IF = 130,       /* node, condition label */
+    FLOW_SHEET_WHILE = 131,    /* node, condition label, settled variable mask (4 bytes) and array mask */
+    FLOW_SHEET_READ = 132,     /* node, variable label, index label */
+    FLOW_SHEET_WRITE = 133     /* node, index label */
+};
+
+/*
+ * Labels a table and writes its label sheet to the front of `sheet`.  Bytes of `sheet` beyond the reported length are unchanged;
+ * exact length suffices.  Refusals: 1 to 7, 23.
+ */
+uint64_t flow_sheet(const uint8_t *table, size_t table_len,
+                    uint8_t *sheet, size_t sheet_len,
+                    uint8_t *answer, size_t answer_len);
+
+/*
+ * Hardens a table and writes the hardened table to the front of `out`.  It declares one variable more, the flag, whose number is
+ * the input's V; the flag must be 0 where a run of the hardened table starts.  Bytes of `out` beyond the reported length are
+ * unchanged; exact length suffices.  Refusals: 1 to 9, 23.
+ */
+uint64_t flow_harden(const uint8_t *table, size_t table_len,
+                     uint8_t *out, size_t out_len,
+                     uint8_t *answer, size_t answer_len);
+
+/*
+ * Runs a table without guessing, from its root, for at most `budget` steps.
+ *   variables     V words of 4 bytes: the values at the start, and at the end those that the run left.
+ *   cells         a word for each cell, array after array by number; likewise.
+ *   pending       at least N words; what they hold at the start is ignored.  At the end the first N words hold the nodes still
+ *                 pending (the last of them is next) and then zeros; bytes beyond 4 N are unchanged.
+ *   observations  any length; the run appends what it shows from the front and ends FLOW_FULL rather than write beyond it.
+ *                 Bytes beyond those reported are unchanged.
+ * Flag and directives used are answered as 0; next node is 0 if nothing is pending.  Refusals: 1 to 7, 20, 21, 22.
+ */
+uint64_t flow_run(const uint8_t *table, size_t table_len,
+                  uint8_t *variables, size_t variables_len,
+                  uint8_t *cells, size_t cells_len,
+                  uint8_t *pending, size_t pending_len,
+                  uint8_t *observations, size_t observations_len,
+                  uint32_t budget,
+                  uint8_t *answer, size_t answer_len);
+
+/*
+ * Runs a table on the guessing machine: as flow_run, but each shown step (if, while, read, write) takes one directive of the list,
+ * and the machine's flag (0 at the start) is set by the first force.  The whole list is checked before the first step.  A cell or
+ * array that does not exist is no cause of refusal: the run ends FLOW_STUCK there.  Refusals: 1 to 7, 10, 20, 21, 22.
+ */
+uint64_t flow_guess(const uint8_t *table, size_t table_len,
+                    const uint8_t *directives, size_t directives_len,
+                    uint8_t *variables, size_t variables_len,
+                    uint8_t *cells, size_t cells_len,
+                    uint8_t *pending, size_t pending_len,
+                    uint8_t *observations, size_t observations_len,
+                    uint32_t budget,
+                    uint8_t *answer, size_t answer_len);
+
+#ifdef __cplusplus
+}
+#endif
+
+#endif
