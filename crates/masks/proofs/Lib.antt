@@ -28,3 +28,4 @@ pub mod Masking
 pub mod AccessWrites
 pub mod CommandWrites
 pub mod CommandSizes
+pub mod TableWrites
