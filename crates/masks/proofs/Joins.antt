@@ -108,7 +108,7 @@ module _ (from : ℕ) {ms : List Node} (ns ks : ℕ → List Node) {i j k h y z 
       (append-assoc ms (ns (from + s .nodes) ++ ks (from + s .nodes)) last
       ∙ ap (λ x. ms ++ x) (append-assoc (ns (from + s .nodes)) (ks (from + s .nodes)) last)
       ∙ ap (λ x. ms ++ (ns (from + s .nodes) ++ (ks (from + s .nodes) ++ (x ∷ []))))
-        (ap (λ x. f x (p .left) (p .right)) is ∙ ap (λ x. f (from + s .nodes - 1) x (p .right)) left ∙ ap (f (from + s .nodes - 1) (from + s .nodes + k - 1)) right)
+      (ap (λ x. f x (p .left) (p .right)) is ∙ ap (λ x. f (from + s .nodes - 1) x (p .right)) left ∙ ap (f (from + s .nodes - 1) (from + s .nodes + k - 1)) right)
       ∙ ap at (first .nodesCounted))
 
 -- the sum of two sizes, as it is computed

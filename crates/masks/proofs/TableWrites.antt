@@ -221,10 +221,10 @@ module _ {table index vs arrs : List ℕ} {v a root nodes : ℕ} {labels : Label
       let there : 20 + 6 * a + length ns ≤ length k = omega (arith, whole-fits) in
       record {
         stored =
-          ap (withRest (20 + 6 * a) k) (n .stored)
-          ∙ sets-rest k (20 + 6 * a) ns there
-          ∙ ap (λ x. sets x (20 + 6 * a) ns) (r ∙ ap (λ x. sets x 20 c) (q ∙ ap (λ x. sets x 10 b) p))
-          ∙ four-runs out h b c ns a (length-header (v + 1) a nodes) (length-labels labels) (omega (arith, length-counts (tableOf table .counts), w .numbers .isArrays))
-          ∙ ap (sets out 0) (sym whole-bytes);
+            ap (withRest (20 + 6 * a) k) (n .stored)
+            ∙ sets-rest k (20 + 6 * a) ns there
+            ∙ ap (λ x. sets x (20 + 6 * a) ns) (r ∙ ap (λ x. sets x 20 c) (q ∙ ap (λ x. sets x 10 b) p))
+            ∙ four-runs out h b c ns a (length-header (v + 1) a nodes) (length-labels labels) (omega (arith, length-counts (tableOf table .counts), w .numbers .isArrays))
+            ∙ ap (sets out 0) (sym whole-bytes);
         counted = omega (arith, whole-length, n .bytesCounted);
       }

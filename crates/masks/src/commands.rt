@@ -61,7 +61,16 @@ pub fn harden_command(
             )
         }
         Node::Sequence { first, second } => {
-            let one = harden_command(table, index, variables, arrays, flag, first, from, &mut *out);
+            let one = harden_command(
+                table,
+                index,
+                variables,
+                arrays,
+                flag,
+                first,
+                from,
+                &mut *out,
+            );
             let at = one.bytes;
             let two = harden_command(
                 table,
@@ -77,19 +86,61 @@ pub fn harden_command(
         }
         Node::If { condition, yes, no } => {
             let mask = mask_condition(table, index, variables, arrays, condition, n);
-            harden_if(table, index, variables, arrays, flag, condition, mask, yes, no, from, out)
+            harden_if(
+                table,
+                index,
+                variables,
+                arrays,
+                flag,
+                condition,
+                mask,
+                yes,
+                no,
+                from,
+                out,
+            )
         }
         Node::While { condition, body } => {
             // a loop's condition is labelled by what settled, which enters its body
             let mask = mask_condition(table, index, variables, arrays, condition, body);
-            harden_while(table, index, variables, arrays, flag, condition, mask, body, from, out)
+            harden_while(
+                table,
+                index,
+                variables,
+                arrays,
+                flag,
+                condition,
+                mask,
+                body,
+                from,
+                out,
+            )
         }
-        Node::Read { variable, array, index: place } => {
+        Node::Read {
+            variable,
+            array,
+            index: place,
+        } => {
             let mask = mask_index(table, index, variables, arrays, place, n);
             let hide = mask_value(table, index, variables, arrays, array, place, n);
-            harden_read(table, index, flag, variable, array, place, mask, hide, from, out)
+            harden_read(
+                table,
+                index,
+                flag,
+                variable,
+                array,
+                place,
+                mask,
+                hide,
+                from,
+                out,
+            )
         }
-        Node::Write { array, index: place, value } => {
+        Node::Write {
+            array,
+            index: place,
+            value,
+        } => {
             let mask = mask_index(table, index, variables, arrays, place, n);
             harden_write(table, index, flag, array, place, value, mask, from, out)
         }
@@ -168,7 +219,17 @@ fn harden_sides(
         (now (out .entry)) (now (out .exit)) r ⌝ }
 {
     let one = harden_side(
-        table, index, variables, arrays, flag, condition, mask, true, first, from, &mut *out,
+        table,
+        index,
+        variables,
+        arrays,
+        flag,
+        condition,
+        mask,
+        true,
+        first,
+        from,
+        &mut *out,
     );
     let at = one.bytes;
     let two = harden_side(
@@ -313,7 +374,16 @@ fn harden_while(
         (now (out .entry)) (now (out .exit)) r ⌝ }
 {
     let whole = harden_loop(
-        table, index, variables, arrays, flag, condition, mask, body, from, &mut *out,
+        table,
+        index,
+        variables,
+        arrays,
+        flag,
+        condition,
+        mask,
+        body,
+        from,
+        &mut *out,
     );
     let at = whole.bytes;
     let update = put_flag_update(

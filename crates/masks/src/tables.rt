@@ -81,6 +81,15 @@ pub fn write_hardened(
     put_labels(labels, &mut *out);
     put_counts(table, count, &mut *out);
     let at = 20 + 6 * count;
-    let size = harden_command(table, index, variables, arrays, declared, root, 0, &mut out[at..]);
+    let size = harden_command(
+        table,
+        index,
+        variables,
+        arrays,
+        declared,
+        root,
+        0,
+        &mut out[at..],
+    );
     at + size.bytes
 }

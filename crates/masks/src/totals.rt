@@ -87,13 +87,7 @@ fn while_size(test: Size, body: Size) -> Size
 }
 
 // The size of what a command hardens to. It is the same whatever the flag's number.
-pub fn harden_size(
-    table: &[u8],
-    index: &[u16],
-    variables: &[u64],
-    arrays: &[u32],
-    n: usize,
-) -> Size
+pub fn harden_size(table: &[u8], index: &[u16], variables: &[u64], arrays: &[u32], n: usize) -> Size
     requires { ⌜ Hardenable (now table) (now index) (now variables) (now arrays) n ⌝ }
     requires { ⌜ nodesOf (hardenedIn (now table) (now variables) (now arrays) 0 n) ≤ maxNodes ⌝ }
     ensures { λ r. ⌜
@@ -127,14 +121,22 @@ pub fn harden_size(
             let one = harden_size(table, index, variables, arrays, body);
             while_size(test, one)
         }
-        Node::Read { array, index: place, .. } => {
+        Node::Read {
+            array,
+            index: place,
+            ..
+        } => {
             let mask = mask_index(table, index, variables, arrays, place, n);
             let hide = mask_value(table, index, variables, arrays, array, place, n);
             let part = numeric_size(table, index, place);
             let masked = place_size(part, mask);
             read_size(masked, hide)
         }
-        Node::Write { index: place, value, .. } => {
+        Node::Write {
+            index: place,
+            value,
+            ..
+        } => {
             let mask = mask_index(table, index, variables, arrays, place, n);
             let part = numeric_size(table, index, place);
             let masked = place_size(part, mask);

@@ -117,8 +117,7 @@ append-sequence-requires c κs =
     let room = room-C hidden (start .pre .1) in
     let copy : Com Origin = read (some 0) (start .args .variable) (start .args .array) place in
     let mask = maskValueOf (start .args .flag) (start .args .variable) in
-    let first = one-parent from (Read (start .args .variable) (start .args .array)) (c .before .before .before .before .before .before .before .before .before .before .before .before .before .before .copy-index .ensures) (counted-A from place) (c .before .before .before .before .before .before .before .before .before .before .last .ensures) (c .before .before .before .before .before .before .before .before .before .append .ensures) in
-    (
+    let first = one-parent from (Read (start .args .variable) (start .args .array)) (c .before .before .before .before .before .before .before .before .before .before .before .before .before .before .copy-index .ensures) (counted-A from place) (c .before .before .before .before .before .before .before .before .before .before .last .ensures) (c .before .before .before .before .before .before .before .before .before .append .ensures) in (
       two-few from (λ k. writeC k mask) first (counted-C from copy) (c .before .before .before .put-value-mask .ensures) (λ k. counted-C k mask) room (omega arith) (omega arith) (bytes-C copy) (bytes-C mask),
       two-room from (λ k. writeC k mask) first (counted-C from copy) (c .before .before .before .put-value-mask .ensures) (λ k. counted-C k mask) (both-of from _ _) 8 room (omega arith) (omega arith) .0,
     )

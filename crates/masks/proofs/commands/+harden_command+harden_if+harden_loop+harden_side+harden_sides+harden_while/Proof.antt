@@ -271,8 +271,7 @@ harden-command-harden-command-requires t c κs =
     let is = in-sequence table vs arrs f n (given .0 .0) (given .0 .1 .0) (p .2) in
     let one = hardenedIn table vs arrs f (given .0 .0) in
     let two = hardenedIn table vs arrs f (given .0 .1 .0) in
-    let room = room-C is (start .pre .1 .1) in
-    (
+    let room = room-C is (start .pre .1 .1) in (
       subst (λ m. 4 * given .0 .0 + 1 < m) (start .pre .0) (omega (arith, p .0 .below)),
       (record { node = child-of-sort indexed (p .0); room = start .pre .1 .0 .room }, room-first room (omega arith) (omega arith)),
     )
@@ -357,8 +356,7 @@ harden-command-harden-command-requires-2 t c κs =
     let one = hardenedIn table vs arrs f (given .0 .0) in
     let two = hardenedIn table vs arrs f (given .0 .1 .0) in
     let room = room-C is (start .pre .1 .1) in
-    let first = c .before .before .before .before .harden-command .ensures in
-    (
+    let first = c .before .before .before .before .harden-command .ensures in (
       subst (λ m. 4 * given .0 .1 .0 + 1 < m) (start .pre .0) (omega (arith, p .1 .below)),
       (record { node = child-of-sort indexed (p .1); room = start .pre .1 .0 .room }, room-rest first (counted-C from one) room (omega arith) (omega arith)),
     )
@@ -380,8 +378,7 @@ harden-command-append-sequence-requires t c κs =
     let one = hardenedIn table vs arrs f (given .0 .0) in
     let two = hardenedIn table vs arrs f (given .0 .1 .0) in
     let room = room-C is (start .pre .1 .1) in
-    let first = c .before .before .before .before .before .before .before .before .harden-command .ensures in
-    (
+    let first = c .before .before .before .before .before .before .before .before .harden-command .ensures in (
       two-few from (λ k. writeC k two) first (counted-C from one) (c .before .before .before .harden-command2 .ensures) (λ k. counted-C k two) room (omega arith) (some-C one) (bytes-C one) (bytes-C two),
       two-room from (λ k. writeC k two) first (counted-C from one) (c .before .before .before .harden-command2 .ensures) (λ k. counted-C k two) (both-of from _ _) 8 room (omega arith) (omega arith) .0,
     )
@@ -416,8 +413,7 @@ harden-command-harden-if-requires t c κs =
     let given = c .before .before .before .node3 .given in
     let p = command-parts t (c .before .before .before .before .before) _ (given .1) in
     let indexed = start .pre .1 .0 .node .indexed in
-    let is = in-if table vs arrs f n (given .0 .0) (given .0 .1 .0) (given .0 .1 .1 .0) (p .3) (c .before .mask-condition .ensures) in
-    (
+    let is = in-if table vs arrs f n (given .0 .0) (given .0 .1 .0) (given .0 .1 .1 .0) (p .3) (c .before .mask-condition .ensures) in (
       pair-below-four (given .0 .1 .0) (given .0 .1 .1 .0) n (start .pre .0) (p .1 .below) (p .2 .below),
       ((child-of-sort indexed (p .0), record { node = child-of-sort indexed (p .1); room = start .pre .1 .0 .room }, record { node = child-of-sort indexed (p .2); room = start .pre .1 .0 .room }), room-C is (start .pre .1 .1)),
     )
@@ -453,8 +449,7 @@ harden-command-harden-while-requires t c κs =
     let p = command-parts t (c .before .before .before .before .before) _ (given .1) in
     let indexed = start .pre .1 .0 .node .indexed in
     let entry = indexed-note table (now (start .args .index)) (slice-bytes table (c .before .before .before .before .before .before .before .before .before .before .shared-slice-known .given)) indexed (given .0 .1 .0) (p .1 .inside) (p .1 .isSort) in
-    let is = in-while table vs arrs f n (given .0 .0) (given .0 .1 .0) (p .2) entry (c .before .mask-condition2 .ensures) in
-    (
+    let is = in-while table vs arrs f n (given .0 .0) (given .0 .1 .0) (p .2) entry (c .before .mask-condition2 .ensures) in (
       below-four (given .0 .1 .0) n (start .pre .0) (p .1 .below),
       ((child-of-sort indexed (p .0), record { node = child-of-sort indexed (p .1); room = start .pre .1 .0 .room }), room-C is (start .pre .1 .1)),
     )
@@ -505,8 +500,7 @@ harden-command-harden-read-requires t c κs =
     let mask = c .before .before .mask-index in
     let hide = c .before .mask-value in
     let place = numericIn table (given .0 .1 .1 .0) in
-    let is = in-read table vs arrs f n (p .3) (mask .ensures) (hide .ensures) in
-    (
+    let is = in-read table vs arrs f n (p .3) (mask .ensures) (hide .ensures) in (
       child-of-sort indexed (p .2),
       read-room-numbered from f (given .0 .0) (given .0 .1 .0) n (mask .result) place (hide .result) (room-C is (start .pre .1 .1)),
     )
@@ -766,8 +760,7 @@ harden-if-harden-sides-requires t c κs =
     let room = start .pre .1 .1 in
     let one = sideIn table vs arrs (start .args .flag) (start .args .condition) (start .args .mask) true (start .args .first) in
     let two = sideIn table vs arrs (start .args .flag) (start .args .condition) (start .args .mask) false (start .args .second) in
-    let first = c .before .before .before .before .copy-condition .ensures in
-    (
+    let first = c .before .before .before .before .copy-condition .ensures in (
       subst (λ m. 4 * max (start .args .first) (start .args .second) + 3 < m) (start .pre .0) (omega arith),
       (start .pre .1 .0, room-rest first (counted-B from test) room (omega arith) (omega arith)),
     )
@@ -919,8 +912,7 @@ harden-loop-harden-side-requires t c κs =
     let test = maskedCondition (start .args .flag) (start .args .mask) (truthIn table (start .args .condition)) in
     let room = start .pre .1 .1 in
     let side = sideIn table vs arrs (start .args .flag) (start .args .condition) (start .args .mask) true (start .args .body) in
-    let first = c .before .before .before .before .copy-condition .ensures in
-    (
+    let first = c .before .before .before .before .copy-condition .ensures in (
       subst (λ m. 4 * start .args .body + 2 < m) (start .pre .0) (omega arith),
       (start .pre .1 .0, room-rest first (counted-B from test) room (omega arith) (omega arith)),
     )
@@ -1044,8 +1036,7 @@ harden-side-harden-command-requires t c κs =
     let room = start .pre .1 .1 in
     let update = flagUpdate (start .args .flag) (start .args .taken) test in
     let side = hardenedIn table vs arrs (start .args .flag) (start .args .side) in
-    let first = c .before .before .before .before .put-flag-update .ensures in
-    (
+    let first = c .before .before .before .before .put-flag-update .ensures in (
       subst (λ m. 4 * start .args .side + 1 < m) (start .pre .0) (omega arith),
       (start .pre .1 .0 .1, room-rest first (counted-C from update) room (omega arith) (omega arith)),
     )
@@ -1062,8 +1053,7 @@ harden-side-append-sequence-requires t c κs =
     let room = start .pre .1 .1 in
     let update = flagUpdate (start .args .flag) (start .args .taken) test in
     let side = hardenedIn table vs arrs (start .args .flag) (start .args .side) in
-    let first = c .before .before .before .before .before .before .before .before .put-flag-update .ensures in
-    (
+    let first = c .before .before .before .before .before .before .before .before .put-flag-update .ensures in (
       two-few from (λ k. writeC k side) first (counted-C from update) (c .before .before .before .harden-command .ensures) (λ k. counted-C k side) room (omega arith) (some-C update) (bytes-C update) (bytes-C side),
       two-room from (λ k. writeC k side) first (counted-C from update) (c .before .before .before .harden-command .ensures) (λ k. counted-C k side) (both-of from _ _) 8 room (omega arith) (omega arith) .0,
     )
@@ -1095,8 +1085,7 @@ harden-sides-harden-side-requires t c κs =
     let from = start .args .from in
     let one = sideIn table vs arrs (start .args .flag) (start .args .condition) (start .args .mask) true (start .args .first) in
     let two = sideIn table vs arrs (start .args .flag) (start .args .condition) (start .args .mask) false (start .args .second) in
-    let room = start .pre .1 .1 in
-    (
+    let room = start .pre .1 .1 in (
       subst (λ m. 4 * start .args .first + 2 < m) (start .pre .0) (omega arith),
       ((start .pre .1 .0 .0, start .pre .1 .0 .1), room-first room (omega arith) (omega arith)),
     )
@@ -1153,8 +1142,7 @@ harden-sides-harden-side-requires-2 t c κs =
     let one = sideIn table vs arrs (start .args .flag) (start .args .condition) (start .args .mask) true (start .args .first) in
     let two = sideIn table vs arrs (start .args .flag) (start .args .condition) (start .args .mask) false (start .args .second) in
     let room = start .pre .1 .1 in
-    let first = c .before .before .before .before .harden-side .ensures in
-    (
+    let first = c .before .before .before .before .harden-side .ensures in (
       subst (λ m. 4 * start .args .second + 2 < m) (start .pre .0) (omega arith),
       ((start .pre .1 .0 .0, start .pre .1 .0 .2), room-rest first (counted-C from one) room (omega arith) (omega arith)),
     )
@@ -1199,8 +1187,7 @@ harden-while-harden-loop-requires t c κs =
     let test = maskedCondition (start .args .flag) (start .args .mask) (truthIn table (start .args .condition)) in
     let room = start .pre .1 .1 in
     let whole = loopIn table vs arrs (start .args .flag) (start .args .condition) (start .args .mask) none (start .args .body) in
-    let update = flagUpdate (start .args .flag) false test in
-    (
+    let update = flagUpdate (start .args .flag) false test in (
       subst (λ m. 4 * start .args .body + 3 < m) (start .pre .0) (omega arith),
       (start .pre .1 .0, room-first room (omega arith) (omega arith)),
     )
@@ -1280,8 +1267,7 @@ harden-while-append-sequence-requires t c κs =
     let room = start .pre .1 .1 in
     let whole = loopIn table vs arrs (start .args .flag) (start .args .condition) (start .args .mask) none (start .args .body) in
     let update = flagUpdate (start .args .flag) false test in
-    let first = c .before .before .before .before .before .before .before .before .harden-loop .ensures in
-    (
+    let first = c .before .before .before .before .before .before .before .before .harden-loop .ensures in (
       two-few from (λ k. writeC k update) first (counted-C from whole) (c .before .before .before .put-flag-update .ensures) (λ k. counted-C k update) room (omega arith) (some-C whole) (bytes-C whole) (bytes-C update),
       two-room from (λ k. writeC k update) first (counted-C from whole) (c .before .before .before .put-flag-update .ensures) (λ k. counted-C k update) (both-of from _ _) 8 room (omega arith) (omega arith) .0,
     )
