@@ -44,7 +44,7 @@ pub fn sort_at(table: &[u8], at: usize) -> Sort
     requires { ⌜ at + 8 < 2 ^ 64 ⌝ }
     ensures { λ r. ⌜ SortAt (now (table .entry)) at r ⌝ }
 {
-    let Decoded::Known { node } = decode::decode_at(table, at) else {
+    let Decoded::Known { node } = reader::decoded_at(table, at) else {
         return Sort::Command;
     };
     decode::sort_of(node)

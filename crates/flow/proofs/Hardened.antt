@@ -26,7 +26,7 @@ use Rattle.flow.proofs.Accepted.{refusal-not-zero, check-got}
 use Rattle.flow.proofs.Security.{calls-related}
 
 -- an accepted table is the one that an entry is asked about
-table-in : (place : ℕ) (s : List ℕ) (t : Table) → readTable s ≡ accepted t → tableIn s place ≡ got t
+pub table-in : (place : ℕ) (s : List ℕ) (t : Table) → readTable s ≡ accepted t → tableIn s place ≡ got t
 unfolding tableIn
 table-in place s t e = rw (e, tableIn)
 

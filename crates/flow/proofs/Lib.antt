@@ -5,4 +5,4 @@ pub mod Security
 pub mod Hardened
 pub mod Answers
 pub mod Program
-pub mod Outcomes
+pub mod Reading

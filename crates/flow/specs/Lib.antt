@@ -6,4 +6,3 @@ pub mod Security
 pub mod Promises
 pub mod Hardened
 pub mod Program
-pub mod Outcomes

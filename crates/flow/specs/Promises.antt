@@ -26,3 +26,9 @@ pub record WritesAs (entry : ℕ → (table buffer answer : List ℕ) → Writte
   pub results : result ≡ entry place table buffer answer .result
   pub buffers : buffer′ ≡ entry place table buffer answer .buffer
   pub answers : answer′ ≡ entry place table buffer answer .answer
+
+-- a result, a buffer and an answer slice at exit are those of what was written
+pub record Writes (w : Written) (result : ℕ) (buffer′ answer′ : List ℕ) : Type 0 where
+  pub results : result ≡ w .result
+  pub buffers : buffer′ ≡ w .buffer
+  pub answers : answer′ ≡ w .answer

@@ -5,14 +5,7 @@ ghost use mathlib.Core.List.{[], _∷_};
 ghost use Rattle.awhile.specs.Refusals.{refusalNumber, refusalPlace};
 ghost use Rattle.flow.specs.Answers.{answered, refusalNumbers};
 ghost use Rattle.flow.specs.Promises.{numberPut};
-ghost use Rattle.flow.specs.Outcomes.{resultOf, numbersOf};
 use awhile::Refusal;
-
-// What a call that writes bytes came to.
-pub enum Wrote {
-    Refused { refusal: Refusal },
-    Bytes { length: usize },
-}
 
 // One number at an offset, if it fits whole.
 fn put_number(answer: &mut [u8], at: usize, v: u64)
@@ -104,17 +97,4 @@ pub fn answer_refusal(answer: &mut [u8], refusal: Refusal) -> u64
     let number = number_of(refusal);
     answer_two(&mut *answer, number, place_of(refusal));
     number
-}
-
-// The answer of a call that writes bytes, and its first number.
-pub fn answer_written(answer: &mut [u8], wrote: Wrote) -> u64
-    ensures { λ r. ⌜ (r ≡ resultOf wrote) × (now (answer .exit) ≡ answered (numbersOf wrote) (now (answer .entry))) ⌝ }
-{
-    match wrote {
-        Wrote::Refused { refusal } => answer_refusal(&mut *answer, refusal),
-        Wrote::Bytes { length } => {
-            answer_two(&mut *answer, 0, length as u64);
-            0
-        }
-    }
 }

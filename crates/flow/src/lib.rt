@@ -1,2 +1,3 @@
 // The exported entries, and nothing else.
 mod answer;
+mod sheet;

@@ -2,79 +2,93 @@
 use Prim.Native.Nat.{ℕ, _+_, _≤_, _<_}
 use mathlib.Core.Bool.{Bool, cond, _||_}
 use mathlib.Core.List.{List, [], _∷_}
-use mathlib.Core.Path.{_≡_, refl, sym, ap, subst, _∙_}
+use mathlib.Core.Path.{_≡_, refl, subst}
 use native.Mathlib.Omega.{arith}
 use denote.Enum.Declared.{tagOf}
 use types.Run.{OneOf, miss}
 use lib.Dec.{eqb}
-use lib.ListN.{length, getD}
-use Rattle.awhile.specs.Index.{nodesIn, nodeIn, numericIn, truthIn, commandIn}
-use Rattle.awhile.specs.Language.{BExp, Com, skip, assign, sequence, if, while, read, write, noteOf}
-use Rattle.awhile.specs.Nodes.{form, sortOf}
+use lib.ListN.{length, getD, set}
+use Rattle.awhile.specs.Index.{numericIn, truthIn, commandIn}
+use Rattle.awhile.specs.Language.{sequence, if, while}
+use Rattle.awhile.specs.Nodes.{sortOf}
 use Rattle.awhile.specs.declared.Labelling.{Labelling}
 use Rattle.awhile.specs.declared.Sort.the-variants.{Command}
 use Rattle.awhile.specs.declared.Node.{Node}
-use Rattle.awhile.specs.declared.Node.the-variants.{Number, Variable, Add, Subtract, Multiply, Choice}
-use Rattle.awhile.specs.declared.Node.the-variants.{Constant, Equal, Less, Not, And}
-use Rattle.awhile.specs.declared.Node.the-variants.{Skip, Assign, Sequence, If, While, Read, Write}
-use Rattle.awhile.proofs.Index.{Child, Parts}
+use Rattle.awhile.specs.declared.Node.the-variants.{Assign, Sequence, If, While, Read, Write}
+use Rattle.awhile.proofs.Index.{Parts}
 use Rattle.awhile.proofs.Node.{the-type}
 use Rattle.labels.specs.Labellings.{variableMark, arrayMark, labelOfA, labelOfB, setLabel, join}
 use Rattle.labels.specs.Analysis.{readLabel, writeLabel, analyse}
-use Rattle.labels.specs.Warm.{standing, Distinct, Outside, InOrder}
-use Rattle.labels.specs.Conditions.{NoteRoom, Analysable, Analysed, Settleable, SettledLoop}
-use Rattle.labels.proofs.CommandNotes.{NotedAt, distinct-part, skip-analysed, assign-analysed, read-analysed, write-analysed}
+use Rattle.labels.specs.Annotation.{entered}
+use Rattle.labels.specs.Notes.{arrayNote}
+use Rattle.labels.specs.Warm.{standing, Distinct, InOrder}
+use Rattle.labels.specs.Conditions.{Single, NoteRoom, Analysable, Analysed, Settleable, SettledLoop}
+use Rattle.labels.proofs.CommandNotes.{NotedAt, note-stored, distinct-part, skip-analysed, assign-analysed, read-analysed, write-analysed}
 use Rattle.labels.proofs.CommandNotes.{first-ready, second-ready, sequence-analysed, if-analysed, loop-ready, while-analysed}
 use Rattle.labels.proofs.ExpressionLabels.{child-of-sort}
+use Rattle.labels.proofs.Nodes.{command-kinds}
 
 -- the kinds of nodes that `analyse` does not name
 abbrev pub unnamedCommand : List ℕ
-unnamedCommand = 0 ∷ 1 ∷ 2 ∷ 3 ∷ 4 ∷ 5 ∷ 6 ∷ 7 ∷ 8 ∷ 9 ∷ 10 ∷ 11 ∷ []
+unnamedCommand = 0 ∷ 1 ∷ 2 ∷ 3 ∷ 4 ∷ 5 ∷ 6 ∷ 7 ∷ 8 ∷ 9 ∷ 10 ∷ 11 ∷ 12 ∷ 16 ∷ 17 ∷ []
+
+-- the kinds of nodes that `analyse_single` does not name
+abbrev pub unnamedSingle : List ℕ
+unnamedSingle = 0 ∷ 1 ∷ 2 ∷ 3 ∷ 4 ∷ 5 ∷ 6 ∷ 7 ∷ 8 ∷ 9 ∷ 10 ∷ 11 ∷ 13 ∷ 14 ∷ 15 ∷ []
+
+-- a node that is not named has no command parts
+pub unnamed-single : (m : Node) → OneOf unnamedCommand (tagOf the-type m) → Single m
+unnamed-single m o =
+    record {
+      noSequence = λ c d e. miss unnamedCommand 13 tt (subst (λ k. OneOf unnamedCommand (tagOf the-type k)) e o);
+      noIf = λ b c d e. miss unnamedCommand 14 tt (subst (λ k. OneOf unnamedCommand (tagOf the-type k)) e o);
+      noWhile = λ b c e. miss unnamedCommand 15 tt (subst (λ k. OneOf unnamedCommand (tagOf the-type k)) e o);
+    }
 
 -- the same room, in slices as long and as fit
 pub same-room : {table vs arrs ws brrs : List ℕ} → NoteRoom table vs arrs → length ws ≡ length vs → length brrs ≡ length arrs
     → ((p : ℕ) → getD brrs p 0 < 131072) → NoteRoom table ws brrs
 same-room r e f fit = record { variables = omega (arith, r .variables); arrays = omega (arith, r .arrays); fit = fit }
 
+-- what the code stores on entry is the command's note
+pub entry-noted : {table index vs arrs ws brrs : List ℕ} {n : ℕ} {x : Bool} {l : Labelling} → Analysable table index vs arrs n x l → l .arrays < 65536
+    → (ws ≡ set vs n (l .variables)) × (brrs ≡ set arrs n (arrayNote (entered n x l))) → NotedAt n x l vs arrs ws brrs
+entry-noted {vs = vs} {arrs = arrs} {n = n} {x = x} {l = l} pre small e =
+    let inside = pre .node .inside in
+    note-stored n x l vs arrs (omega (arith, pre .room .variables)) (omega (arith, pre .room .arrays)) small e
+
 module _ {table index vs arrs ws brrs : List ℕ} {n : ℕ} {x : Bool} {l : Labelling} (pre : Analysable table index vs arrs n x l)
     (w : NotedAt n x l vs arrs ws brrs) where
   -- ---- commands without parts
+  -- what `after_assign` answers is what the analysis does
   pub after-assign : (v e : ℕ) → Parts table n (Assign v e) → {r : Labelling} → r ≡ setLabel l (variableMark v) (labelOfA l (numericIn table e) || x)
       → Analysed (commandIn table n) x l vs arrs ws brrs r
   unfolding analyse
   after-assign v e p q = rw (p .2) (assign-analysed w (pre .room .fit) q)
 
+  -- the same of `after_read`
   pub after-read : (v a i : ℕ) → Parts table n (Read v a i) → {r : Labelling} → r ≡ setLabel l (variableMark v) (readLabel l x a (numericIn table i))
       → Analysed (commandIn table n) x l vs arrs ws brrs r
   unfolding analyse
   after-read v a i p q = rw (p .3) (read-analysed w (pre .room .fit) q)
 
+  -- and of `after_write`
   pub after-write : (a i e : ℕ) → Parts table n (Write a i e) → {r : Labelling}
       → r ≡ setLabel l (arrayMark a) (writeLabel l x a (numericIn table i) (numericIn table e)) → Analysed (commandIn table n) x l vs arrs ws brrs r
   unfolding analyse
   after-write a i e p q = rw (p .3) (write-analysed w (pre .room .fit) q)
 
   -- a command that is not named is a skip
-  pub after-skip : (m : Node) → OneOf unnamedCommand (tagOf the-type m) → sortOf m ≡ Command → Parts table n m → Analysed (commandIn table n) x l vs arrs ws brrs l
-  unfolding sortOf form
-  after-skip (Number v) o s p = absurd (let z : _≡_ {A = ℕ} 0 1 = cc in omega arith)
-  after-skip (Variable v) o s p = absurd (let z : _≡_ {A = ℕ} 0 1 = cc in omega arith)
-  after-skip (Add a b) o s p = absurd (let z : _≡_ {A = ℕ} 0 1 = cc in omega arith)
-  after-skip (Subtract a b) o s p = absurd (let z : _≡_ {A = ℕ} 0 1 = cc in omega arith)
-  after-skip (Multiply a b) o s p = absurd (let z : _≡_ {A = ℕ} 0 1 = cc in omega arith)
-  after-skip (Choice c a b) o s p = absurd (let z : _≡_ {A = ℕ} 0 1 = cc in omega arith)
-  after-skip (Constant v) o s p = absurd (let z : _≡_ {A = ℕ} 0 1 = cc in omega arith)
-  after-skip (Equal a b) o s p = absurd (let z : _≡_ {A = ℕ} 0 1 = cc in omega arith)
-  after-skip (Less a b) o s p = absurd (let z : _≡_ {A = ℕ} 0 1 = cc in omega arith)
-  after-skip (Not a) o s p = absurd (let z : _≡_ {A = ℕ} 0 1 = cc in omega arith)
-  after-skip (And a b) o s p = absurd (let z : _≡_ {A = ℕ} 0 1 = cc in omega arith)
-  after-skip Skip o s p = rw p (skip-analysed w (pre .room .fit))
-  after-skip (Assign v e) o s p = absurd (miss unnamedCommand 12 tt o)
-  after-skip (Sequence c d) o s p = absurd (miss unnamedCommand 13 tt o)
-  after-skip (If b c d) o s p = absurd (miss unnamedCommand 14 tt o)
-  after-skip (While b c) o s p = absurd (miss unnamedCommand 15 tt o)
-  after-skip (Read v a i) o s p = absurd (miss unnamedCommand 16 tt o)
-  after-skip (Write a i e) o s p = absurd (miss unnamedCommand 17 tt o)
+  pub after-skip : (m : Node) → sortOf m ≡ Command → OneOf unnamedSingle (tagOf the-type m) → Single m → Parts table n m → Analysed (commandIn table n) x l vs arrs ws brrs l
+  after-skip =
+      command-kinds (λ m. OneOf unnamedSingle (tagOf the-type m) → Single m → Parts table n m → Analysed (commandIn table n) x l vs arrs ws brrs l)
+      (λ o s p. rw p (skip-analysed w (pre .room .fit)))
+      (λ v e o s p. absurd (miss unnamedSingle 12 tt o))
+      (λ c d o s p. absurd (s .noSequence c d refl))
+      (λ b c d o s p. absurd (s .noIf b c d refl))
+      (λ b c o s p. absurd (s .noWhile b c refl))
+      (λ v a i o s p. absurd (miss unnamedSingle 16 tt o))
+      (λ a i e o s p. absurd (miss unnamedSingle 17 tt o))
 
   -- ---- commands with parts
   module _ (first : length ws ≡ length vs) (second : length brrs ≡ length arrs) where

@@ -8,14 +8,14 @@ use native.Mathlib.Omega.{arith}
 use lib.Dec.{eqb}
 use lib.ListN.{length, getD, set}
 use lib.Seq.{getD-set-same, getD-set-other}
-use borrow.Author.Tests.{eq-eqb, ne-eqb, eqb-true, eqb-false}
+use borrow.Author.Tests.{eq-eqb, ne-eqb, eqb-false}
 use Rattle.awhile.specs.Language.{AExp, BExp, Com, skip, assign, sequence, if, while, read, write, noteOf}
 use Rattle.awhile.specs.declared.Labelling.{Labelling}
 use Rattle.labels.specs.Labellings.{labelOfB, join}
 use Rattle.labels.specs.Analysis.{analyse}
-use Rattle.labels.specs.Annotation.{Entry, entered, annotate}
+use Rattle.labels.specs.Annotation.{entered, annotate}
 use Rattle.labels.specs.Notes.{noteIn, arrayNote, Noted}
-use Rattle.labels.specs.Warm.{standing, Distinct, Outside, keptIn, InOrder}
+use Rattle.labels.specs.Warm.{standing, Distinct, Outside, InOrder}
 use Rattle.labels.specs.Conditions.{Analysed, SettledLoop}
 use Rattle.labels.proofs.Masks.{digit-small}
 use Rattle.labels.proofs.Warm.{SameOn, outside-same, in-order-same, in-order-loop, noted-same}
@@ -87,18 +87,22 @@ own-apart n k h = let e : eqb n n ≡ true = eq-eqb n n refl in omega (arith, rw
 
 -- ---- commands without parts
 module _ {n : ℕ} {x : Bool} {l : Labelling} {v0 a0 v1 a1 : List ℕ} (w : NotedAt n x l v0 a0 v1 a1) (fit : (p : ℕ) → getD a0 p 0 < 131072) where
+  -- a skip is noted, and changes nothing
   pub skip-analysed : Analysed (skip n) x l v0 a0 v1 a1 l
   unfolding analyse annotate standing
   skip-analysed = record { answers = refl; notes = w .here; outside = record { same = λ p h. note-outside w p (omega arith) }; fit = w .fit fit }
 
+  -- an assignment is noted, and sets one label
   pub assign-analysed : {v : ℕ} {e : AExp} {r : Labelling} → r ≡ analyse (assign n v e) x l → Analysed (assign n v e) x l v0 a0 v1 a1 r
   unfolding annotate standing
   assign-analysed q = record { answers = q; notes = w .here; outside = record { same = λ p h. note-outside w p (omega arith) }; fit = w .fit fit }
 
+  -- so is a read
   pub read-analysed : {v a : ℕ} {i : AExp} {r : Labelling} → r ≡ analyse (read n v a i) x l → Analysed (read n v a i) x l v0 a0 v1 a1 r
   unfolding annotate standing
   read-analysed q = record { answers = q; notes = w .here; outside = record { same = λ p h. note-outside w p (omega arith) }; fit = w .fit fit }
 
+  -- and a write
   pub write-analysed : {a : ℕ} {i e : AExp} {r : Labelling} → r ≡ analyse (write n a i e) x l → Analysed (write n a i e) x l v0 a0 v1 a1 r
   unfolding annotate standing
   write-analysed q = record { answers = q; notes = w .here; outside = record { same = λ p h. note-outside w p (omega arith) }; fit = w .fit fit }

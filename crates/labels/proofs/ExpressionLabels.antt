@@ -1,4 +1,4 @@
--- What the code for labels of expressions rests on: the sorts of children, and the nodes that no arm of a `match` names.
+-- What the code for labels of expressions rests on: the sorts of children, joins of labels, and the nodes that no arm of a `match` names.
 use Prim.Native.Nat.{ℕ}
 use mathlib.Core.Bool.{Bool, true, false, _||_}
 use mathlib.Core.List.{List, [], _∷_}
@@ -38,6 +38,7 @@ second-label false b r e f = f
 pub same-numeric : (l : Labelling) {e f : AExp} {r : Bool} → e ≡ f → r ≡ labelOfA l f → r ≡ labelOfA l e
 same-numeric l p h = rw p h
 
+-- the same of a truth
 pub same-truth : (l : Labelling) {e f : BExp} {r : Bool} → e ≡ f → r ≡ labelOfB l f → r ≡ labelOfB l e
 same-truth l p h = rw p h
 

@@ -1,12 +1,12 @@
 -- The passes of a loop in code, from a warm start: each stays between where it started and what the loop settles at, and leaves fewer public
 -- marks, until one adds no secret.
-use Prim.Native.Nat.{ℕ, _^_, _≤_, _<_}
-use mathlib.Core.Bool.{Bool, true, false, le, _||_, true≢false}
+use Prim.Native.Nat.{ℕ, _≤_, _<_}
+use mathlib.Core.Bool.{Bool, true, false, true≢false, _||_}
 use mathlib.Core.List.{List, List·Memᴰ, Memᴰ·append-left, Memᴰ·append-right}
 use mathlib.Core.Path.{_≡_, refl, sym, ap, subst, _∙_}
 use native.Mathlib.Decide.{decLe}
 use native.Mathlib.Omega.{arith}
-use lib.Bits.{bitOr, or-lt}
+use lib.Bits.{or-lt}
 use lib.ListN.{length, getD}
 use Rattle.awhile.specs.Language.{BExp, Com, while, noteOf}
 use Rattle.awhile.specs.declared.Labelling.{Labelling}
@@ -18,7 +18,7 @@ use Rattle.labels.specs.Conditions.{Analysed, SettledLoop}
 use Rattle.labels.proofs.Booleans.{or-mono}
 use Rattle.labels.proofs.Masks.{bit-above}
 use Rattle.labels.proofs.Order.{⊑-refl, ⊑-trans, ⊑-antisym, join-left, join-right, join-least, same-iff, labelOfB-mono}
-use Rattle.labels.proofs.Passes.{member, public-same, between-pass, between-settled}
+use Rattle.labels.proofs.Passes.{public-same, between-pass, between-settled}
 use Rattle.labels.proofs.Analysis.{mark-below, loopPass-mono, loop-settles}
 use Rattle.labels.proofs.Warm.{noted-in-order, warm-settles}
 

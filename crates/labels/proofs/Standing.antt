@@ -1,5 +1,5 @@
 -- In the root of a well-formed table each command node stands exactly once, and nothing else does.
-use Prim.Native.Nat.{ℕ, zero, suc, _+_, _-_, _≤_, _<_}
+use Prim.Native.Nat.{ℕ, _+_, _≤_, _<_}
 use native.Mathlib.Omega.{arith}
 use native.Mathlib.Decide.{ℕ-discrete}
 use mathlib.Core.Bool.{Bool, true, false, cond}
@@ -7,9 +7,7 @@ use mathlib.Core.Path.{_≡_, refl, sym, ap, _∙_}
 use mathlib.Core.List.{List, map, flatMap}
 use lib.Dec.{eqb, ltb}
 use lib.ListN.{length, getD}
-use borrow.Author.Tests.{eq-eqb, ne-eqb, lt-ltb, le-ltb}
-use Rattle.awhile.specs.Index.{tableOf, nodesIn, nodeIn, commandIn}
-use Rattle.awhile.specs.Language.{Com}
+use borrow.Author.Tests.{eq-eqb, ne-eqb}
 use Rattle.awhile.specs.Lists.{sum}
 use Rattle.awhile.specs.Nodes.{form, sortOf, sameSort, fieldChildren, childrenOf}
 use Rattle.awhile.specs.Tables.{Table}
@@ -22,7 +20,7 @@ use Rattle.awhile.specs.declared.Node.the-variants.{Constant, Equal, Less, Not,
 use Rattle.awhile.specs.declared.Node.the-variants.{Skip, Assign, Sequence, If, While, Read, Write}
 use Rattle.awhile.proofs.Children.{EachChild}
 use Rattle.awhile.proofs.Trees.{treeSort, tree-of-node, tree-children}
-use Rattle.awhile.proofs.Sums.{sumBelow, sumBelow-same, only, sumBelow-only}
+use Rattle.awhile.proofs.Sums.{sumBelow-same, only, sumBelow-only}
 use Rattle.awhile.proofs.Size.{root-tree, root-total}
 use Rattle.labels.specs.Warm.{standing, Distinct}
 

@@ -1,6 +1,6 @@
 -- Warm starts give the results of the analysis: kept masks stay in order, and what one analysis leaves is in order for every larger one.
-use Prim.Native.Nat.{ℕ, _+_, _≤_, _<_}
-use mathlib.Core.Bool.{Bool, true, le, _||_, true≢false}
+use Prim.Native.Nat.{ℕ, _+_, _≤_}
+use mathlib.Core.Bool.{Bool, true, le, true≢false, _||_}
 use mathlib.Core.List.{List}
 use mathlib.Core.Path.{_≡_, refl, sym, ap, subst, _∙_}
 use native.Mathlib.Omega.{arith}
@@ -11,9 +11,9 @@ use Rattle.labels.specs.Labellings.{Mark, variableMark, arrayMark, label
 use Rattle.labels.specs.Analysis.{analyse}
 use Rattle.labels.specs.Annotation.{Entry, entered, annotate}
 use Rattle.labels.specs.Notes.{noteIn, Noted}
-use Rattle.labels.specs.Warm.{standing, Distinct, Outside, keptIn, InOrder}
+use Rattle.labels.specs.Warm.{standing, Outside, keptIn, InOrder}
 use Rattle.labels.proofs.Booleans.{or-mono}
-use Rattle.labels.proofs.Order.{⊑-refl, ⊑-trans, ⊑-antisym, join-right, labelOfB-mono}
+use Rattle.labels.proofs.Order.{⊑-trans, ⊑-antisym, join-right, labelOfB-mono}
 use Rattle.labels.proofs.Masks.{bit-above}
 use Rattle.labels.proofs.Analysis.{analyse-mono, loop-settles}
 

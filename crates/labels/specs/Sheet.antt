@@ -1,7 +1,7 @@
 -- The label sheet's bytes: kind 128, then by node number the records of sequences, ifs, whiles, reads and writes.
 use Prim.Native.Nat.{ℕ, zero, suc}
 use mathlib.Core.Bool.{Bool, false, cond}
-use mathlib.Core.List.{List, [], _∷_, _++_, flatMap}
+use mathlib.Core.List.{List, [], _++_, flatMap}
 use lib.ListN.{length}
 use lib.Dec.{eqb}
 use Rattle.bytes_le.specs.Numbers.{le}
@@ -36,6 +36,16 @@ sheetRecord (while e b c) = le 2 14 ++ (le 2 131 ++ (le 2 (e .node) ++ (labelByt
 sheetRecord (read e v a i) =
     le 2 10 ++ (le 2 132 ++ (le 2 (e .node) ++ (labelBytes (readLabel (e .labelling) (e .context) a i) ++ labelBytes (labelOfA (e .labelling) i))))
 sheetRecord (write e a i v) = le 2 8 ++ (le 2 133 ++ (le 2 (e .node) ++ labelBytes (labelOfA (e .labelling) i)))
+
+-- how many bytes a command's record has
+unfoldable pub recordLength : {Note : Type 0} → Com Note → ℕ
+recordLength (skip n) = 0
+recordLength (assign n v e) = 0
+recordLength (sequence n c d) = 12
+recordLength (if n b c d) = 8
+recordLength (while n b c) = 14
+recordLength (read n v a i) = 10
+recordLength (write n a i e) = 8
 
 -- the record of the command with this number, if there is one
 unfoldable pub recordOf : Com Entry → (node : ℕ) → List ℕ

@@ -16,10 +16,10 @@ use awhile::lookup::node_at;
 ghost use Prim.Native.Nat.{_<_};
 ghost use mathlib.Core.Bool.{_||_};
 ghost use mathlib.Core.Path.{_≡_};
-ghost use Rattle.awhile.specs.Index.{numericIn, truthIn, commandIn};
+ghost use Rattle.awhile.specs.Index.{nodeIn, numericIn, truthIn, commandIn};
 ghost use Rattle.awhile.specs.declared.Sort.the-variants.{Numeric, Truth};
 ghost use Rattle.labels.specs.Analysis.{readLabel, writeLabel};
-ghost use Rattle.labels.specs.Conditions.{OfSort, Analysable, Analysed, Settleable, SettledLoop};
+ghost use Rattle.labels.specs.Conditions.{OfSort, Single, Analysable, Analysed, Settleable, SettledLoop};
 ghost use Rattle.labels.specs.Labellings.{variableMark, arrayMark, setLabel, labelOfA, labelOfB};
 
 // The context of what a condition guards.
@@ -115,6 +115,46 @@ fn after_write(
     label_array(labels, array, secret)
 }
 
+// A command without command parts: a skip, an assignment, a read or a write.
+fn analyse_single(
+    table: &[u8],
+    index: &[u16],
+    variables: &mut [u64],
+    arrays: &mut [u32],
+    n: usize,
+    node: Node,
+    context: bool,
+    labels: Labelling,
+) -> Labelling
+    requires { ⌜ Analysable (now table) (now index) (now variables) (now arrays) n context labels × (node ≡ nodeIn (now table) n) × Single node ⌝ }
+    ensures { λ r. ⌜ Analysed (commandIn (now (table .entry)) n) context labels
+        (now (variables .entry)) (now (arrays .entry)) (now (variables .exit)) (now (arrays .exit)) r ⌝ }
+{
+    note(&mut *variables, &mut *arrays, n, context, labels);
+    match node {
+        Node::Assign { variable, value } => after_assign(
+            table,
+            index,
+            variable,
+            value,
+            context,
+            labels,
+        ),
+        Node::Read {
+            variable,
+            array,
+            index: cell,
+        } => after_read(table, index, variable, array, cell, context, labels),
+        Node::Write {
+            array,
+            index: cell,
+            value,
+        } => after_write(table, index, array, cell, value, context, labels),
+        // skip; nodes of other sorts never stand here
+        _ => labels,
+    }
+}
+
 // Settles a loop: "passes repeat until one adds no secret, and that labelling is the answer". The passes start from the entering labelling
 // joined with what the loop last settled at, which is noted for its body: nested loops then settle in few passes.
 fn settle(
@@ -153,6 +193,83 @@ fn settle(
     settled
 }
 
+// A sequence: its second part is entered with what its first part leaves.
+fn analyse_sequence(
+    table: &[u8],
+    index: &[u16],
+    variables: &mut [u64],
+    arrays: &mut [u32],
+    n: usize,
+    first: usize,
+    second: usize,
+    context: bool,
+    labels: Labelling,
+) -> Labelling
+    requires { ⌜ Analysable (now table) (now index) (now variables) (now arrays) n context labels × (nodeIn (now table) n ≡ Node.Sequence first second) ⌝ }
+    ensures { λ r. ⌜ Analysed (commandIn (now (table .entry)) n) context labels
+        (now (variables .entry)) (now (arrays .entry)) (now (variables .exit)) (now (arrays .exit)) r ⌝ }
+{
+    note(&mut *variables, &mut *arrays, n, context, labels);
+    let between = analyse(
+        table,
+        index,
+        &mut *variables,
+        &mut *arrays,
+        first,
+        context,
+        labels,
+    );
+    analyse(
+        table,
+        index,
+        &mut *variables,
+        &mut *arrays,
+        second,
+        context,
+        between,
+    )
+}
+
+// An if: both sides are entered with what enters it, in the context of its condition.
+fn analyse_if(
+    table: &[u8],
+    index: &[u16],
+    variables: &mut [u64],
+    arrays: &mut [u32],
+    n: usize,
+    condition: usize,
+    yes: usize,
+    no: usize,
+    context: bool,
+    labels: Labelling,
+) -> Labelling
+    requires { ⌜ Analysable (now table) (now index) (now variables) (now arrays) n context labels × (nodeIn (now table) n ≡ Node.If condition yes no) ⌝ }
+    ensures { λ r. ⌜ Analysed (commandIn (now (table .entry)) n) context labels
+        (now (variables .entry)) (now (arrays .entry)) (now (variables .exit)) (now (arrays .exit)) r ⌝ }
+{
+    note(&mut *variables, &mut *arrays, n, context, labels);
+    let inner = guarded(table, index, condition, context, labels);
+    let left = analyse(
+        table,
+        index,
+        &mut *variables,
+        &mut *arrays,
+        yes,
+        inner,
+        labels,
+    );
+    let right = analyse(
+        table,
+        index,
+        &mut *variables,
+        &mut *arrays,
+        no,
+        inner,
+        labels,
+    );
+    join(left, right)
+}
+
 // The labelling after the command of node n, from the context and the labelling that enter it.
 pub fn analyse(
     table: &[u8],
@@ -167,60 +284,37 @@ pub fn analyse(
     ensures { λ r. ⌜ Analysed (commandIn (now (table .entry)) n) context labels
         (now (variables .entry)) (now (arrays .entry)) (now (variables .exit)) (now (arrays .exit)) r ⌝ }
 {
-    note(&mut *variables, &mut *arrays, n, context, labels);
     let node = node_at(table, index, n);
     match node {
-        Node::Assign { variable, value } => after_assign(
-            table,
-            index,
-            variable,
-            value,
-            context,
-            labels,
-        ),
         Node::Sequence { first, second } => {
-            let between = analyse(
+            analyse_sequence(
                 table,
                 index,
                 &mut *variables,
                 &mut *arrays,
+                n,
                 first,
-                context,
-                labels,
-            );
-            analyse(
-                table,
-                index,
-                &mut *variables,
-                &mut *arrays,
                 second,
                 context,
-                between,
+                labels,
             )
         }
         Node::If { condition, yes, no } => {
-            let inner = guarded(table, index, condition, context, labels);
-            let left = analyse(
+            analyse_if(
                 table,
                 index,
                 &mut *variables,
                 &mut *arrays,
+                n,
+                condition,
                 yes,
-                inner,
-                labels,
-            );
-            let right = analyse(
-                table,
-                index,
-                &mut *variables,
-                &mut *arrays,
                 no,
-                inner,
+                context,
                 labels,
-            );
-            join(left, right)
+            )
         }
         Node::While { condition, body } => {
+            note(&mut *variables, &mut *arrays, n, context, labels);
             settle(
                 table,
                 index,
@@ -232,17 +326,15 @@ pub fn analyse(
                 labels,
             )
         }
-        Node::Read {
-            variable,
-            array,
-            index: cell,
-        } => { after_read(table, index, variable, array, cell, context, labels) }
-        Node::Write {
-            array,
-            index: cell,
-            value,
-        } => { after_write(table, index, array, cell, value, context, labels) }
-        // skip; nodes of other sorts never stand here
-        _ => labels,
+        _ => analyse_single(
+            table,
+            index,
+            &mut *variables,
+            &mut *arrays,
+            n,
+            node,
+            context,
+            labels,
+        ),
     }
 }

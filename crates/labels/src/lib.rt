@@ -3,3 +3,5 @@ pub mod commands;
 pub mod expressions;
 pub mod labelling;
 pub mod noting;
+pub mod program;
+pub mod sheet;

@@ -17,5 +17,9 @@ pub mod Guides
 pub mod ShownSteps
 pub mod NextSteps
 pub mod Effects
+pub mod Stacks
+pub mod Underway
+pub mod Leavings
+pub mod WholeRuns
 pub mod Evaluation
 pub mod Actions

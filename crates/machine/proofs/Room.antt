@@ -35,7 +35,7 @@ module _ {Note : Type 0} (P : List (Com Note) → Type 0) where
   AfterDirective none = Unit {0}
   AfterDirective (some s) = P (s .pending)
 
-  abbrev AfterNext : Next Note → Type 0
+  abbrev pub AfterNext : Next Note → Type 0
   AfterNext (over e) = Unit {0}
   AfterNext (goes m) = P (m .state .pending)
 
@@ -101,7 +101,7 @@ module _ {Note : Type 0} (P : List (Com Note) → Type 0) where
     nextOf-after m [] p = tt
     nextOf-after m (c ∷ rest) p = stepOf-after room m counts (look c rest (m .state .variables)) (keeps c rest (m .state .variables) p)
 
-    next-after : (m : Machine Note) → P (m .state .pending) → AfterNext (next counts room m)
+    pub next-after : (m : Machine Note) → P (m .state .pending) → AfterNext (next counts room m)
     unfolding next
     next-after m p = nextOf-after m (m .state .pending) p
 
@@ -131,15 +131,15 @@ nodesOf-some (write n a i e) = omega arith
 
 module _ {Note : Type 0} (room : ℕ) where
   -- wherever a command is pending, its nodes and the entries after it fit
-  abbrev Fits : List (Com Note) → Type 0
+  abbrev pub Fits : List (Com Note) → Type 0
   Fits [] = Unit {0}
   Fits (c ∷ rest) = (nodesOf c + length rest ≤ room) × Fits rest
 
-  fits-length : (cs : List (Com Note)) → Fits cs → length cs ≤ room
+  pub fits-length : (cs : List (Com Note)) → Fits cs → length cs ≤ room
   fits-length [] p = omega arith
   fits-length (c ∷ rest) p = omega (arith, nodesOf-some c, p .0)
 
-  look-fits : (c : Com Note) (rest : List (Com Note)) (vs : List ℕ) → Fits (c ∷ rest) → AfterLook Fits (look c rest vs)
+  pub look-fits : (c : Com Note) (rest : List (Com Note)) (vs : List ℕ) → Fits (c ∷ rest) → AfterLook Fits (look c rest vs)
   unfolding look nodesOf
   look-fits (skip n) rest vs p = p .1
   look-fits (assign n x e) rest vs p = p .1

@@ -13,3 +13,4 @@ pub mod Fitting
 pub mod Guiding
 pub mod Stepping
 pub mod Effects
+pub mod Running

@@ -7,6 +7,7 @@ pub mod fit;
 pub mod guide;
 pub mod memory;
 pub mod places;
+pub mod run;
 pub mod state;
 pub mod step;
 

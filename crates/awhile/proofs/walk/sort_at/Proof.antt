@@ -6,8 +6,8 @@ use borrow.Author.Needs.{needs}
 use Rattle.awhile.proofs.walk.sort_at.Statement.{statement}
 use Rattle.awhile.proofs.walk.sort_at.Tie as tie
 
-decode-at-requires : tie.Need-decode-at-requires
-decode-at-requires c κs = search needs
+decoded-at-requires : tie.Need-decoded-at-requires
+decoded-at-requires c κs = search needs
 
 enum-known-node : tie.Need-enum-known-node
 enum-known-node c = search needs
@@ -16,7 +16,7 @@ enum-told : tie.Need-enum-told
 enum-told c = search needs
 
 returns : tie.Need-returns
-returns c = record { isSort = λ n d. absurd (decoded-apart _ n (c .enum-told .given .1) (c .before .before .decode-at .ensures ∙ d)) }
+returns c = record { isSort = λ n d. absurd (decoded-apart _ n (c .enum-told .given .1) (c .before .before .decoded-at .ensures ∙ d)) }
 
 sort-of-requires : tie.Need-sort-of-requires
 sort-of-requires c κs = search needs
@@ -24,10 +24,10 @@ sort-of-requires c κs = search needs
 returns-2 : tie.Need-returns-2
 returns-2 c =
     record {
-      isSort = λ n d. c .sort-of .ensures ∙ ap sortOf (decoded-same _ _ n (c .before .before .node .given .1) (c .before .before .before .before .decode-at .ensures ∙ d));
+      isSort = λ n d. c .sort-of .ensures ∙ ap sortOf (decoded-same _ _ n (c .before .before .node .given .1) (c .before .before .before .before .decoded-at .ensures ∙ d));
     }
 
 pub sort-at-spec : {M : Type 1} → statement M
 sort-at-spec =
     tie.close
-    (tie.spec decode-at-requires enum-known-node enum-told returns sort-of-requires returns-2)
+    (tie.spec decoded-at-requires enum-known-node enum-told returns sort-of-requires returns-2)

@@ -1,15 +1,13 @@
 -- Labels of expressions: each arm answers what the definition joins from the children, whose numbers are lower.
-use Rattle.awhile.specs.Index.{numericIn, truthIn}
-use Rattle.awhile.specs.declared.Sort.{Sort}
+use Rattle.awhile.specs.Index.{numericIn}
 use Rattle.awhile.specs.declared.Node.{Node}
-use Rattle.awhile.proofs.Index.{Child, Parts, indexed-parts}
+use Rattle.awhile.proofs.Index.{Parts}
 use Rattle.bytes_le.proofs.Numbers.{slice-bytes}
-use Rattle.labels.specs.Conditions.{OfSort}
 use Rattle.labels.specs.Labellings.{labelOfA, labelOfB}
-use Rattle.labels.proofs.ExpressionLabels.{child-of-sort, first-secret, second-label, number-public, constant-public, same-numeric, same-truth}
+use Rattle.labels.proofs.Nodes.{node-parts, child-below, pair-below}
+use Rattle.labels.proofs.ExpressionLabels.{first-secret, second-label, number-public, constant-public, same-numeric, same-truth}
 use denote.Ref.{now}
 use Rattle.awhile.specs.Nodes.{sortOf}
-use Rattle.awhile.specs.declared.Sort.the-variants.{Numeric, Truth}
 use mathlib.Core.Path.{_≡_, refl, sym, ap, subst, _∙_}
 use native.Mathlib.Omega.{arith}
 use borrow.Author.Needs.{needs}
@@ -102,67 +100,15 @@ either-secret-returns-2 t c =
 
 module _ (t : ℕ) (d : numeric-label-lts.After-node-at (numeric-label-calls t) (numeric-label-at t) numeric-label.Post) where
   numeric-parts : (m : Node) → d .node-at .result ≡ m → Parts (now (d .before .before .before .args .table)) (d .before .before .before .args .n) m
-  numeric-parts m e =
+  numeric-parts =
       let start = d .before .before .before in
-      indexed-parts (now (start .args .table)) (now (start .args .index)) (slice-bytes (now (start .args .table)) (d .before .before .shared-slice-known .given))
-      (start .pre .1 .indexed) (start .args .n) (start .pre .1 .inside) m (sym (d .node-at .ensures) ∙ e)
-
-  -- a child is lower and of its sort
-  numeric-child : (s : Sort) (k : ℕ) → Child (now (d .before .before .before .args .table)) s (d .before .before .before .args .n) k
-      → (2 * k + 2 < t) × OfSort (now (d .before .before .before .args .table)) (now (d .before .before .before .args .index)) s k
-  numeric-child s k h =
-      let start = d .before .before .before in
-      (subst (λ m. 2 * k + 2 < m) (start .pre .0) (omega arith), child-of-sort (start .pre .1 .indexed) h)
-
-  -- two numeric children
-  numeric-pair : (j k : ℕ) → Child (now (d .before .before .before .args .table)) Numeric (d .before .before .before .args .n) j
-      → Child (now (d .before .before .before .args .table)) Numeric (d .before .before .before .args .n) k
-      → (2 * max j k + 2 < t)
-      × (OfSort (now (d .before .before .before .args .table)) (now (d .before .before .before .args .index)) Numeric j
-      × OfSort (now (d .before .before .before .args .table)) (now (d .before .before .before .args .index)) Numeric k)
-  numeric-pair j k g h =
-      let first = numeric-child Numeric j g in
-      let second = numeric-child Numeric k h in
-      (omega arith, (first .1, second .1))
-
-  -- one truth child
-  numeric-truth : (k : ℕ) → Child (now (d .before .before .before .args .table)) Truth (d .before .before .before .args .n) k
-      → (2 * k + 1 < t) × OfSort (now (d .before .before .before .args .table)) (now (d .before .before .before .args .index)) Truth k
-  numeric-truth k h =
-      let only = numeric-child Truth k h in
-      (omega arith, only .1)
+      node-parts (slice-bytes (now (start .args .table)) (d .before .before .shared-slice-known .given)) (start .pre .1 .indexed) (start .pre .1 .inside) (d .node-at .ensures)
 
 module _ (t : ℕ) (d : truth-label-lts.After-node-at (truth-label-calls t) (truth-label-at t) truth-label.Post) where
   truth-parts : (m : Node) → d .node-at .result ≡ m → Parts (now (d .before .before .before .args .table)) (d .before .before .before .args .n) m
-  truth-parts m e =
+  truth-parts =
       let start = d .before .before .before in
-      indexed-parts (now (start .args .table)) (now (start .args .index)) (slice-bytes (now (start .args .table)) (d .before .before .shared-slice-known .given))
-      (start .pre .1 .indexed) (start .args .n) (start .pre .1 .inside) m (sym (d .node-at .ensures) ∙ e)
-
-  -- a child is lower and of its sort
-  truth-child : (s : Sort) (k : ℕ) → Child (now (d .before .before .before .args .table)) s (d .before .before .before .args .n) k
-      → (2 * k + 2 < t) × OfSort (now (d .before .before .before .args .table)) (now (d .before .before .before .args .index)) s k
-  truth-child s k h =
-      let start = d .before .before .before in
-      (subst (λ m. 2 * k + 2 < m) (start .pre .0) (omega arith), child-of-sort (start .pre .1 .indexed) h)
-
-  -- two numeric children
-  truth-pair : (j k : ℕ) → Child (now (d .before .before .before .args .table)) Numeric (d .before .before .before .args .n) j
-      → Child (now (d .before .before .before .args .table)) Numeric (d .before .before .before .args .n) k
-      → (2 * max j k + 2 < t)
-      × (OfSort (now (d .before .before .before .args .table)) (now (d .before .before .before .args .index)) Numeric j
-      × OfSort (now (d .before .before .before .args .table)) (now (d .before .before .before .args .index)) Numeric k)
-  truth-pair j k g h =
-      let first = truth-child Numeric j g in
-      let second = truth-child Numeric k h in
-      (omega arith, (first .1, second .1))
-
-  -- one truth child
-  truth-truth : (k : ℕ) → Child (now (d .before .before .before .args .table)) Truth (d .before .before .before .args .n) k
-      → (2 * k + 1 < t) × OfSort (now (d .before .before .before .args .table)) (now (d .before .before .before .args .index)) Truth k
-  truth-truth k h =
-      let only = truth-child Truth k h in
-      (omega arith, only .1)
+      node-parts (slice-bytes (now (start .args .table)) (d .before .before .shared-slice-known .given)) (start .pre .1 .indexed) (start .pre .1 .inside) (d .node-at .ensures)
 
 numeric-label-node-at-requires : (t : ℕ) → numeric-label-lts.Need-node-at-requires (numeric-label-calls t) (numeric-label-at t) numeric-label.Post
 numeric-label-node-at-requires t c κs =
@@ -180,7 +126,7 @@ numeric-label-enum-known-node-2 t c = search needs
 numeric-label-either-secret-requires : (t : ℕ) → numeric-label-lts.Need-either-secret-requires (numeric-label-calls t) (numeric-label-at t) numeric-label.Post
 numeric-label-either-secret-requires t c κs =
     let p = numeric-parts t (c .before .before .before) _ (c .before .node2 .given .1) in
-    numeric-pair t (c .before .before .before) _ _ (p .0) (p .1)
+    pair-below (c .before .before .before .before .before .before .pre .1 .indexed) (c .before .before .before .before .before .before .pre .0) _ _ (p .0) (p .1)
 
 numeric-label-enum-known-node-3 : (t : ℕ) → numeric-label-lts.Need-enum-known-node-3 (numeric-label-calls t) (numeric-label-at t) numeric-label.Post
 numeric-label-enum-known-node-3 t c = search needs
@@ -188,7 +134,7 @@ numeric-label-enum-known-node-3 t c = search needs
 numeric-label-either-secret-requires-2 : (t : ℕ) → numeric-label-lts.Need-either-secret-requires-2 (numeric-label-calls t) (numeric-label-at t) numeric-label.Post
 numeric-label-either-secret-requires-2 t c κs =
     let p = numeric-parts t (c .before .before .before) _ (c .before .node3 .given .1) in
-    numeric-pair t (c .before .before .before) _ _ (p .0) (p .1)
+    pair-below (c .before .before .before .before .before .before .pre .1 .indexed) (c .before .before .before .before .before .before .pre .0) _ _ (p .0) (p .1)
 
 numeric-label-enum-known-node-4 : (t : ℕ) → numeric-label-lts.Need-enum-known-node-4 (numeric-label-calls t) (numeric-label-at t) numeric-label.Post
 numeric-label-enum-known-node-4 t c = search needs
@@ -196,7 +142,7 @@ numeric-label-enum-known-node-4 t c = search needs
 numeric-label-either-secret-requires-3 : (t : ℕ) → numeric-label-lts.Need-either-secret-requires-3 (numeric-label-calls t) (numeric-label-at t) numeric-label.Post
 numeric-label-either-secret-requires-3 t c κs =
     let p = numeric-parts t (c .before .before .before) _ (c .before .node4 .given .1) in
-    numeric-pair t (c .before .before .before) _ _ (p .0) (p .1)
+    pair-below (c .before .before .before .before .before .before .pre .1 .indexed) (c .before .before .before .before .before .before .pre .0) _ _ (p .0) (p .1)
 
 numeric-label-enum-known-node-5 : (t : ℕ) → numeric-label-lts.Need-enum-known-node-5 (numeric-label-calls t) (numeric-label-at t) numeric-label.Post
 numeric-label-enum-known-node-5 t c = search needs
@@ -204,12 +150,12 @@ numeric-label-enum-known-node-5 t c = search needs
 numeric-label-truth-label-requires : (t : ℕ) → numeric-label-lts.Need-truth-label-requires (numeric-label-calls t) (numeric-label-at t) numeric-label.Post
 numeric-label-truth-label-requires t c κs =
     let p = numeric-parts t (c .before .before .before) _ (c .before .node5 .given .1) in
-    numeric-truth t (c .before .before .before) _ (p .0)
+    child-below (c .before .before .before .before .before .before .pre .1 .indexed) (c .before .before .before .before .before .before .pre .0) _ (p .0)
 
 numeric-label-either-secret-requires-4 : (t : ℕ) → numeric-label-lts.Need-either-secret-requires-4 (numeric-label-calls t) (numeric-label-at t) numeric-label.Post
 numeric-label-either-secret-requires-4 t c κs =
     let p = numeric-parts t (c .before .before .before .before .before) _ (c .before .before .before .node5 .given .1) in
-    numeric-pair t (c .before .before .before .before .before) _ _ (p .1) (p .2)
+    pair-below (c .before .before .before .before .before .before .before .before .pre .1 .indexed) (c .before .before .before .before .before .before .before .before .pre .0) _ _ (p .1) (p .2)
 
 numeric-label-returns : (t : ℕ) → numeric-label-lts.Need-returns (numeric-label-calls t) (numeric-label-at t) numeric-label.Post
 unfolding labelOfA
@@ -263,7 +209,7 @@ truth-label-enum-known-node t c = search needs
 truth-label-either-secret-requires : (t : ℕ) → truth-label-lts.Need-either-secret-requires (truth-label-calls t) (truth-label-at t) truth-label.Post
 truth-label-either-secret-requires t c κs =
     let p = truth-parts t (c .before .before .before) _ (c .before .node .given .1) in
-    truth-pair t (c .before .before .before) _ _ (p .0) (p .1)
+    pair-below (c .before .before .before .before .before .before .pre .1 .indexed) (c .before .before .before .before .before .before .pre .0) _ _ (p .0) (p .1)
 
 truth-label-enum-known-node-2 : (t : ℕ) → truth-label-lts.Need-enum-known-node-2 (truth-label-calls t) (truth-label-at t) truth-label.Post
 truth-label-enum-known-node-2 t c = search needs
@@ -271,7 +217,7 @@ truth-label-enum-known-node-2 t c = search needs
 truth-label-either-secret-requires-2 : (t : ℕ) → truth-label-lts.Need-either-secret-requires-2 (truth-label-calls t) (truth-label-at t) truth-label.Post
 truth-label-either-secret-requires-2 t c κs =
     let p = truth-parts t (c .before .before .before) _ (c .before .node2 .given .1) in
-    truth-pair t (c .before .before .before) _ _ (p .0) (p .1)
+    pair-below (c .before .before .before .before .before .before .pre .1 .indexed) (c .before .before .before .before .before .before .pre .0) _ _ (p .0) (p .1)
 
 truth-label-enum-known-node-3 : (t : ℕ) → truth-label-lts.Need-enum-known-node-3 (truth-label-calls t) (truth-label-at t) truth-label.Post
 truth-label-enum-known-node-3 t c = search needs
@@ -279,7 +225,7 @@ truth-label-enum-known-node-3 t c = search needs
 truth-label-truth-label-requires : (t : ℕ) → truth-label-lts.Need-truth-label-requires (truth-label-calls t) (truth-label-at t) truth-label.Post
 truth-label-truth-label-requires t c κs =
     let p = truth-parts t (c .before .before .before) _ (c .before .node3 .given .1) in
-    truth-truth t (c .before .before .before) _ (p .0)
+    child-below (c .before .before .before .before .before .before .pre .1 .indexed) (c .before .before .before .before .before .before .pre .0) _ (p .0)
 
 truth-label-enum-known-node-4 : (t : ℕ) → truth-label-lts.Need-enum-known-node-4 (truth-label-calls t) (truth-label-at t) truth-label.Post
 truth-label-enum-known-node-4 t c = search needs
@@ -287,12 +233,12 @@ truth-label-enum-known-node-4 t c = search needs
 truth-label-truth-label-requires-2 : (t : ℕ) → truth-label-lts.Need-truth-label-requires-2 (truth-label-calls t) (truth-label-at t) truth-label.Post
 truth-label-truth-label-requires-2 t c κs =
     let p = truth-parts t (c .before .before .before) _ (c .before .node4 .given .1) in
-    truth-truth t (c .before .before .before) _ (p .0)
+    child-below (c .before .before .before .before .before .before .pre .1 .indexed) (c .before .before .before .before .before .before .pre .0) _ (p .0)
 
 truth-label-truth-label-requires-3 : (t : ℕ) → truth-label-lts.Need-truth-label-requires-3 (truth-label-calls t) (truth-label-at t) truth-label.Post
 truth-label-truth-label-requires-3 t c κs =
     let p = truth-parts t (c .before .before .before .before .before) _ (c .before .before .before .node4 .given .1) in
-    truth-truth t (c .before .before .before .before .before) _ (p .1)
+    child-below (c .before .before .before .before .before .before .before .before .pre .1 .indexed) (c .before .before .before .before .before .before .before .before .pre .0) _ (p .1)
 
 truth-label-returns : (t : ℕ) → truth-label-lts.Need-returns (truth-label-calls t) (truth-label-at t) truth-label.Post
 unfolding labelOfB

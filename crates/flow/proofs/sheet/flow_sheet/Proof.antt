@@ -1,0 +1,82 @@
+-- `flow_sheet` answers what the reader refuses, and else writes the sheet.
+use Prim.Native.Nat.{ℕ}
+use Rattle.awhile.specs.declared.Labelling.{Labelling}
+use Rattle.awhile.specs.declared.Read.the-variants.{Accepted}
+use denote.Ref.{now}
+use mathlib.Core.Path.{_≡_}
+use Rattle.awhile.specs.Refusals.{got}
+use Rattle.labels.specs.Sheet.{sheetBytes}
+use Rattle.flow.specs.Writing.{sheetEntry}
+use Rattle.flow.proofs.Reading.{Accepts, read-refused, read-accepted, reader-accepts}
+use borrow.Author.Needs.{needs}
+use Rattle.flow.proofs.sheet.flow_sheet.Statement.{statement}
+use Rattle.flow.proofs.sheet.flow_sheet.Tie as tie
+
+-- what the reader says where it accepts
+accepts : (d : tie.After-read) (v a n c : ℕ) (l : Labelling) (e : ℕ) → d .read .result ≡ Accepted v a n c l e
+    → Accepts (now (d .before .before .before .before .before .args .table)) (d .read .last .1 .0) n l
+accepts d v a n c l e h =
+    reader-accepts (now (d .before .before .before .before .before .args .table)) (d .read .last .1 .0) (d .read .result) v a n c l e (d .read .ensures) h
+
+slice-aggregate-read : tie.Need-slice-aggregate-read
+slice-aggregate-read c = search needs
+
+read-requires : tie.Need-read-requires
+read-requires c κs = search needs
+
+enum-known-found : tie.Need-enum-known-found
+enum-known-found c = search needs
+
+answer-refusal-requires : tie.Need-answer-refusal-requires
+answer-refusal-requires c κs = search needs
+
+enum-known-found-2 : tie.Need-enum-known-found-2
+enum-known-found-2 c = search needs
+
+slice-aggregate-answer-sheet : tie.Need-slice-aggregate-answer-sheet
+slice-aggregate-answer-sheet c = search needs
+
+answer-sheet-requires : tie.Need-answer-sheet-requires
+answer-sheet-requires c κs =
+    let a = accepts (c .before .before .before .before .before .before .before) _ _ _ _ _ _ (c .before .before .before .before .found2 .given .1) in
+    (a .indexed, a .isNodes, a .isLabels)
+
+same-length : tie.Need-same-length
+same-length c = search needs
+
+returns : tie.Need-returns
+unfolding sheetEntry
+returns c =
+    let start = c .before .before .before .before .before .before .before .before .before .before .before .before .before in
+    read-refused (λ t. got (sheetBytes t)) (now (start .args .table)) (now (start .args .sheet)) (now (start .args .answer)) (c .before .before .before .before .before .before .before .before .read .last .1 .0) (c .before .before .before .before .before .before .before .before .read .result) _ (c .before .before .before .before .before .before .before .before .read .ensures) (c .before .before .before .before .before .found .given .1)
+    (c .before .before .answer-refusal .ensures .0) (c .before .before .answer-refusal .ensures .1)
+
+same-length-2 : tie.Need-same-length-2
+same-length-2 c = search needs
+
+same-length-3 : tie.Need-same-length-3
+same-length-3 c = search needs
+
+returns-2 : tie.Need-returns-2
+unfolding sheetEntry
+returns-2 c =
+    let start = c .before .before .before .before .before .before .before .before .before .before .before .before .before .before .before .before .before in
+    let a = accepts (c .before .before .before .before .before .before .before .before .before .before .before .before) _ _ _ _ _ _ (c .before .before .before .before .before .before .before .before .before .found2 .given .1) in
+    read-accepted (λ t. got (sheetBytes t)) (now (start .args .table)) (now (start .args .sheet)) (now (start .args .answer)) (c .before .before .before .before .before .before .before .before .before .before .before .before .read .last .1 .0) (a .indexed) (c .before .before .before .before .answer-sheet .ensures)
+
+pub flow-sheet-spec : {M : Type 1} → statement M
+flow-sheet-spec =
+    tie.close
+    (tie.spec
+    slice-aggregate-read
+    read-requires
+    enum-known-found
+    answer-refusal-requires
+    enum-known-found-2
+    slice-aggregate-answer-sheet
+    answer-sheet-requires
+    same-length
+    returns
+    same-length-2
+    same-length-3
+    returns-2)
