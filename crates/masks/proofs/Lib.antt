@@ -27,3 +27,5 @@ pub mod ExpressionWrites
 pub mod Masking
 pub mod AccessWrites
 pub mod CommandWrites
+pub mod CommandSizes
+pub mod TableWrites

@@ -11,3 +11,4 @@ pub mod Records
 pub mod Written
 pub mod Sizes
 pub mod InMemory
+pub mod Output

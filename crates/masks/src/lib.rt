@@ -6,6 +6,8 @@ pub mod deciding;
 pub mod masked;
 pub mod records;
 pub mod sizes;
+pub mod tables;
+pub mod totals;
 
 // How much is written: so many nodes, in so many bytes.
 pub struct Size {

@@ -126,7 +126,7 @@ fn put_head(out: &mut [u8], size: usize, kind: usize)
 }
 
 // A record at the front of a slice. The answer is its length.
-fn put_record(out: &mut [u8], fields: Record) -> usize
+pub fn put_record(out: &mut [u8], fields: Record) -> usize
     requires { ⌜ recordSize fields ≤ length (now out) ⌝ }
     ensures { λ r. ⌜ (now (out .exit) ≡ sets (now (out .entry)) 0 (recordBytes fields)) × (r ≡ recordSize fields) ⌝ }
 {

@@ -1,0 +1,36 @@
+-- What writing a hardened table requires: the table that was read and its numbers, the notes that the analysis left, and room.
+use Prim.Native.Nat.{ℕ, _+_, _≤_}
+use mathlib.Core.List.{List}
+use mathlib.Core.Path.{_≡_}
+use lib.ListN.{length}
+use lib.Seq.{sets}
+use Rattle.awhile.specs.Encoding.{nodesOf, tableBytes}
+use Rattle.awhile.specs.Index.{Indexed, tableOf, nodesIn}
+use Rattle.awhile.specs.Tables.{maxNodes}
+use Rattle.awhile.specs.declared.Labelling.{Labelling}
+use Rattle.labels.specs.Conditions.{NoteRoom}
+use Rattle.labels.specs.Notes.{Noted}
+use Rattle.labels.specs.Sheet.{annotated}
+use Rattle.masks.specs.Hardening.{hardenedProgram, hardenedTable}
+
+-- the numbers of a table that was read
+pub record Numbers (table : List ℕ) (variables arrays root : ℕ) (labels : Labelling) : Type 0 where
+  pub isVariables : variables ≡ tableOf table .variables
+  pub isArrays : arrays ≡ length (tableOf table .counts)
+  pub isRoot : root + 1 ≡ nodesIn table
+  pub isLabels : labels ≡ tableOf table .labels
+
+pub record Writable (table index vs arrs : List ℕ) (variables arrays root nodes : ℕ) (labels : Labelling) (out : List ℕ) : Type 0 where
+  pub indexed : Indexed table index
+  pub numbers : Numbers table variables arrays root labels
+  pub notes : Noted vs arrs (annotated (tableOf table))
+  pub noteRoom : NoteRoom table vs arrs
+  -- as many nodes as come out
+  pub isNodes : nodes ≡ nodesOf (hardenedProgram (tableOf table))
+  pub few : nodes ≤ maxNodes
+  pub fits : length (tableBytes (hardenedTable (tableOf table))) ≤ length out
+
+-- the table is written at the front, and its length answered
+pub record WroteTable (table before after : List ℕ) (answer : ℕ) : Type 0 where
+  pub stored : after ≡ sets before 0 (tableBytes (hardenedTable (tableOf table)))
+  pub counted : answer ≡ length (tableBytes (hardenedTable (tableOf table)))
