@@ -6,5 +6,4 @@ pub mod Hardened
 pub mod Answers
 pub mod Program
 pub mod Reading
-pub mod Outcomes
 pub mod Runs

@@ -6,5 +6,4 @@ pub mod Security
 pub mod Promises
 pub mod Hardened
 pub mod Program
-pub mod Outcomes
 pub mod Runs

@@ -1,4 +1,4 @@
 // The exported entries, and nothing else.
 mod answer;
-pub mod sheet;
 pub mod machines;
+pub mod sheet;

@@ -1,0 +1,228 @@
+# Independent model of document 01 (tables, labels, sheet, hardener, both machines, four entries).
+M32 = 1 << 32
+def le(w, n): return list(int(n).to_bytes(w, 'little'))
+def un(bs): return int.from_bytes(bytes(bs), 'little')
+KIND = {'num':16,'var':17,'add':18,'sub':19,'mul':20,'choice':21,'const':32,'eq':33,'lt':34,'not':35,'and':36,
+        'skip':48,'assign':49,'seq':50,'if':51,'while':52,'read':53,'write':54}
+NAME = {v:k for k,v in KIND.items()}
+# field layout: letter per field: n = 4-byte number, x = variable, a = array, b = constant, N/T/C = child of that sort
+LAY = {'num':'n','var':'x','add':'NN','sub':'NN','mul':'NN','choice':'TNN','const':'b','eq':'NN','lt':'NN','not':'T','and':'TT',
+       'skip':'','assign':'xN','seq':'CC','if':'TCC','while':'TC','read':'xaN','write':'aNN'}
+def sort(k): return 'N' if KIND[k] < 32 else 'T' if KIND[k] < 48 else 'C'
+def size(k): return 4 + sum(4 if f == 'n' else 2 for f in LAY[k])
+# ---- assembler: trees (nested tuples) to records
+def emit(t, out):
+    k = t[0]; f = []
+    for l, v in zip(LAY[k], t[1:]):
+        f += le(4, v) if l == 'n' else le(2, emit(v, out)) if l in 'NTC' else le(2, v)
+    out.append(le(2, 4 + len(f)) + le(2, KIND[k]) + f)
+    return len(out) - 1
+def table(V, vm, counts, am, prog):
+    out = []; emit(prog, out)
+    return ([le(2,10)+le(2,1)+le(2,1)+le(1,V)+le(1,len(counts))+le(2,len(out)), le(2,10)+le(2,3)+le(4,vm)+le(2,am)]
+            + [le(2,6)+le(2,2)+le(2,c) for c in counts] + out)
+def flat(recs): return [b for r in recs for b in r]
+class Refused(Exception): pass
+def refuse(n, p): raise Refused(n, p)
+# ---- reader
+def readTable(bs):
+    at = 0
+    def frame(want):            # want: function kind -> length or None
+        nonlocal at
+        if len(bs) - at < 4: refuse(1, at)
+        ln, kd = un(bs[at:at+2]), un(bs[at+2:at+4])
+        w = want(kd)
+        if w is None or w != ln: refuse(2, at)
+        if len(bs) - at < ln: refuse(1, at)
+        r = bs[at+4:at+ln]; p = at; at += ln
+        return kd, r, p
+    _, r, p = frame(lambda k: 10 if k == 1 else None)
+    ver, V, A, N = un(r[0:2]), r[2], r[3], un(r[4:6])
+    if ver != 1 or V > 32 or A > 16 or N < 1 or N > 4096: refuse(3, p)
+    _, r, p = frame(lambda k: 10 if k == 3 else None)
+    vm, am = un(r[0:4]), un(r[4:6])
+    if vm >> V or am >> A: refuse(3, p)
+    counts = []
+    for _i in range(A):
+        _, r, p = frame(lambda k: 6 if k == 2 else None)
+        c = un(r)
+        if c < 1 or sum(counts) + c > 16384: refuse(3, p)
+        counts.append(c)
+    nodes, places, used = [], [], []
+    for i in range(N):
+        kd, r, p = frame(lambda k: size(NAME[k]) if k in NAME else None)
+        k = NAME[kd]; fs = []; o = 0
+        for l in LAY[k]:
+            w = 4 if l == 'n' else 2
+            fs.append(un(r[o:o+w])); o += w
+        for l, v in zip(LAY[k], fs):
+            if (l == 'x' and v >= V) or (l == 'a' and v >= A) or (l == 'b' and v > 1) or (l in 'NTC' and v >= i): refuse(4, p)
+        for l, v in zip(LAY[k], fs):
+            if l in 'NTC' and sort(nodes[v][0]) != l: refuse(5, p)
+        nodes.append((k,) + tuple(fs)); places.append(p); used.append(0)
+        for l, v in zip(LAY[k], fs):
+            if l in 'NTC': used[v] += 1
+    bad = [i for i in range(N - 1) if used[i] != 1] + ([N - 1] if sort(nodes[-1][0]) != 'C' else [])
+    if bad: refuse(6, places[bad[0]])
+    if at < len(bs): refuse(7, at)
+    def tree(i):                # (number, kind, parts..)
+        k, *fs = nodes[i]
+        return (i, k) + tuple(tree(v) if l in 'NTC' else v for l, v in zip(LAY[k], fs))
+    return dict(V=V, A=A, N=N, vm=vm, am=am, counts=counts, root=tree(N - 1))
+def strip(t):
+    return (t[1],) + tuple(strip(s) if isinstance(s, tuple) else s for s in t[2:])
+# ---- labels (trees with numbers)
+def vars_of(t):
+    if t[1] == 'var': return {t[2]}
+    s = set()
+    for p in t[2:]:
+        if isinstance(p, tuple): s |= vars_of(p)
+    return s
+def elabel(e, L): return int(any(L[0] >> x & 1 for x in vars_of(e)))
+def setbit(m, x, b): return (m | 1 << x) if b else (m & ~(1 << x))
+def join(L, K): return (L[0] | K[0], L[1] | K[1])
+def analyse(t, ctx, L, notes):
+    """labelling after t; notes[n] = the sheet fields of command n (last pass wins: that is the settled one)"""
+    n, k = t[0], t[1]
+    if k == 'skip': return L
+    if k == 'assign': return (setbit(L[0], t[2], elabel(t[3], L) | ctx), L[1])
+    if k == 'seq':
+        M = analyse(t[2], ctx, L, notes); notes[n] = ('seq', M)
+        return analyse(t[3], ctx, M, notes)
+    if k == 'if':
+        c = elabel(t[2], L); notes[n] = ('if', c)
+        return join(analyse(t[3], ctx | c, L, notes), analyse(t[4], ctx | c, L, notes))
+    if k == 'while':
+        while True:
+            c = elabel(t[2], L)
+            M = join(L, analyse(t[3], ctx | c, L, notes))
+            if M == L: break
+            L = M
+        notes[n] = ('while', c, L)
+        return L
+    if k == 'read':
+        i = elabel(t[4], L); v = i | (L[1] >> t[3] & 1) | ctx; notes[n] = ('read', v, i)
+        return (setbit(L[0], t[2], v), L[1])
+    if k == 'write':
+        i = elabel(t[3], L); notes[n] = ('write', i)
+        return (L[0], L[1] | ((i | elabel(t[4], L) | ctx) << t[2]))
+def masks(L): return le(4, L[0]) + le(2, L[1])
+def sheet(p):
+    notes = {}; F = analyse(p['root'], 0, (p['vm'], p['am']), notes)
+    rs = [le(2,14)+le(2,128)+le(2,1)+le(2,p['N'])+masks(F)]
+    for n in sorted(notes):
+        t = notes[n]; k = t[0]
+        if k == 'seq': rs.append(le(2,12)+le(2,129)+le(2,n)+masks(t[1]))
+        if k == 'if': rs.append(le(2,8)+le(2,130)+le(2,n)+le(2,t[1]))
+        if k == 'while': rs.append(le(2,14)+le(2,131)+le(2,n)+le(2,t[1])+masks(t[2]))
+        if k == 'read': rs.append(le(2,10)+le(2,132)+le(2,n)+le(2,t[1])+le(2,t[2]))
+        if k == 'write': rs.append(le(2,8)+le(2,133)+le(2,n)+le(2,t[1]))
+    return rs
+# ---- masks
+def hardened(p):
+    notes = {}; analyse(p['root'], 0, (p['vm'], p['am']), notes)
+    f = p['V']; F = ('var', f); one = ('num', 1); zero = ('num', 0)
+    def cond(c, s): return ('and', ('eq', F, zero), c) if s else c
+    def index(i, s): return ('choice', ('eq', F, one), zero, i) if s else i
+    def h(t):
+        n, k = t[0], t[1]
+        if k in ('skip', 'assign'): return strip(t)
+        if k == 'seq': return ('seq', h(t[2]), h(t[3]))
+        if k == 'if':
+            c = cond(strip(t[2]), notes[n][1])
+            return ('if', c, ('seq', ('assign', f, ('choice', c, F, one)), h(t[3])), ('seq', ('assign', f, ('choice', c, one, F)), h(t[4])))
+        if k == 'while':
+            c = cond(strip(t[2]), notes[n][1])
+            return ('seq', ('while', c, ('seq', ('assign', f, ('choice', c, F, one)), h(t[3]))), ('assign', f, ('choice', c, one, F)))
+        if k == 'read':
+            v, i = notes[n][1:]
+            r = ('read', t[2], t[3], index(strip(t[4]), i))
+            return r if v or i else ('seq', r, ('assign', t[2], ('choice', ('eq', F, one), zero, ('var', t[2]))))
+        if k == 'write': return ('write', t[2], index(strip(t[3]), notes[n][1]), strip(t[4]))
+    return table(f + 1, p['vm'], p['counts'], p['am'], h(p['root']))
+# ---- evaluation and machines
+def ev(e, vs):
+    k = e[1]
+    if k == 'num' or k == 'const': return e[2]
+    if k == 'var': return vs[e[2]]
+    if k == 'choice': return ev(e[3], vs) if ev(e[2], vs) else ev(e[4], vs)
+    a = ev(e[2], vs)
+    if k == 'not': return 1 - a
+    b = ev(e[3], vs)
+    return {'add':(a+b)%M32, 'sub':(a-b)%M32, 'mul':(a*b)%M32, 'eq':int(a==b), 'lt':int(a<b), 'and':a&b}[k]
+def directives(bs):
+    ds, at = [], 0
+    while at < len(bs):
+        if len(bs) - at < 4: refuse(10, 0)
+        ln, kd = un(bs[at:at+2]), un(bs[at+2:at+4])
+        if kd not in (72,73,74,75) or ln != (4 if kd < 74 else 10) or len(bs) - at < ln: refuse(10, 0)
+        ds.append((kd,) + ((un(bs[at+4:at+6]), un(bs[at+6:at+10])) if kd > 73 else ())); at += ln
+    return ds
+def run(p, vs, cells, room, budget, ds=None):
+    vs, cells = list(vs), list(cells)
+    counts = p['counts']; start = [sum(counts[:i]) for i in range(len(counts))]
+    pend, obs, steps, used, flag = [p['root']], [], 0, 0, 0
+    def res(end): return dict(end=end, steps=steps, used=used, obs=obs, flag=flag, nxt=pend[-1][0] if pend else 0, pend=[t[0] for t in pend], vs=vs, cells=cells)
+    while True:
+        if not pend: return res(1)
+        if steps == budget: return res(2)
+        t = pend[-1]; n, k = t[0], t[1]
+        shown = k in ('if','while','read','write')
+        d = (72,)
+        if shown and ds is not None:
+            if used == len(ds): return res(3)
+            d = ds[used]
+        o = []
+        if k in ('if','while'):
+            if d[0] not in (72,73): return res(4)
+            v = ev(t[2], vs); o = le(2,6)+le(2,64)+le(2,v)
+        if k in ('read','write'):
+            a = t[3] if k == 'read' else t[2]
+            i = ev(t[4] if k == 'read' else t[3], vs)
+            o = le(2,10)+le(2,65 if k == 'read' else 66)+le(2,a)+le(4,i)
+            if i < counts[a]:
+                if d[0] != 72: return res(4)
+                at = start[a] + i
+            else:
+                if not (flag and d[0] == (74 if k == 'read' else 75)): return res(4)
+                if not (d[1] < len(counts) and d[2] < counts[d[1]]): return res(4)
+                at = start[d[1]] + d[2]
+        if len(obs) + len(o) > room: return res(5)
+        pend.pop()
+        if k == 'assign': vs[t[2]] = ev(t[3], vs)
+        if k == 'seq': pend += [t[3], t[2]]
+        if k in ('if','while'):
+            w = v
+            if d[0] == 73: w = 1 - v; flag = 1
+            if k == 'if': pend.append(t[3] if w else t[4])
+            elif w: pend += [t, t[3]]
+        if k == 'read': vs[t[2]] = cells[at]
+        if k == 'write': cells[at] = ev(t[4], vs)
+        obs = obs + o; steps += 1
+        if shown and ds is not None: used += 1
+# ---- entries: (answer numbers, memory at exit)
+def words(l): return [b for w in l for b in le(4, w)]
+def unwords(bs): return [un(bs[i:i+4]) for i in range(0, len(bs), 4)]
+def over(buf, bs): return list(bs) + list(buf[len(bs):])
+def writeEntry(make, tab, buf, hard=False):
+    try:
+        p = readTable(tab)
+        if hard and p['N'] > 512: refuse(8, 0)
+        if hard and p['V'] == 32: refuse(9, 0)
+        out = flat(make(p))
+        if len(out) > len(buf): refuse(23, 0)
+        return [0, len(out)], over(buf, out)
+    except Refused as r: return list(r.args), list(buf)
+def sheetEntry(tab, buf): return writeEntry(sheet, tab, buf)
+def hardenEntry(tab, buf): return writeEntry(hardened, tab, buf, True)
+def runEntry(tab, vs, cells, pend, obs, budget, dirs=None):
+    try:
+        p = readTable(tab)
+        ds = None if dirs is None else directives(dirs)
+        if len(vs) != 4 * p['V']: refuse(20, 0)
+        if len(cells) != 4 * sum(p['counts']): refuse(21, 0)
+        if len(pend) < 4 * p['N']: refuse(22, 0)
+        r = run(p, unwords(vs), unwords(cells), len(obs), budget, ds)
+        return ([0, r['end'], r['steps'], r['used'], len(r['obs']), r['flag'], r['nxt']], words(r['vs']), words(r['cells']),
+                over(pend, words(r['pend'] + [0] * (p['N'] - len(r['pend'])))), over(obs, r['obs']))
+    except Refused as r: return list(r.args), list(vs), list(cells), list(pend), list(obs)
