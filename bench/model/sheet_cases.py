@@ -1,10 +1,11 @@
+# Writes crates/cases/stdin and stdout: calls of flow_sheet, and what document 01 says that they leave, by model.py.
 import sys, threading
 sys.path.insert(0, __import__('os').path.dirname(__import__('os').path.abspath(__file__)))
 sys.setrecursionlimit(100000); threading.stack_size(512*1024*1024)
 from model import *
 import model
 from programs import T, seqs, v, n, skip
-OUT='/work/hp/crates/cases/'
+OUT=__import__('os').path.dirname(__import__('os').path.abspath(__file__))+'/../../crates/cases/'
 def head(V=0,A=0,N=1,version=1): return le(2,10)+le(2,1)+le(2,version)+[V,A]+le(2,N)
 def labels(vm=0,am=0): return le(2,10)+le(2,3)+le(4,vm)+le(2,am)
 def arr(c): return le(2,6)+le(2,2)+le(2,c)
