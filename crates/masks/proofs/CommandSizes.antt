@@ -3,11 +3,12 @@ use Prim.Native.Nat.{ℕ, _+_, _*_, _≤_}
 use native.Mathlib.Omega.{arith}
 use mathlib.Core.Bool.{Bool, true, false, cond}
 use mathlib.Core.List.{List}
-use mathlib.Core.Path.{_≡_}
+use mathlib.Core.Path.{_≡_, refl}
 use Rattle.awhile.specs.Language.{AExp, BExp, Com, skip, assign, sequence, if, while, read, write}
 use Rattle.awhile.specs.Encoding.{nodesOfA, nodesOfB, nodesOf}
 use Rattle.awhile.specs.Tables.{maxNodes}
-use Rattle.masks.specs.Decisions.{Decision, decision}
+use Rattle.labels.specs.Annotation.{Entry}
+use Rattle.masks.specs.Decisions.{Decision, decision, decide}
 use Rattle.masks.specs.Hardening.{Origin, maskedCondition, zeroIfGuessing, maskedIndex, flagIfTrue, flagIfFalse, maskValueOf, harden}
 use Rattle.masks.specs.InMemory.{hardenedIn, flagUpdate, testIn, sideIn, ifIn, loopIn, whileIn}
 use Rattle.masks.specs.Sizes.{bytesOfA, bytesOfB, bytesOf, Sized, Few}
@@ -89,3 +90,62 @@ module _ (f : ℕ) where
 -- the size of a command is that of what it is
 pub sized-C : {c d : Com Origin} {r : Size} → c ≡ d → Sized (nodesOf d) (bytesOf d) r → Sized (nodesOf c) (bytesOf c) r
 sized-C p s = rw p s
+
+-- ---- sizes do not depend on the flag's number
+module _ (f g : ℕ) where
+  same-condition : (mask : Bool) (b : BExp)
+      → SameSize (nodesOfB (maskedCondition f mask b)) (bytesOfB (maskedCondition f mask b)) (nodesOfB (maskedCondition g mask b)) (bytesOfB (maskedCondition g mask b))
+  unfolding maskedCondition nodesOfB bytesOfB nodesOfA bytesOfA
+  same-condition true b = record { nodesSame = refl; bytesSame = refl }
+  same-condition false b = record { nodesSame = refl; bytesSame = refl }
+
+  same-index : (mask : Bool) (i : AExp)
+      → SameSize (nodesOfA (maskedIndex f mask i)) (bytesOfA (maskedIndex f mask i)) (nodesOfA (maskedIndex g mask i)) (bytesOfA (maskedIndex g mask i))
+  unfolding maskedIndex zeroIfGuessing nodesOfB bytesOfB nodesOfA bytesOfA
+  same-index true i = record { nodesSame = refl; bytesSame = refl }
+  same-index false i = record { nodesSame = refl; bytesSame = refl }
+
+  pub any-flag : (d : Com Decision) → SameSize (nodesOf (harden f d)) (bytesOf (harden f d)) (nodesOf (harden g d)) (bytesOf (harden g d))
+  unfolding harden flagIfTrue flagIfFalse maskValueOf zeroIfGuessing nodesOf bytesOf nodesOfA bytesOfA
+  any-flag (skip n) = record { nodesSame = refl; bytesSame = refl }
+  any-flag (assign n x e) = record { nodesSame = refl; bytesSame = refl }
+  any-flag (sequence n c d) =
+      let p = any-flag c in
+      let q = any-flag d in
+      record { nodesSame = omega (arith, p .nodesSame, q .nodesSame); bytesSame = omega (arith, p .bytesSame, q .bytesSame) }
+  any-flag (if n b c d) =
+      let t = same-condition (n .maskCondition) b in
+      let p = any-flag c in
+      let q = any-flag d in
+      record {
+        nodesSame = omega (arith, t .nodesSame, p .nodesSame, q .nodesSame);
+        bytesSame = omega (arith, t .bytesSame, p .bytesSame, q .bytesSame);
+      }
+  any-flag (while n b c) =
+      let t = same-condition (n .maskCondition) b in
+      let p = any-flag c in
+      record { nodesSame = omega (arith, t .nodesSame, p .nodesSame); bytesSame = omega (arith, t .bytesSame, p .bytesSame) }
+  any-flag (read n x a i) = hidden (n .maskValue)
+    where
+      hidden : (hide : Bool) → let n′ : Decision = decision (n .node) (n .maskCondition) (n .maskIndex) hide in
+          SameSize (nodesOf (harden f (read n′ x a i))) (bytesOf (harden f (read n′ x a i))) (nodesOf (harden g (read n′ x a i))) (bytesOf (harden g (read n′ x a i)))
+      hidden true =
+          let p = same-index (n .maskIndex) i in
+          record { nodesSame = omega (arith, p .nodesSame); bytesSame = omega (arith, p .bytesSame) }
+      hidden false =
+          let p = same-index (n .maskIndex) i in
+          record { nodesSame = omega (arith, p .nodesSame); bytesSame = omega (arith, p .bytesSame) }
+  any-flag (write n a i e) =
+      let p = same-index (n .maskIndex) i in
+      record { nodesSame = omega (arith, p .nodesSame); bytesSame = omega (arith, p .bytesSame) }
+
+-- decisions change no node
+pub decide-nodes : (c : Com Entry) → nodesOf (decide c) ≡ nodesOf c
+unfolding decide nodesOf
+decide-nodes (skip e) = refl
+decide-nodes (assign e x a) = refl
+decide-nodes (sequence e c d) = omega (arith, decide-nodes c, decide-nodes d)
+decide-nodes (if e b c d) = omega (arith, decide-nodes c, decide-nodes d)
+decide-nodes (while e b c) = omega (arith, decide-nodes c)
+decide-nodes (read e x a i) = refl
+decide-nodes (write e a i v) = refl

@@ -7,15 +7,15 @@ use mathlib.Core.Path.{_≡_, refl, sym, ap, subst, _∙_}
 use mathlib.Core.List.{List, [], _∷_, _++_, append-assoc}
 use lib.ListN.{length}
 use Rattle.awhile.specs.Language.{AExp, choice, BExp}
-use Rattle.awhile.specs.Encoding.{nodesOfA, nodesOfB, binary, ternary, writeA, writeB}
+use Rattle.awhile.specs.Encoding.{nodesOfA, nodesOfB, binary, writeA, writeB}
 use Rattle.awhile.specs.declared.Node.{Node}
 use Rattle.awhile.specs.declared.Node.the-variants.{Choice}
 use Rattle.masks.specs.Sizes.{bytesOfA, bytesOfB, Sized}
-use Rattle.masks.specs.Written.{Appended, Wrote, WrotePair, Both, Room}
+use Rattle.masks.specs.Written.{Appended, Wrote, WrotePair, WroteTwo, Both, Room}
 use Rattle.masks.specs.declared.Size.{Size}
 use Rattle.masks.specs.declared.Pair.{Pair}
 use Rattle.masks.proofs.Lengths.{Counted, counted-A, counted-B, counted-append}
-use Rattle.masks.proofs.Joins.{two-wrote}
+use Rattle.masks.proofs.Joins.{two-wrote, three-room, three-parent}
 use Rattle.masks.proofs.Writers.{sizeIs, restOf, withRest, wrote-sized, wrote-as, wrote-parent, wrote-rest, room-parent}
 
 -- the expression of a node is what its parts say
@@ -60,38 +60,30 @@ module _ {from : ℕ} {a b : AExp} {l m : List ℕ} {p : Pair} where
       → (p .bytes + 8 ≤ length m) × (p .nodes < 2 ^ 32)
   pair-room w h = room-parent 8 (w .wrote) (counted-append (counted-A from a) (counted-A (from + nodesOfA a) b)) h (omega arith) (omega arith)
 
+  -- as two lists of nodes
+  pub pair-two : WrotePair from a b l m p → WroteTwo from (writeA from a) (writeA (from + nodesOfA a) b) l m p
+  pair-two w =
+      let first = counted-A from a .nodesAre in
+      let second = counted-A (from + nodesOfA a) b .nodesAre in
+      record { wrote = w .wrote; leftIs = omega (arith, w .leftIs); rightIs = omega (arith, w .rightIs) }
+
 -- ---- a choice
 module _ (from : ℕ) (c : BExp) (a b : AExp) {l m rest : List ℕ} {s : Size} {p : Pair} where
   pub choice-room : Wrote (writeB from c) l m s → WrotePair (from + s .nodes) a b (restOf (s .bytes) m) rest p
       → Room from (nodesOfB c + nodesOfA a + nodesOfA b + 1) (bytesOfB c + bytesOfA a + bytesOfA b + 10) l
       → (s .bytes + p .bytes + 10 ≤ length (withRest (s .bytes) m rest)) × (s .nodes + p .nodes < 2 ^ 32)
   choice-room w v h =
-      let first = wrote-sized w (counted-B from c) in
-      let both = pair-sized v in
-      let fits : s .bytes + p .bytes ≤ length l = omega (arith, first .bytesCounted, both .bytesCounted, h .fits) in
-      room-parent 10 (wrote-rest w (v .wrote) fits)
-      (counted-append (counted-B from c) (counted-append (counted-A (from + s .nodes) a) (counted-A (from + s .nodes + nodesOfA a) b))) h
-      (omega arith) (omega arith)
+      three-room from (λ k. writeA k a) (λ k. writeA (k + nodesOfA a) b) w (counted-B from c) (pair-two v) (λ k. counted-A k a)
+      (λ k. counted-A (k + nodesOfA a) b) 10 h (omega arith) (omega arith)
 
-module _ (from : ℕ) (c : BExp) (a b : AExp) {l m k rest : List ℕ} {s r : Size} {p : Pair} where
-  pub wrote-choice : Wrote (writeB from c) l m s → WrotePair (from + s .nodes) a b (restOf (s .bytes) m) rest p → {i : ℕ} → i ≡ from + s .nodes - 1
-      → Appended (s .nodes + p .nodes) (s .bytes + p .bytes) (Choice i (p .left) (p .right)) (withRest (s .bytes) m rest) k r
-      → bytesOfB c + bytesOfA a + bytesOfA b ≤ length l → Wrote (writeA from (choice c a b)) l k r
-  unfolding writeA ternary
-  wrote-choice w v {i} e h room =
-      let first = wrote-sized w (counted-B from c) in
-      let both = wrote-sized (v .wrote) (counted-append (counted-A (from + s .nodes) a) (counted-A (from + s .nodes + nodesOfA a) b)) in
-      let fits : s .bytes + p .bytes ≤ length l = omega (arith, first .bytesCounted, both .bytesCounted) in
-      let n : ℕ = nodesOfB c in
-      let whole : (j : ℕ) → List Node = λ j. writeB from c ++ (writeA (from + j) a ++ (writeA (from + j + nodesOfA a) b ++ (Choice (from + j - 1) (from + j + nodesOfA a - 1) (from + j + nodesOfA a + nodesOfA b - 1) ∷ []))) in
-      wrote-as (wrote-parent (wrote-rest w (v .wrote) fits) h)
-      (append-assoc (writeB from c) (writeA (from + s .nodes) a ++ writeA (from + s .nodes + nodesOfA a) b) (Choice i (p .left) (p .right) ∷ [])
-      ∙ ap (λ x. writeB from c ++ x) (append-assoc (writeA (from + s .nodes) a) (writeA (from + s .nodes + nodesOfA a) b) (Choice i (p .left) (p .right) ∷ []))
-      ∙ ap (λ x. writeB from c ++ (writeA (from + s .nodes) a ++ (writeA (from + s .nodes + nodesOfA a) b ++ (x ∷ []))))
-      (ap (λ x. Choice x (p .left) (p .right)) e
-      ∙ ap (λ x. Choice (from + s .nodes - 1) x (p .right)) (v .leftIs)
-      ∙ ap (Choice (from + s .nodes - 1) (from + s .nodes + nodesOfA a - 1)) (v .rightIs))
-      ∙ ap whole (first .nodesCounted))
+  pub wrote-choice : {x : List ℕ} {r : Size} → Wrote (writeB from c) l m s → WrotePair (from + s .nodes) a b (restOf (s .bytes) m) rest p → {i : ℕ}
+      → i ≡ from + s .nodes - 1
+      → Appended (s .nodes + p .nodes) (s .bytes + p .bytes) (Choice i (p .left) (p .right)) (withRest (s .bytes) m rest) x r
+      → bytesOfB c + bytesOfA a + bytesOfA b ≤ length l → Wrote (writeA from (choice c a b)) l x r
+  unfolding writeA
+  wrote-choice w v e h room =
+      three-parent from (λ k. writeA k a) (λ k. writeA (k + nodesOfA a) b) w (counted-B from c) (pair-two v) (λ k. counted-A k a)
+      (λ k. counted-A (k + nodesOfA a) b) Choice e (omega arith) h
 
 -- ---- a constant
 -- a constant is 0 or 1, so it is written as it was

@@ -15,7 +15,7 @@ use Rattle.awhile.specs.Language.{Com, skip, assign, sequence, if, while, read,
 use Rattle.awhile.specs.Encoding.{nodesOf, countBytes, headerBytes, labelsBytes, tableBytes, writeC}
 use Rattle.awhile.specs.Index.{tableOf, nodesIn, nodeIn, commandIn}
 use Rattle.awhile.specs.Nodes.{sortOf, nodeBytes}
-use Rattle.awhile.specs.Tables.{accepted, readTable, maxVariables, maxArrays}
+use Rattle.awhile.specs.Tables.{Table, accepted, readTable, maxVariables, maxArrays, maxNodes}
 use Rattle.awhile.specs.Trees.{rootOf}
 use Rattle.awhile.specs.declared.Labelling.{Labelling}
 use Rattle.awhile.proofs.Index.{indexed-root, indexed-root-sort, indexed-well-formed}
@@ -29,15 +29,18 @@ use Rattle.machine.proofs.Counts.{count-at}
 use Rattle.masks.specs.Decisions.{decide}
 use Rattle.masks.specs.Hardening.{harden, hardenedProgram, tableOfHardened, hardenedTable}
 use Rattle.masks.specs.InMemory.{annotatedIn, hardenedIn, Hardenable}
-use Rattle.masks.specs.Output.{Writable, WroteTable}
-use Rattle.masks.specs.Sizes.{bytesOf}
+use Rattle.masks.specs.Output.{Measurable, Writable, WroteTable}
+use Rattle.masks.specs.Sizes.{bytesOf, Sized}
 use Rattle.masks.specs.Written.{Room, Wrote}
 use Rattle.masks.specs.declared.Size.{Size}
 use Rattle.masks.specs.Records.{recordBytes}
 use Rattle.masks.specs.declared.Record.the-variants.{One}
 use Rattle.masks.proofs.Lengths.{counted-C}
 use Rattle.masks.proofs.Parts.{sets-rest}
-use Rattle.masks.proofs.Writers.{restOf, withRest}
+use Rattle.masks.proofs.Writers.{sizeIs, restOf, withRest}
+use Rattle.awhile.proofs.Size.{root-size}
+use Rattle.masks.proofs.Growth.{hardened-size, nodesOf-mapped, decide-large}
+use Rattle.masks.proofs.CommandSizes.{any-flag, decide-nodes}
 
 -- ---- array counts
 length-counts : (cs : List ℕ) → length (flatMap countBytes cs) ≡ 6 * length cs
@@ -130,6 +133,23 @@ four-runs l h b c n a p q r =
     ∙ ap (λ i. sets (sets l 0 h) i (b ++ (c ++ n))) g
     ∙ sym (sets-append h (b ++ (c ++ n)) l 0)
 
+-- the length of a hardened table
+pub table-length : (t : Table) → length (tableBytes (hardenedTable t)) ≡ 20 + 6 * length (t .counts) + bytesOf (hardenedProgram t)
+unfolding tableBytes hardenedTable tableOfHardened
+table-length t =
+    let p = hardenedProgram t in
+    let h = headerBytes (t .variables + 1) (length (t .counts)) (length (writeC 0 p)) in
+    let b = labelsBytes (t .labels) in
+    let c = flatMap countBytes (t .counts) in
+    rw (length-append h (b ++ (c ++ flatMap nodeBytes (writeC 0 p))), length-append b (c ++ flatMap nodeBytes (writeC 0 p)), length-append c (flatMap nodeBytes (writeC 0 p)))
+    (omega (
+      arith,
+      length-header (t .variables + 1) (length (t .counts)) (length (writeC 0 p)),
+      length-labels (t .labels),
+      length-counts (t .counts),
+      counted-C 0 p .bytesAre,
+    ))
+
 module _ {table index vs arrs : List ℕ} {v a root nodes : ℕ} {labels : Labelling} {out : List ℕ} (bytes : Below 256 table)
     (w : Writable table index vs arrs v a root nodes labels out) where
   -- what comes out for the root is the hardened program
@@ -138,8 +158,8 @@ module _ {table index vs arrs : List ℕ} {v a root nodes : ℕ} {labels : Label
   root-hardened =
       let t = tableOf table in
       let last : root ≡ nodesIn table - 1 = omega (arith, w .numbers .isRoot) in
-      let noted = annotate-noted vs arrs (rootOf t) false (t .labels) (w .notes) in
-      let tree : rootOf t ≡ commandIn table root = indexed-root table index bytes (w .indexed) ∙ ap (commandIn table) (sym last) in
+      let noted = annotate-noted vs arrs (rootOf t) false (t .labels) (w .noted .notes) in
+      let tree : rootOf t ≡ commandIn table root = indexed-root table index bytes (w .noted .indexed) ∙ ap (commandIn table) (sym last) in
       ap (λ f. harden f (decide (mapNotes (noteIn vs arrs) (commandIn table root)))) (w .numbers .isVariables)
       ∙ ap (λ c. harden (t .variables) (decide c)) (ap (mapNotes (noteIn vs arrs)) (sym tree) ∙ sym noted)
 
@@ -155,32 +175,21 @@ module _ {table index vs arrs : List ℕ} {v a root nodes : ℕ} {labels : Label
 
   -- and how many
   pub whole-length : length (tableBytes (hardenedTable (tableOf table))) ≡ 20 + 6 * a + bytesOf (hardenedIn table vs arrs v root)
-  whole-length =
-      let cs = tableOf table .counts in
-      let c = hardenedIn table vs arrs v root in
-      rw (whole-bytes, length-append, length-append, length-append)
-      (omega (
-        arith,
-        length-header (v + 1) a nodes,
-        length-labels labels,
-        length-counts cs,
-        counted-C 0 c .bytesAre,
-        w .numbers .isArrays,
-      ))
+  whole-length = omega (arith, table-length (tableOf table), w .numbers .isArrays, ap bytesOf root-hardened)
 
   pub whole-fits : 20 + 6 * a + bytesOf (hardenedIn table vs arrs v root) ≤ length out
   whole-fits = omega (arith, whole-length, w .fits)
 
   -- arrays and masks are within the limits
   pub few-arrays : a ≤ maxArrays
-  few-arrays = omega (arith, w .numbers .isArrays, indexed-well-formed table index bytes (w .indexed) .declared .arraysFit)
+  few-arrays = omega (arith, w .numbers .isArrays, indexed-well-formed table index bytes (w .noted .indexed) .declared .arraysFit)
 
   pub few-variables : v ≤ maxVariables
-  few-variables = omega (arith, w .numbers .isVariables, indexed-well-formed table index bytes (w .indexed) .declared .variablesFit)
+  few-variables = omega (arith, w .numbers .isVariables, indexed-well-formed table index bytes (w .noted .indexed) .declared .variablesFit)
 
   pub mask-fits : labels .variables < 2 ^ 32
   mask-fits =
-      let d = indexed-well-formed table index bytes (w .indexed) .declared in
+      let d = indexed-well-formed table index bytes (w .noted .indexed) .declared in
       let limit : 2 ^ tableOf table .variables ≤ 2 ^ 32 = pow-mono (d .variablesFit) in
       let mask : labels .variables ≡ tableOf table .labels .variables = ap (λ l. l .variables) (w .numbers .isLabels) in
       omega (arith, d .variableMaskFits)
@@ -190,11 +199,11 @@ module _ {table index vs arrs : List ℕ} {v a root nodes : ℕ} {labels : Label
       let last : nodesIn table - 1 ≡ root = omega (arith, w .numbers .isRoot) in
       record {
         node = record {
-          indexed = w .indexed;
+          indexed = w .noted .indexed;
           inside = omega (arith, w .numbers .isRoot);
-          isSort = ap (λ n. sortOf (nodeIn table n)) (sym last) ∙ indexed-root-sort table index bytes (w .indexed);
+          isSort = ap (λ n. sortOf (nodeIn table n)) (sym last) ∙ indexed-root-sort table index bytes (w .noted .indexed);
         };
-        room = w .noteRoom;
+        room = w .noted .room;
       }
 
   -- room for the nodes, behind the declarations
@@ -228,3 +237,60 @@ module _ {table index vs arrs : List ℕ} {v a root nodes : ℕ} {labels : Label
             ∙ ap (sets out 0) (sym whole-bytes);
         counted = omega (arith, whole-length, n .bytesCounted);
       }
+
+-- ---- measuring the hardened table
+module _ {table index vs arrs : List ℕ} {a root : ℕ} (bytes : Below 256 table) (m : Measurable table index vs arrs a root) where
+  measured-root : rootOf (tableOf table) ≡ commandIn table root
+  measured-root =
+      let last : nodesIn table - 1 ≡ root = omega (arith, m .isRoot) in
+      indexed-root table index bytes (m .noted .indexed) ∙ ap (commandIn table) last
+
+  -- the notes annotate the program
+  measured-notes : annotatedIn table vs arrs root ≡ annotated (tableOf table)
+  unfolding annotatedIn annotated
+  measured-notes =
+      ap (mapNotes (noteIn vs arrs)) (sym measured-root)
+      ∙ sym (annotate-noted vs arrs (rootOf (tableOf table)) false (tableOf table .labels) (m .noted .notes))
+
+  pub measured-hardenable : Hardenable table index vs arrs root
+  measured-hardenable =
+      let last : nodesIn table - 1 ≡ root = omega (arith, m .isRoot) in
+      record {
+        node =
+            record {
+              indexed = m .noted .indexed;
+              inside = omega (arith, m .isRoot);
+              isSort = ap (λ n. sortOf (nodeIn table n)) (sym last) ∙ indexed-root-sort table index bytes (m .noted .indexed);
+            };
+        room = m .noted .room;
+      }
+
+  -- at most 8 nodes come out per node put in
+  pub measured-few : nodesOf (hardenedIn table vs arrs 0 root) ≤ maxNodes
+  unfolding hardenedIn annotatedIn nodesIn
+  measured-few =
+      let c = mapNotes (noteIn vs arrs) (commandIn table root) in
+      omega (
+        arith,
+        hardened-size 0 (decide c) (decide-large c),
+        decide-nodes c,
+        nodesOf-mapped (noteIn vs arrs) (commandIn table root),
+        ap nodesOf measured-root,
+        root-size (tableOf table) (indexed-well-formed table index bytes (m .noted .indexed)),
+        m .few,
+      )
+
+  pub measured-sized : {s : Size} → Sized (nodesOf (hardenedIn table vs arrs 0 root)) (bytesOf (hardenedIn table vs arrs 0 root)) s
+      → Sized (nodesOf (hardenedProgram (tableOf table))) (length (tableBytes (hardenedTable (tableOf table)))) (sizeIs (s .nodes) (20 + 6 * a + s .bytes))
+  unfolding hardenedIn hardenedProgram
+  measured-sized s =
+      let same = any-flag 0 (tableOf table .variables) (decide (annotated (tableOf table))) in
+      let notes = ap (λ c. nodesOf (harden 0 (decide c))) measured-notes in
+      let lengths = ap (λ c. bytesOf (harden 0 (decide c))) measured-notes in
+      record {
+        nodesCounted = omega (arith, s .nodesCounted, same .nodesSame);
+        bytesCounted = omega (arith, s .bytesCounted, same .bytesSame, table-length (tableOf table), m .isArrays);
+      }
+
+  pub measured-arrays : a ≤ maxArrays
+  measured-arrays = omega (arith, m .isArrays, indexed-well-formed table index bytes (m .noted .indexed) .declared .arraysFit)

@@ -5,12 +5,10 @@ use mathlib.Core.Path.{_≡_}
 use lib.ListN.{length}
 use lib.Seq.{sets}
 use Rattle.awhile.specs.Encoding.{nodesOf, tableBytes}
-use Rattle.awhile.specs.Index.{Indexed, tableOf, nodesIn}
+use Rattle.awhile.specs.Index.{tableOf, nodesIn}
 use Rattle.awhile.specs.Tables.{maxNodes}
 use Rattle.awhile.specs.declared.Labelling.{Labelling}
-use Rattle.labels.specs.Conditions.{NoteRoom}
-use Rattle.labels.specs.Notes.{Noted}
-use Rattle.labels.specs.Sheet.{annotated}
+use Rattle.labels.specs.Conditions.{Sheetable}
 use Rattle.masks.specs.Hardening.{hardenedProgram, hardenedTable}
 
 -- the numbers of a table that was read
@@ -21,10 +19,8 @@ pub record Numbers (table : List ℕ) (variables arrays root : ℕ) (labels : La
   pub isLabels : labels ≡ tableOf table .labels
 
 pub record Writable (table index vs arrs : List ℕ) (variables arrays root nodes : ℕ) (labels : Labelling) (out : List ℕ) : Type 0 where
-  pub indexed : Indexed table index
+  pub noted : Sheetable table index vs arrs
   pub numbers : Numbers table variables arrays root labels
-  pub notes : Noted vs arrs (annotated (tableOf table))
-  pub noteRoom : NoteRoom table vs arrs
   -- as many nodes as come out
   pub isNodes : nodes ≡ nodesOf (hardenedProgram (tableOf table))
   pub few : nodes ≤ maxNodes
@@ -34,3 +30,14 @@ pub record Writable (table index vs arrs : List ℕ) (variables arrays root node
 pub record WroteTable (table before after : List ℕ) (answer : ℕ) : Type 0 where
   pub stored : after ≡ sets before 0 (tableBytes (hardenedTable (tableOf table)))
   pub counted : answer ≡ length (tableBytes (hardenedTable (tableOf table)))
+
+-- "hardening with N above 512" is refused, so that what comes out fits a table
+abbrev pub maxHardenedNodes : ℕ
+maxHardenedNodes = 512
+
+-- what measuring requires
+pub record Measurable (table index vs arrs : List ℕ) (arrays root : ℕ) : Type 0 where
+  pub noted : Sheetable table index vs arrs
+  pub isArrays : arrays ≡ length (tableOf table .counts)
+  pub isRoot : root + 1 ≡ nodesIn table
+  pub few : nodesIn table ≤ maxHardenedNodes

@@ -1,7 +1,9 @@
 // The hardened table: its own header, the labels and arrays as they were, then the hardened nodes.
 use crate::Record;
+use crate::Size;
 use crate::commands::harden_command;
 use crate::records::put_record;
+use crate::totals::harden_size;
 use awhile::Labelling;
 use bytes_le::get;
 use bytes_le::put;
@@ -10,10 +12,12 @@ ghost use mathlib.Core.List.{flatMap};
 ghost use mathlib.Core.Path.{_≡_};
 ghost use lib.ListN.{length};
 ghost use lib.Seq.{sets};
-ghost use Rattle.awhile.specs.Encoding.{headerBytes, labelsBytes, countBytes};
+ghost use Rattle.awhile.specs.Encoding.{headerBytes, labelsBytes, countBytes, nodesOf, tableBytes};
 ghost use Rattle.awhile.specs.Index.{tableOf};
 ghost use Rattle.awhile.specs.Tables.{accepted, readTable, maxArrays};
-ghost use Rattle.masks.specs.Output.{Writable, WroteTable};
+ghost use Rattle.masks.specs.Output.{Measurable, Writable, WroteTable};
+ghost use Rattle.masks.specs.Hardening.{hardenedProgram, hardenedTable};
+ghost use Rattle.masks.specs.Sizes.{Sized};
 
 // The header record.
 fn put_header(variables: usize, arrays: usize, nodes: usize, out: &mut [u8])
@@ -57,6 +61,26 @@ fn put_counts(table: &[u8], arrays: usize, out: &mut [u8])
             },
         );
         a += 1;
+    }
+}
+
+// How many nodes and bytes the hardened table has.
+pub fn measure_hardened(
+    table: &[u8],
+    index: &[u16],
+    variables: &[u64],
+    arrays: &[u32],
+    count: usize,
+    root: usize,
+) -> Size
+    requires { ⌜ Measurable (now table) (now index) (now variables) (now arrays) count root ⌝ }
+    ensures { λ r. ⌜
+        Sized (nodesOf (hardenedProgram (tableOf (now (table .entry))))) (length (tableBytes (hardenedTable (tableOf (now (table .entry)))))) r ⌝ }
+{
+    let size = harden_size(table, index, variables, arrays, root);
+    Size {
+        nodes: size.nodes,
+        bytes: 20 + 6 * count + size.bytes,
     }
 }
 

@@ -1,5 +1,5 @@
 -- `machine::directives::reads` meets its contract.
-use Prim.Native.Nat.{_+_, _≤_, _-_}
+use Prim.Native.Nat.{_+_, _-_, _≤_, _<_}
 use native.Mathlib.Omega.{arith}
 use mathlib.Core.Path.{_≡_, refl, sym, ap, _∙_}
 use borrow.Author.Needs.{needs}
@@ -17,6 +17,22 @@ Inv-loop list at₀ at = (at ≤ length list) × (isSome (readDirectives (drop a
 abbrev μ-loop : tie.MeasureT-loop
 μ-loop list at₀ at = length list - at
 
+-- a turn goes on by the record that it found, and the rest reads if the list does
+module _ (c : tie.After-size-of Inv-loop μ-loop) where
+  further : (0 < c .size-of .result) × (c .before .before .before .before .before .before .loop .at + c .size-of .result ≤ length (c .before .before .before .before .before .before .before .before .args .list .now))
+  further =
+      let d = c .before .before .found .given .0 .0 in
+      let size = c .size-of .ensures in (
+        omega (arith, size-some d),
+        omega (arith, listed-within _ _ (c .before .before .before .before .before .loop-test .taken) _ (c .before .before .before .before .directive-at .ensures) d (c .before .before .found .given .1)),
+      )
+
+  rest-reads : isSome (readDirectives (drop (c .before .before .before .before .before .before .loop .at + c .size-of .result) (c .before .before .before .before .before .before .before .before .args .list .now))) ≡ isSome (readDirectives (c .before .before .before .before .before .before .before .before .args .list .now))
+  rest-reads =
+      let d = c .before .before .found .given .0 .0 in
+      let next = reads-next _ _ (c .before .before .before .before .before .loop-test .taken) _ (c .before .before .before .before .directive-at .ensures) d (c .before .before .found .given .1) in
+      rw (c .size-of .ensures) (sym (ap isSome next ∙ isSome-before d (readDirectives (drop (c .before .before .before .before .before .before .loop .at + directiveSize d) (c .before .before .before .before .before .before .before .before .args .list .now)))) ∙ c .before .before .before .before .before .before .loop .inv .1)
+
 loop-holds : tie.Need-loop-holds Inv-loop μ-loop
 loop-holds c = (omega arith, refl)
 
@@ -30,44 +46,13 @@ size-of-requires : tie.Need-size-of-requires Inv-loop μ-loop
 size-of-requires c κs = search needs
 
 add-at : tie.Need-add-at Inv-loop μ-loop
-add-at c =
-    let l = c .before .before .before .before .before .before .before .before .args .list .now in
-    let at = c .before .before .before .before .before .before .loop .at in
-    let d = c .before .before .found .given .0 .0 in
-    let one = c .before .before .found .given .1 in
-    let found = c .before .before .before .before .directive-at .ensures in
-    let size = c .size-of .ensures in
-    let some = size-some d in
-    let within = listed-within l at (c .before .before .before .before .before .loop-test .taken) _ found d one in
-    omega (arith, c .before .before .before .before .before .before .before .before .good)
+add-at c = omega (arith, further c .1, c .before .before .before .before .before .before .before .before .good)
 
 loop-less : tie.Need-loop-less Inv-loop μ-loop
-loop-less c =
-    let l = c .before .before .before .before .before .before .before .before .args .list .now in
-    let at = c .before .before .before .before .before .before .loop .at in
-    let d = c .before .before .found .given .0 .0 in
-    let one = c .before .before .found .given .1 in
-    let found = c .before .before .before .before .directive-at .ensures in
-    let size = c .size-of .ensures in
-    let some = size-some d in
-    let within = listed-within l at (c .before .before .before .before .before .loop-test .taken) _ found d one in
-    omega arith
+loop-less c = omega (arith, further c .0, further c .1)
 
 loop-again : tie.Need-loop-again Inv-loop μ-loop
-loop-again c =
-    let l = c .before .before .before .before .before .before .before .before .args .list .now in
-    let at = c .before .before .before .before .before .before .loop .at in
-    let d = c .before .before .found .given .0 .0 in
-    let one = c .before .before .found .given .1 in
-    let found = c .before .before .before .before .directive-at .ensures in
-    let size = c .size-of .ensures in
-    let some = size-some d in
-    let within = listed-within l at (c .before .before .before .before .before .loop-test .taken) _ found d one in (
-      omega arith,
-      rw size
-          (sym (ap isSome (reads-next l at (c .before .before .before .before .before .loop-test .taken) _ found d one) ∙ isSome-before d (readDirectives (drop (at + directiveSize d) l)))
-          ∙ c .before .before .before .before .before .before .loop .inv .1),
-    )
+loop-again c = (further c .1, rest-reads c)
 
 enum-told : tie.Need-enum-told Inv-loop μ-loop
 enum-told c = search needs

@@ -24,6 +24,13 @@ Inv-loop table arrays starts₀ sum₀ a₀ starts sum a =
 abbrev μ-loop : tie.MeasureT-loop
 μ-loop table arrays starts₀ sum₀ a₀ starts sum a = 16 - a
 
+-- the sum with the next count is at most the cells that a table can have
+sum-small : (c : tie.After-count-of Inv-loop μ-loop) → c .before .before .loop .sum + c .count-of .result ≤ 16384
+sum-small c =
+    let start = c .before .before .before .before .before in
+    let next = starts-small _ _ (c .before .before .loop .a + 1) (start .pre .0) (slice-bytes _ (c .before .before .before .before .shared-slice-known .given)) in
+    omega (arith, total-next (start .args .table .now) (c .before .before .loop .a), c .count-of .ensures, c .before .before .loop .inv .1)
+
 slice-write-starts : tie.Need-slice-write-starts Inv-loop μ-loop
 slice-write-starts c = omega (arith, c .before .before .pre .1)
 
@@ -37,25 +44,13 @@ count-of-requires : tie.Need-count-of-requires Inv-loop μ-loop
 count-of-requires c κs = c .before .before .before .before .pre .0
 
 add-sum : tie.Need-add-sum Inv-loop μ-loop
-add-sum c =
-    let start = c .before .before .before .before .before in
-    let next = starts-small _ _ (c .before .before .loop .a + 1) (start .pre .0) (slice-bytes _ (c .before .before .before .before .shared-slice-known .given)) in
-    let step = total-next (start .args .table .now) (c .before .before .loop .a) in
-    let r = c .count-of .ensures in
-    let so = c .before .before .loop .inv .1 in
-    omega arith
+add-sum c = omega (arith, sum-small c)
 
 add-a : tie.Need-add-a Inv-loop μ-loop
 add-a c = omega arith
 
 cast-starts : tie.Need-cast-starts Inv-loop μ-loop
-cast-starts c =
-    let start = c .before .before .before .before .before in
-    let next = starts-small _ _ (c .before .before .loop .a + 1) (start .pre .0) (slice-bytes _ (c .before .before .before .before .shared-slice-known .given)) in
-    let step = total-next (start .args .table .now) (c .before .before .loop .a) in
-    let r = c .count-of .ensures in
-    let so = c .before .before .loop .inv .1 in
-    omega arith
+cast-starts c = omega (arith, sum-small c)
 
 mul-starts : tie.Need-mul-starts Inv-loop μ-loop
 mul-starts c = omega arith

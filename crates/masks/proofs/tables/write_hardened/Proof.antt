@@ -38,7 +38,7 @@ put-counts-requires c κs =
     let start = c .before .before .before .before .before .before .before .before .before .before .before .before .before .before in
     let table = now (start .args .table) in
     let bytes = slice-bytes table (c .before .before .before .before .before .before .before .before .before .before .before .before .before .shared-slice-known .given) in (
-      start .pre .indexed .reads,
+      start .pre .noted .indexed .reads,
       (start .pre .numbers .isArrays, few-arrays bytes (start .pre), omega (arith, whole-fits bytes (start .pre), c .before .before .before .put-labels .kept, c .before .before .before .before .before .before .before .put-header .kept)),
     )
 
