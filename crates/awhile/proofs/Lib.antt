@@ -13,15 +13,8 @@ pub mod OwnFields
 pub mod Orders
 pub mod Writing
 pub mod Accepted
+pub mod Counts
 pub mod Sums
 pub mod Size
 pub mod Ranges
-pub mod Index
 pub mod LongInput
-pub mod Passing
-pub mod Declaring
-pub mod Sorting
-pub mod Tally
-pub mod Walking
-pub mod Searching
-pub mod Answering

@@ -8,9 +8,7 @@ use Rattle.awhile.specs.Nodes.{form, sortOf, fieldBytes, fieldSize, size
 use Rattle.awhile.specs.Tables.{offsetOf, framed, lengthOfKind, readHeader, readLabels, readCount, readCounts, readNode, readNodes, readRecords, usesOf, inOrder, allInOrder, checkWhole, readTable}
 use Rattle.awhile.specs.Trees.{asNumeric, asTruth, asCommand, treeOf, treeAt, growTrees, trees, rootOf}
 use Rattle.awhile.specs.Encoding.{nodesOfA, nodesOfB, nodesOf, binary, ternary, writeA, writeB, writeC, numberedFrom, numbered, headerBytes, labelsBytes, countBytes, tableBytes}
-use Rattle.awhile.specs.Reader.{checkedAs, headerAs, labelsAs, countAs, cellsAs, nodeAs, tally, allBelow}
-use Rattle.awhile.specs.Index.{tableOf, nodesIn, nodeIn, treeIn, acceptedAs}
 
 unfoldable pub opened : Unit {0}
-unfolding opened-below flatMap noteOf mapNotes valueOf truthOf sum occurrences all check andThen form sortOf fieldBytes fieldSize sizeOf nodeBytes nodeOf decodeAt fieldInRange inRange sameSort fieldSorted sorted fieldChildren childrenOf offsetOf framed lengthOfKind readHeader readLabels readCount readCounts readNode readNodes readRecords usesOf inOrder allInOrder checkWhole readTable asNumeric asTruth asCommand treeOf treeAt growTrees trees rootOf nodesOfA nodesOfB nodesOf binary ternary writeA writeB writeC numberedFrom numbered headerBytes labelsBytes countBytes tableBytes checkedAs headerAs labelsAs countAs cellsAs nodeAs tally allBelow tableOf nodesIn nodeIn treeIn acceptedAs
+unfolding opened-below flatMap noteOf mapNotes valueOf truthOf sum occurrences all check andThen form sortOf fieldBytes fieldSize sizeOf nodeBytes nodeOf decodeAt fieldInRange inRange sameSort fieldSorted sorted fieldChildren childrenOf offsetOf framed lengthOfKind readHeader readLabels readCount readCounts readNode readNodes readRecords usesOf inOrder allInOrder checkWhole readTable asNumeric asTruth asCommand treeOf treeAt growTrees trees rootOf nodesOfA nodesOfB nodesOf binary ternary writeA writeB writeC numberedFrom numbered headerBytes labelsBytes countBytes tableBytes
 opened = tt

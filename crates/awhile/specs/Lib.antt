@@ -7,5 +7,3 @@ pub mod Tables
 pub mod Trees
 pub mod Encoding
 pub mod WellFormed
-pub mod Reader
-pub mod Index

@@ -1,14 +1,4 @@
 // The language AWHILE as a table of records: what a record can be, and why a table is refused.
-pub mod checks;
-pub mod declarations;
-pub mod decode;
-pub mod fields;
-pub mod lookup;
-pub mod reader;
-pub mod tables;
-pub mod uses;
-pub mod walk;
-
 // The limits of document 01.
 pub const MAX_VARIABLES: usize = 32;
 
@@ -140,19 +130,4 @@ pub enum Refusal {
     ShortPending,
     // 23: what is to be written is longer than its buffer
     ShortBuffer,
-}
-
-// What reading a table answers: why it is refused, or its declarations' numbers and where it ends.
-pub enum Read {
-    Refused {
-        refusal: Refusal,
-    },
-    Accepted {
-        variables: usize,
-        arrays: usize,
-        nodes: usize,
-        cells: usize,
-        labels: Labelling,
-        end: usize,
-    },
 }

@@ -7,12 +7,12 @@ use mathlib.Core.List.{List, [], _∷_}
 use lib.ListN.{length}
 use lib.Seq.{sets, sets-eq}
 use borrow.Author.Tests.{le-leb, lt-leb}
-use Rattle.awhile.specs.Index.{Indexed, tableOf, nodesIn, Answers, isRejected, isNotATree, isAccepted, acceptedAs}
+use Rattle.reader.specs.Index.{Indexed, tableOf, nodesIn, Answers, isRejected, isNotATree, isAccepted, acceptedAs}
 use Rattle.awhile.specs.Refusals.{Answer, got, andThen, refusalNumber}
 use Rattle.awhile.specs.Tables.{Table, rejected, notATree, accepted, readTable}
 use Rattle.awhile.specs.declared.Labelling.{Labelling}
-use Rattle.awhile.specs.declared.Read.{Read}
-use Rattle.awhile.specs.declared.Read.the-variants.{Refused, Accepted}
+use Rattle.reader.specs.declared.Read.{Read}
+use Rattle.reader.specs.declared.Read.the-variants.{Refused, Accepted}
 use Rattle.awhile.specs.declared.Refusal.{Refusal}
 use Rattle.awhile.specs.declared.Refusal.the-variants.{NotATree, ShortBuffer}
 use Rattle.machine.specs.Memory.{writtenOver}

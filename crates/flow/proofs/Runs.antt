@@ -13,24 +13,24 @@ use Rattle.bytes_le.proofs.Numbers.{Below}
 use Rattle.awhile.specs.Lists.{sum}
 use Rattle.awhile.specs.Refusals.{Answer, refused, got, check, andThen, refusalNumber}
 use Rattle.awhile.specs.Tables.{Table, readTable, rejected, notATree, accepted, BreaksRule}
-use Rattle.awhile.specs.Index.{Indexed, tableOf, nodesIn, Answers}
-use Rattle.awhile.proofs.Index.{indexed-well-formed, indexed-few}
-use Rattle.awhile.proofs.Answering.{AcceptedTable, RefusedTable, byRecord, byOrder, accepting, refusing}
+use Rattle.reader.specs.Index.{Indexed, tableOf, nodesIn, Answers}
+use Rattle.reader.proofs.Index.{indexed-well-formed, indexed-few}
+use Rattle.reader.proofs.Answering.{AcceptedTable, RefusedTable, byRecord, byOrder, accepting, refusing}
 use Rattle.awhile.specs.declared.Labelling.{Labelling}
-use Rattle.awhile.specs.declared.Read.{Read}
-use Rattle.awhile.specs.declared.Read.the-variants.{Accepted}
-use Rattle.awhile.specs.declared.Read.the-variants.{Refused as RefusedRead}
+use Rattle.reader.specs.declared.Read.{Read}
+use Rattle.reader.specs.declared.Read.the-variants.{Accepted}
+use Rattle.reader.specs.declared.Read.the-variants.{Refused as RefusedRead}
 use Rattle.awhile.specs.declared.Refusal.{Refusal}
 use Rattle.awhile.specs.declared.Refusal.the-variants.{BadDirectives, WrongVariables, WrongCells, ShortPending, NotATree}
 use Rattle.machine.specs.Directives.{readDirectives, directivesIn}
-use Rattle.machine.specs.Listed.{isSome}
+use Rattle.interpreter.specs.Listed.{isSome}
 use Rattle.machine.specs.Runs.{plain, guessing, endNumber}
 use Rattle.machine.specs.Memory.{runNumbers}
-use Rattle.machine.specs.Evaluation.{variablesIn}
-use Rattle.machine.specs.Stepping.{cellsIn}
-use Rattle.machine.specs.Guiding.{Readable, orNone, directivesFrom, guideOf}
-use Rattle.machine.specs.Running.{runOf, reportOf, RunAsked, RunLeaves}
-use Rattle.machine.specs.declared.run.Report.{Report}
+use Rattle.interpreter.specs.Evaluation.{variablesIn}
+use Rattle.interpreter.specs.Stepping.{cellsIn}
+use Rattle.interpreter.specs.Guiding.{Readable, orNone, directivesFrom, guideOf}
+use Rattle.interpreter.specs.Running.{runOf, reportOf, RunAsked, RunLeaves}
+use Rattle.interpreter.specs.declared.run.Report.{Report}
 use Rattle.flow.specs.Answers.{answered, refusalNumbers, tableIn}
 use Rattle.flow.specs.Running.{Lent, Ran, notRun, lentFor, ranAll, runIn, running, runEntry, guessWith, guessEntry}
 use Rattle.flow.specs.Promises.{Placed}

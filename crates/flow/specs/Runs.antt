@@ -7,15 +7,15 @@ use lib.ListN.{length}
 use Rattle.awhile.specs.Lists.{sum}
 use Rattle.awhile.specs.Refusals.{Answer, refused, got, check, andThen, refusalNumber}
 use Rattle.awhile.specs.Tables.{Table}
-use Rattle.awhile.specs.Index.{Indexed, tableOf, nodesIn}
+use Rattle.reader.specs.Index.{Indexed, tableOf, nodesIn}
 use Rattle.awhile.specs.declared.Refusal.{Refusal}
 use Rattle.awhile.specs.declared.Refusal.the-variants.{BadDirectives}
 use Rattle.machine.specs.Directives.{readDirectives}
-use Rattle.machine.specs.Listed.{isSome}
+use Rattle.interpreter.specs.Listed.{isSome}
 use Rattle.machine.specs.Runs.{endNumber}
-use Rattle.machine.specs.Guiding.{guideOf}
-use Rattle.machine.specs.Running.{reportOf}
-use Rattle.machine.specs.declared.run.Report.{Report}
+use Rattle.interpreter.specs.Guiding.{guideOf}
+use Rattle.interpreter.specs.Running.{reportOf}
+use Rattle.interpreter.specs.declared.run.Report.{Report}
 use Rattle.flow.specs.Answers.{refusalNumbers, tableIn}
 use Rattle.flow.specs.Running.{Lent, Ran, lentFor, runIn, ranAll, runEntry, guessEntry}
 use Rattle.flow.specs.Promises.{Placed}

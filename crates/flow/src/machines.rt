@@ -2,13 +2,13 @@
 use crate::answer::answer_refusal;
 use crate::answer::answer_run;
 use awhile::MAX_NODES;
-use awhile::Read;
 use awhile::Refusal;
-use awhile::tables::read;
+use interpreter::directives::reads;
+use interpreter::run::Report;
+use interpreter::run::run;
 use machine::End;
-use machine::directives::reads;
-use machine::run::Report;
-use machine::run::run;
+use reader::Read;
+use reader::tables::read;
 ghost use Prim.Native.Nat.{_≤_};
 ghost use mathlib.Core.Bool.{cond};
 ghost use mathlib.Core.Path.{_≡_};

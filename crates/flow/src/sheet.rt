@@ -1,19 +1,19 @@
 // The label sheet of a table.
 use crate::answer::answer_refusal;
 use crate::answer::answer_two;
+use analysis::program::label_program;
+use analysis::sheet::sheet_size;
+use analysis::sheet::write_sheet;
 use awhile::Labelling;
 use awhile::MAX_NODES;
-use awhile::Read;
 use awhile::Refusal;
-use awhile::tables::read;
-use labels::program::label_program;
-use labels::sheet::sheet_size;
-use labels::sheet::write_sheet;
+use reader::Read;
+use reader::tables::read;
 ghost use Prim.Native.Nat.{_≤_};
 ghost use mathlib.Core.Path.{_≡_};
 ghost use lib.ListN.{length};
 ghost use lib.Seq.{sets};
-ghost use Rattle.awhile.specs.Index.{Indexed, tableOf, nodesIn};
+ghost use Rattle.reader.specs.Index.{Indexed, tableOf, nodesIn};
 ghost use Rattle.labels.specs.Sheet.{sheetBytes};
 ghost use Rattle.flow.specs.Promises.{WritesAs, Writes};
 ghost use Rattle.awhile.specs.Refusals.{got};

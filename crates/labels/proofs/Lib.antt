@@ -9,15 +9,3 @@ pub mod Passes
 pub mod Analysis
 pub mod Rules
 pub mod Notes
-pub mod Warm
-pub mod ExpressionLabels
-pub mod Nodes
-pub mod CommandNotes
-pub mod Settling
-pub mod CommandCases
-pub mod Standing
-pub mod SheetRecords
-pub mod SheetNodes
-pub mod Stored
-pub mod SheetLengths
-pub mod WholeProgram

@@ -4,7 +4,4 @@ pub mod Labellings
 pub mod Analysis
 pub mod Annotation
 pub mod Sheet
-pub mod Notes
-pub mod Warm
-pub mod Conditions
 pub mod Rules

@@ -1,7 +1,1 @@
-// Secret and public labels, followed through a program.
-pub mod commands;
-pub mod expressions;
-pub mod labelling;
-pub mod noting;
-pub mod program;
-pub mod sheet;
+// Secret and public labels: the definitions and their theorems. The code is crate `analysis`.

@@ -1,15 +1,4 @@
-// The plain and the guessing machine.
-
-pub mod action;
-pub mod directives;
-pub mod evaluate;
-pub mod fit;
-pub mod guide;
-pub mod memory;
-pub mod places;
-pub mod run;
-pub mod state;
-pub mod step;
+// The plain and the guessing machine: the definitions and their theorems. The code is crate `interpreter`.
 
 // What the attacker picks for one shown step.
 pub enum Directive {

@@ -10,7 +10,7 @@ use lib.ListN.{length, getD, replicate, List·getD-append}
 use borrow.Author.Tests.{ltb-true}
 use Rattle.awhile.specs.Tables.{Table, readTable, accepted}
 use Rattle.awhile.specs.Trees.{rootOf}
-use Rattle.awhile.specs.Index.{tableOf}
+use Rattle.reader.specs.Index.{tableOf}
 use Rattle.labels.specs.Labellings.{arrayMark, labelOf}
 use Rattle.machine.specs.Observations.{Observation, branch, readAt}
 use Rattle.machine.specs.Steps.{inside, cellPlace}

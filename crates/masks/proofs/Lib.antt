@@ -15,17 +15,3 @@ pub mod OneStep
 pub mod LockedRuns
 pub mod Security
 pub mod Demands
-pub mod NodeRecords
-pub mod Parts
-pub mod SizeSums
-pub mod Lengths
-pub mod Unnamed
-pub mod Descents
-pub mod Writers
-pub mod Joins
-pub mod ExpressionWrites
-pub mod Masking
-pub mod AccessWrites
-pub mod CommandWrites
-pub mod CommandSizes
-pub mod TableWrites

@@ -7,8 +7,3 @@ pub mod Security
 pub mod Growth
 pub mod ReadBack
 pub mod Demands
-pub mod Records
-pub mod Written
-pub mod Sizes
-pub mod InMemory
-pub mod Output

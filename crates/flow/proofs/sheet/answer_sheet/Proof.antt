@@ -3,7 +3,7 @@ use denote.Ref.{now}
 use native.Mathlib.Omega.{arith}
 use mathlib.Core.Path.{ap, _∙_}
 use mathlib.Core.List.{[], _∷_}
-use Rattle.awhile.specs.Index.{tableOf}
+use Rattle.reader.specs.Index.{tableOf}
 use Rattle.labels.specs.Sheet.{sheetBytes}
 use Rattle.flow.specs.Answers.{answered}
 use Rattle.flow.proofs.Reading.{writes-all, writes-nothing}

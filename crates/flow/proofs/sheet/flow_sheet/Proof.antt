@@ -1,7 +1,7 @@
 -- `flow_sheet` answers what the reader refuses, and else writes the sheet.
 use Prim.Native.Nat.{ℕ}
 use Rattle.awhile.specs.declared.Labelling.{Labelling}
-use Rattle.awhile.specs.declared.Read.the-variants.{Accepted}
+use Rattle.reader.specs.declared.Read.the-variants.{Accepted}
 use denote.Ref.{now}
 use mathlib.Core.Path.{_≡_}
 use Rattle.awhile.specs.Refusals.{got}

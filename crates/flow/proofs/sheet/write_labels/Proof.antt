@@ -1,8 +1,8 @@
 -- `write_labels` labels the program on notes that are all zero.
 use denote.Ref.{now}
 use Rattle.bytes_le.proofs.Numbers.{slice-bytes}
-use Rattle.awhile.proofs.Index.{indexed-few}
-use Rattle.labels.proofs.WholeProgram.{fresh-zeros}
+use Rattle.reader.proofs.Index.{indexed-few}
+use Rattle.analysis.proofs.WholeProgram.{fresh-zeros}
 use borrow.Author.Needs.{needs}
 use Rattle.flow.proofs.sheet.write_labels.Statement.{statement}
 use Rattle.flow.proofs.sheet.write_labels.Tie as tie

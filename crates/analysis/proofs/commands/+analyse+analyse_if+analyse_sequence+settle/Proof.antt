@@ -1,0 +1,459 @@
+-- The analysis of commands: the answer and the notes of each are built from those of its parts, and a loop's passes settle.
+use borrow.Author.Needs.{needs}
+use denote.Ref.{now}
+use mathlib.Core.Path.{_≡_, sym, ap, subst, _∙_}
+use native.Mathlib.Omega.{arith}
+use Rattle.reader.specs.Index.{truthIn, commandIn}
+use Rattle.labels.specs.Rules.{publicAmong, declaredMarks, Within}
+use Rattle.awhile.specs.Language.{Com, while, noteOf}
+use Rattle.reader.proofs.Index.{Child, Parts, indexed-parts, indexed-note}
+use Rattle.bytes_le.proofs.Numbers.{slice-bytes}
+use Rattle.labels.specs.Analysis.{analyse as analyseOf}
+use Rattle.labels.specs.Labellings.{join}
+use Rattle.analysis.specs.Notes.{noteIn}
+use Rattle.analysis.specs.Warm.{keptIn}
+use Rattle.awhile.specs.declared.Sort.{Sort}
+use Rattle.awhile.specs.declared.Node.{Node}
+use Rattle.awhile.specs.declared.Node.the-variants.{Sequence, If}
+use Rattle.analysis.proofs.ExpressionLabels.{child-of-sort}
+use Rattle.analysis.proofs.Nodes.{node-parts}
+use Rattle.analysis.proofs.CommandNotes.{NotedAt}
+use Rattle.analysis.proofs.CommandCases.{entry-noted, unnamed-single, sequence-first, sequence-second, sequence-both}
+use Rattle.analysis.proofs.CommandCases.{if-first, if-second, if-both, loop-settleable, loop-settled}
+use Rattle.analysis.proofs.Settling.{Passing, passing-starts, passing-next, passing-falls, passing-ends, warm-answer}
+use Prim.Native.Nat.{ℕ, _+_, _*_, _<_}
+use borrow.Fn.Kinds.{In}
+use borrow.Fn.PlainCycle.{Measures, is, falls, and}
+use Rattle.analysis.proofs.commands.analyse.Reads as analyse
+use Rattle.analysis.proofs.commands.analyse.Kinds as analyse-kinds
+use Rattle.analysis.proofs.commands.+analyse+analyse_if+analyse_sequence+settle.Lts-analyse as analyse-lts
+use Rattle.analysis.proofs.commands.analyse_if.Reads as analyse-if
+use Rattle.analysis.proofs.commands.analyse_if.Kinds as analyse-if-kinds
+use Rattle.analysis.proofs.commands.+analyse+analyse_if+analyse_sequence+settle.Lts-analyse_if as analyse-if-lts
+use Rattle.analysis.proofs.commands.analyse_sequence.Reads as analyse-sequence
+use Rattle.analysis.proofs.commands.analyse_sequence.Kinds as analyse-sequence-kinds
+use Rattle.analysis.proofs.commands.+analyse+analyse_if+analyse_sequence+settle.Lts-analyse_sequence as analyse-sequence-lts
+use Rattle.analysis.proofs.commands.settle.Reads as settle
+use Rattle.analysis.proofs.commands.settle.Kinds as settle-kinds
+use Rattle.analysis.proofs.commands.+analyse+analyse_if+analyse_sequence+settle.Lts-settle as settle-lts
+use Rattle.reader.proofs.lookup.node_at.Reads as node-at-reads
+use Rattle.analysis.proofs.commands.analyse_single.Reads as analyse-single-reads
+use Rattle.analysis.proofs.commands.guarded.Reads as guarded-reads
+use Rattle.analysis.proofs.labelling.join.Reads as join-reads
+use Rattle.analysis.proofs.labelling.same.Reads as same-reads
+use Rattle.analysis.proofs.noting.note.Reads as note-reads
+use Rattle.analysis.proofs.noting.noted_labelling.Reads as noted-labelling-reads
+use Rattle.analysis.proofs.commands.+analyse+analyse_if+analyse_sequence+settle.{statement}
+use Rattle.analysis.proofs.commands.+analyse+analyse_if+analyse_sequence+settle.Tie.{close}
+
+abbrev μ-analyse : Measures 4 analyse-kinds.ps ℕ
+μ-analyse κs a = 2 * a .1 .1 .1 .1 .0 + 2
+
+abbrev μ-analyse-if : Measures 4 analyse-if-kinds.ps ℕ
+μ-analyse-if κs a = 2 * a .1 .1 .1 .1 .0 + 1
+
+abbrev μ-analyse-sequence : Measures 4 analyse-sequence-kinds.ps ℕ
+μ-analyse-sequence κs a = 2 * a .1 .1 .1 .1 .0 + 1
+
+abbrev μ-settle : Measures 4 settle-kinds.ps ℕ
+μ-settle κs a = 2 * a .1 .1 .1 .1 .1 .0 + 3
+
+abbrev analyse-at : ℕ → In 4 analyse-kinds.ps
+analyse-at t = and 4 analyse-kinds.ps (is 4 analyse-kinds.ps μ-analyse t) analyse.Pre
+
+abbrev analyse-below : ℕ → In 4 analyse-kinds.ps
+analyse-below t = and 4 analyse-kinds.ps (falls 4 analyse-kinds.ps _<_ μ-analyse t) analyse.Pre
+
+abbrev analyse-if-at : ℕ → In 4 analyse-if-kinds.ps
+analyse-if-at t =
+    and 4 analyse-if-kinds.ps (is 4 analyse-if-kinds.ps μ-analyse-if t) analyse-if.Pre
+
+abbrev analyse-if-below : ℕ → In 4 analyse-if-kinds.ps
+analyse-if-below t =
+    and 4 analyse-if-kinds.ps (falls 4 analyse-if-kinds.ps _<_ μ-analyse-if t) analyse-if.Pre
+
+abbrev analyse-sequence-at : ℕ → In 4 analyse-sequence-kinds.ps
+analyse-sequence-at t =
+    and
+    4
+    analyse-sequence-kinds.ps
+    (is 4 analyse-sequence-kinds.ps μ-analyse-sequence t)
+    analyse-sequence.Pre
+
+abbrev analyse-sequence-below : ℕ → In 4 analyse-sequence-kinds.ps
+analyse-sequence-below t =
+    and
+    4
+    analyse-sequence-kinds.ps
+    (falls 4 analyse-sequence-kinds.ps _<_ μ-analyse-sequence t)
+    analyse-sequence.Pre
+
+abbrev settle-at : ℕ → In 4 settle-kinds.ps
+settle-at t = and 4 settle-kinds.ps (is 4 settle-kinds.ps μ-settle t) settle.Pre
+
+abbrev settle-below : ℕ → In 4 settle-kinds.ps
+settle-below t = and 4 settle-kinds.ps (falls 4 settle-kinds.ps _<_ μ-settle t) settle.Pre
+
+abbrev settle-calls : ℕ → settle-lts.Claims
+settle-calls t = (noted-labelling-reads.Asked, noted-labelling-reads.Learnt, join-reads.Asked, join-reads.Learnt, guarded-reads.Asked, guarded-reads.Learnt, analyse-below t, analyse.Post, same-reads.Asked, same-reads.Learnt)
+
+abbrev analyse-sequence-calls : ℕ → analyse-sequence-lts.Claims
+analyse-sequence-calls t = (note-reads.Asked, note-reads.Learnt, analyse-below t, analyse.Post)
+
+abbrev analyse-if-calls : ℕ → analyse-if-lts.Claims
+analyse-if-calls t = (note-reads.Asked, note-reads.Learnt, guarded-reads.Asked, guarded-reads.Learnt, analyse-below t, analyse.Post, join-reads.Asked, join-reads.Learnt)
+
+abbrev analyse-calls : ℕ → analyse-lts.Claims
+analyse-calls t = (node-at-reads.Asked, node-at-reads.Learnt, analyse-sequence-below t, analyse-sequence.Post, analyse-if-below t, analyse-if.Post, note-reads.Asked, note-reads.Learnt, settle-below t, settle.Post, analyse-single-reads.Asked, analyse-single-reads.Learnt)
+
+-- ---- by the kind of a node
+module _ (t : ℕ) (d : analyse-lts.After-node-at (analyse-calls t) (analyse-at t) analyse.Post) where
+  abbrev analyse-start : analyse-lts.Start (analyse-calls t) (analyse-at t) analyse.Post
+  analyse-start = d .before .before .before .before .before
+
+  analyse-parts : (m : Node) → d .node-at .result ≡ m → Parts (now (analyse-start .args .table)) (analyse-start .args .n) m
+  analyse-parts =
+      node-parts (slice-bytes (now (analyse-start .args .table)) (d .before .before .before .before .shared-slice-known .given)) (analyse-start .pre .1 .node .indexed) (analyse-start .pre .1 .node .inside)
+      (d .node-at .ensures)
+
+analyse-node-at-requires : (t : ℕ) → analyse-lts.Need-node-at-requires (analyse-calls t) (analyse-at t) analyse.Post
+analyse-node-at-requires t c κs =
+    let pre = c .before .before .before .before .pre .1 in (pre .node .indexed, pre .node .inside)
+
+analyse-enum-known-node : (t : ℕ) → analyse-lts.Need-enum-known-node (analyse-calls t) (analyse-at t) analyse.Post
+analyse-enum-known-node t c = search needs
+
+analyse-analyse-sequence-requires : (t : ℕ) → analyse-lts.Need-analyse-sequence-requires (analyse-calls t) (analyse-at t) analyse.Post
+analyse-analyse-sequence-requires t c κs =
+    let start = c .before .before .before .before .before .before .before .before .before .before in
+    (subst (λ m. 2 * start .args .n + 1 < m) (start .pre .0) (omega arith), (start .pre .1, sym (c .before .before .before .before .before .node-at .ensures) ∙ c .before .before .before .node .given .1))
+
+analyse-enum-known-node-2 : (t : ℕ) → analyse-lts.Need-enum-known-node-2 (analyse-calls t) (analyse-at t) analyse.Post
+analyse-enum-known-node-2 t c = search needs
+
+analyse-analyse-if-requires : (t : ℕ) → analyse-lts.Need-analyse-if-requires (analyse-calls t) (analyse-at t) analyse.Post
+analyse-analyse-if-requires t c κs =
+    let start = c .before .before .before .before .before .before .before .before .before .before in
+    (subst (λ m. 2 * start .args .n + 1 < m) (start .pre .0) (omega arith), (start .pre .1, sym (c .before .before .before .before .before .node-at .ensures) ∙ c .before .before .before .node2 .given .1))
+
+analyse-enum-known-node-3 : (t : ℕ) → analyse-lts.Need-enum-known-node-3 (analyse-calls t) (analyse-at t) analyse.Post
+analyse-enum-known-node-3 t c = search needs
+
+analyse-note-requires : (t : ℕ) → analyse-lts.Need-note-requires (analyse-calls t) (analyse-at t) analyse.Post
+analyse-note-requires t c κs =
+    let pre = c .before .before .before .before .before .before .before .before .before .before .pre .1 in
+    let inside = pre .node .inside in
+    (omega (arith, pre .room .variables), omega (arith, pre .room .arrays))
+
+analyse-settle-requires : (t : ℕ) → analyse-lts.Need-settle-requires (analyse-calls t) (analyse-at t) analyse.Post
+analyse-settle-requires t c κs =
+    let start = c .before .before .before .before .before .before .before .before .before .before .before .before .before .before .before .before .before in
+    let p = analyse-parts t (c .before .before .before .before .before .before .before .before .before .before .before .before) _ (c .before .before .before .before .before .before .before .before .before .before .node3 .given .1) in
+    (subst (λ m. 2 * c .before .before .before .before .before .before .before .before .before .before .node3 .given .0 .1 .0 + 3 < m) (start .pre .0) (omega (arith, p .1 .below)), loop-settleable (c .before .before .before .before .before .before .before .before .before .before .before .before .before .before .before .before .before .pre .1) (entry-noted (c .before .before .before .before .before .before .before .before .before .before .before .before .before .before .before .before .before .pre .1) (omega (arith, c .before .before .before .before .before .before .before .before .before .before .before .before .before .before .before .before .before .good)) (c .before .before .before .before .before .before .note .ensures)) (c .before .before .before .before .before .before .note .kept .0) (c .before .before .before .before .before .before .note .kept .1 .0) _ _ p)
+
+analyse-analyse-single-requires : (t : ℕ) → analyse-lts.Need-analyse-single-requires (analyse-calls t) (analyse-at t) analyse.Post
+analyse-analyse-single-requires t c κs =
+    (c .before .before .before .before .before .before .before .before .pre .1, c .before .before .before .node-at .ensures, unnamed-single (c .before .before .before .node-at .result) (c .before .before .match .keys4))
+
+analyse-same-length : (t : ℕ) → analyse-lts.Need-same-length (analyse-calls t) (analyse-at t) analyse.Post
+analyse-same-length t c =
+    c .before .before .before .before .analyse-sequence .kept .1 .1 .0
+
+analyse-same-length-2 : (t : ℕ) → analyse-lts.Need-same-length-2 (analyse-calls t) (analyse-at t) analyse.Post
+analyse-same-length-2 t c =
+    c .before .before .before .before .analyse-sequence .kept .1 .1 .1 .0
+
+analyse-returns : (t : ℕ) → analyse-lts.Need-returns (analyse-calls t) (analyse-at t) analyse.Post
+analyse-returns t c =
+    c .before .before .before .before .analyse-sequence .ensures
+
+analyse-same-length-3 : (t : ℕ) → analyse-lts.Need-same-length-3 (analyse-calls t) (analyse-at t) analyse.Post
+analyse-same-length-3 t c =
+    c .before .before .before .before .analyse-if .kept .1 .1 .0
+
+analyse-same-length-4 : (t : ℕ) → analyse-lts.Need-same-length-4 (analyse-calls t) (analyse-at t) analyse.Post
+analyse-same-length-4 t c =
+    c .before .before .before .before .analyse-if .kept .1 .1 .1 .0
+
+analyse-returns-2 : (t : ℕ) → analyse-lts.Need-returns-2 (analyse-calls t) (analyse-at t) analyse.Post
+analyse-returns-2 t c =
+    c .before .before .before .before .analyse-if .ensures
+
+analyse-same-length-5 : (t : ℕ) → analyse-lts.Need-same-length-5 (analyse-calls t) (analyse-at t) analyse.Post
+analyse-same-length-5 t c =
+    c .before .before .before .before .settle .kept .1 .1 .0 ∙ c .before .before .before .before .before .before .before .before .before .before .before .note .kept .0
+
+analyse-same-length-6 : (t : ℕ) → analyse-lts.Need-same-length-6 (analyse-calls t) (analyse-at t) analyse.Post
+analyse-same-length-6 t c =
+    c .before .before .before .before .settle .kept .1 .1 .1 .0 ∙ c .before .before .before .before .before .before .before .before .before .before .before .note .kept .1 .0
+
+analyse-returns-3 : (t : ℕ) → analyse-lts.Need-returns-3 (analyse-calls t) (analyse-at t) analyse.Post
+analyse-returns-3 t c =
+    let p = analyse-parts t (c .before .before .before .before .before .before .before .before .before .before .before .before .before .before .before .before .before) _ (c .before .before .before .before .before .before .before .before .before .before .before .before .before .before .before .node3 .given .1) in
+    loop-settled (c .before .before .before .before .before .before .before .before .before .before .before .before .before .before .before .before .before .before .before .before .before .before .pre .1) (entry-noted (c .before .before .before .before .before .before .before .before .before .before .before .before .before .before .before .before .before .before .before .before .before .before .pre .1) (omega (arith, c .before .before .before .before .before .before .before .before .before .before .before .before .before .before .before .before .before .before .before .before .before .before .good)) (c .before .before .before .before .before .before .before .before .before .before .before .note .ensures)) (c .before .before .before .before .before .before .before .before .before .before .before .note .kept .0) (c .before .before .before .before .before .before .before .before .before .before .before .note .kept .1 .0) _ _ p (c .before .before .before .before .settle .ensures)
+
+analyse-same-length-7 : (t : ℕ) → analyse-lts.Need-same-length-7 (analyse-calls t) (analyse-at t) analyse.Post
+analyse-same-length-7 t c =
+    c .before .before .before .before .analyse-single .kept .1 .1 .0
+
+analyse-same-length-8 : (t : ℕ) → analyse-lts.Need-same-length-8 (analyse-calls t) (analyse-at t) analyse.Post
+analyse-same-length-8 t c =
+    c .before .before .before .before .analyse-single .kept .1 .1 .1 .0
+
+analyse-returns-4 : (t : ℕ) → analyse-lts.Need-returns-4 (analyse-calls t) (analyse-at t) analyse.Post
+analyse-returns-4 t c =
+    c .before .before .before .before .analyse-single .ensures
+
+module _ (t : ℕ) (d : analyse-if-lts.After-slice-known4 (analyse-if-calls t) (analyse-if-at t) analyse-if.Post) where
+  abbrev analyse-if-start : analyse-if-lts.Start (analyse-if-calls t) (analyse-if-at t) analyse-if.Post
+  analyse-if-start = d .before .before .before .before .before .before .before .before .before .before .before
+
+  analyse-if-parts : Parts (now (analyse-if-start .args .table)) (analyse-if-start .args .n) (If (analyse-if-start .args .condition) (analyse-if-start .args .yes) (analyse-if-start .args .no))
+  analyse-if-parts =
+      indexed-parts (now (analyse-if-start .args .table)) (now (analyse-if-start .args .index)) (slice-bytes (now (analyse-if-start .args .table)) (d .before .before .before .before .before .before .before .before .before .before .shared-slice-known .given))
+      (analyse-if-start .pre .1 .0 .node .indexed) (analyse-if-start .args .n) (analyse-if-start .pre .1 .0 .node .inside) (If (analyse-if-start .args .condition) (analyse-if-start .args .yes) (analyse-if-start .args .no)) (analyse-if-start .pre .1 .1)
+
+  analyse-if-noted : NotedAt (analyse-if-start .args .n) (analyse-if-start .args .context) (analyse-if-start .args .labels) (now (analyse-if-start .args .variables)) (now (analyse-if-start .args .arrays)) (d .before .before .before .before .note .last .0) (d .before .before .before .before .note .last .1 .0)
+  analyse-if-noted = entry-noted (analyse-if-start .pre .1 .0) (omega (arith, analyse-if-start .good)) (d .before .before .before .before .note .ensures)
+
+  analyse-if-lower : {s : Sort} (k : ℕ) → Child (now (analyse-if-start .args .table)) s (analyse-if-start .args .n) k → 2 * k + 2 < t
+  analyse-if-lower k h = subst (λ m. 2 * k + 2 < m) (analyse-if-start .pre .0) (omega (arith, h .below))
+
+analyse-if-note-requires : (t : ℕ) → analyse-if-lts.Need-note-requires (analyse-if-calls t) (analyse-if-at t) analyse-if.Post
+analyse-if-note-requires t c κs =
+    let pre = c .before .before .before .before .before .before .pre .1 .0 in
+    let inside = pre .node .inside in
+    (omega (arith, pre .room .variables), omega (arith, pre .room .arrays))
+
+analyse-if-guarded-requires : (t : ℕ) → analyse-if-lts.Need-guarded-requires (analyse-if-calls t) (analyse-if-at t) analyse-if.Post
+analyse-if-guarded-requires t c κs =
+    child-of-sort (c .before .before .before .before .before .before .before .before .before .before .before .pre .1 .0 .node .indexed) (analyse-if-parts t c .0)
+
+analyse-if-analyse-requires : (t : ℕ) → analyse-if-lts.Need-analyse-requires (analyse-if-calls t) (analyse-if-at t) analyse-if.Post
+analyse-if-analyse-requires t c κs =
+    let p = analyse-if-parts t (c .before .before .before) in
+    (analyse-if-lower t (c .before .before .before) _ (p .1), if-first (c .before .before .before .before .before .before .before .before .before .before .before .before .before .before .pre .1 .0) (analyse-if-noted t (c .before .before .before)) (c .before .before .before .before .before .before .before .note .kept .0) (c .before .before .before .before .before .before .before .note .kept .1 .0) _ _ _ p (c .before .before .guarded .ensures))
+
+analyse-if-analyse-requires-2 : (t : ℕ) → analyse-if-lts.Need-analyse-requires-2 (analyse-if-calls t) (analyse-if-at t) analyse-if.Post
+analyse-if-analyse-requires-2 t c κs =
+    let p = analyse-if-parts t (c .before .before .before .before .before .before .before .before .before .before) in
+    (analyse-if-lower t (c .before .before .before .before .before .before .before .before .before .before) _ (p .2), if-second (c .before .before .before .before .before .before .before .before .before .before .before .before .before .before .before .before .before .before .before .before .before .pre .1 .0) (analyse-if-noted t (c .before .before .before .before .before .before .before .before .before .before)) (c .before .before .before .before .before .before .before .before .before .before .before .before .before .before .note .kept .0) (c .before .before .before .before .before .before .before .before .before .before .before .before .before .before .note .kept .1 .0) _ _ _ p (c .before .before .before .before .before .before .before .before .before .guarded .ensures) (c .before .before .before .before .before .before .analyse .ensures) (c .before .before .before .before .before .before .analyse .kept .1 .1 .0) (c .before .before .before .before .before .before .analyse .kept .1 .1 .1 .0))
+
+analyse-if-join-requires : (t : ℕ) → analyse-if-lts.Need-join-requires (analyse-if-calls t) (analyse-if-at t) analyse-if.Post
+analyse-if-join-requires t c κs = tt
+
+analyse-if-same-length : (t : ℕ) → analyse-if-lts.Need-same-length (analyse-if-calls t) (analyse-if-at t) analyse-if.Post
+analyse-if-same-length t c =
+    c .before .before .before .before .before .analyse2 .kept .1 .1 .0 ∙ c .before .before .before .before .before .before .before .before .before .before .before .before .analyse .kept .1 .1 .0 ∙ c .before .before .before .before .before .before .before .before .before .before .before .before .before .before .before .before .before .before .before .before .note .kept .0
+
+analyse-if-same-length-2 : (t : ℕ) → analyse-if-lts.Need-same-length-2 (analyse-if-calls t) (analyse-if-at t) analyse-if.Post
+analyse-if-same-length-2 t c =
+    c .before .before .before .before .before .analyse2 .kept .1 .1 .1 .0 ∙ c .before .before .before .before .before .before .before .before .before .before .before .before .analyse .kept .1 .1 .1 .0 ∙ c .before .before .before .before .before .before .before .before .before .before .before .before .before .before .before .before .before .before .before .before .note .kept .1 .0
+
+analyse-if-returns : (t : ℕ) → analyse-if-lts.Need-returns (analyse-if-calls t) (analyse-if-at t) analyse-if.Post
+analyse-if-returns t c =
+    if-both (c .before .before .before .before .before .before .before .before .before .before .before .before .before .before .before .before .before .before .before .before .before .before .before .before .before .before .before .pre .1 .0) (analyse-if-noted t (c .before .before .before .before .before .before .before .before .before .before .before .before .before .before .before .before)) (c .before .before .before .before .before .before .before .before .before .before .before .before .before .before .before .before .before .before .before .before .note .kept .0) (c .before .before .before .before .before .before .before .before .before .before .before .before .before .before .before .before .before .before .before .before .note .kept .1 .0) _ _ _ (analyse-if-parts t (c .before .before .before .before .before .before .before .before .before .before .before .before .before .before .before .before)) (c .before .before .before .before .before .before .before .before .before .before .before .before .before .before .before .guarded .ensures) (c .before .before .before .before .before .before .before .before .before .before .before .before .analyse .ensures) (c .before .before .before .before .before .analyse2 .ensures) (c .join .ensures)
+
+module _ (t : ℕ) (d : analyse-sequence-lts.After-slice-known4 (analyse-sequence-calls t) (analyse-sequence-at t) analyse-sequence.Post) where
+  abbrev analyse-sequence-start : analyse-sequence-lts.Start (analyse-sequence-calls t) (analyse-sequence-at t) analyse-sequence.Post
+  analyse-sequence-start = d .before .before .before .before .before .before .before .before .before .before .before
+
+  analyse-sequence-parts : Parts (now (analyse-sequence-start .args .table)) (analyse-sequence-start .args .n) (Sequence (analyse-sequence-start .args .first) (analyse-sequence-start .args .second))
+  analyse-sequence-parts =
+      indexed-parts (now (analyse-sequence-start .args .table)) (now (analyse-sequence-start .args .index)) (slice-bytes (now (analyse-sequence-start .args .table)) (d .before .before .before .before .before .before .before .before .before .before .shared-slice-known .given))
+      (analyse-sequence-start .pre .1 .0 .node .indexed) (analyse-sequence-start .args .n) (analyse-sequence-start .pre .1 .0 .node .inside) (Sequence (analyse-sequence-start .args .first) (analyse-sequence-start .args .second)) (analyse-sequence-start .pre .1 .1)
+
+  analyse-sequence-noted : NotedAt (analyse-sequence-start .args .n) (analyse-sequence-start .args .context) (analyse-sequence-start .args .labels) (now (analyse-sequence-start .args .variables)) (now (analyse-sequence-start .args .arrays)) (d .before .before .before .before .note .last .0) (d .before .before .before .before .note .last .1 .0)
+  analyse-sequence-noted = entry-noted (analyse-sequence-start .pre .1 .0) (omega (arith, analyse-sequence-start .good)) (d .before .before .before .before .note .ensures)
+
+  analyse-sequence-lower : {s : Sort} (k : ℕ) → Child (now (analyse-sequence-start .args .table)) s (analyse-sequence-start .args .n) k → 2 * k + 2 < t
+  analyse-sequence-lower k h = subst (λ m. 2 * k + 2 < m) (analyse-sequence-start .pre .0) (omega (arith, h .below))
+
+analyse-sequence-note-requires : (t : ℕ) → analyse-sequence-lts.Need-note-requires (analyse-sequence-calls t) (analyse-sequence-at t) analyse-sequence.Post
+analyse-sequence-note-requires t c κs =
+    let pre = c .before .before .before .before .before .before .pre .1 .0 in
+    let inside = pre .node .inside in
+    (omega (arith, pre .room .variables), omega (arith, pre .room .arrays))
+
+analyse-sequence-analyse-requires : (t : ℕ) → analyse-sequence-lts.Need-analyse-requires (analyse-sequence-calls t) (analyse-sequence-at t) analyse-sequence.Post
+analyse-sequence-analyse-requires t c κs =
+    let p = analyse-sequence-parts t (c .before .before) in
+    (analyse-sequence-lower t (c .before .before) _ (p .0), sequence-first (c .before .before .before .before .before .before .before .before .before .before .before .before .before .pre .1 .0) (analyse-sequence-noted t (c .before .before)) (c .before .before .before .before .before .before .note .kept .0) (c .before .before .before .before .before .before .note .kept .1 .0) _ _ p)
+
+analyse-sequence-analyse-requires-2 : (t : ℕ) → analyse-sequence-lts.Need-analyse-requires-2 (analyse-sequence-calls t) (analyse-sequence-at t) analyse-sequence.Post
+analyse-sequence-analyse-requires-2 t c κs =
+    let p = analyse-sequence-parts t (c .before .before .before .before .before .before .before .before .before) in
+    (analyse-sequence-lower t (c .before .before .before .before .before .before .before .before .before) _ (p .1), sequence-second (c .before .before .before .before .before .before .before .before .before .before .before .before .before .before .before .before .before .before .before .before .pre .1 .0) (analyse-sequence-noted t (c .before .before .before .before .before .before .before .before .before)) (c .before .before .before .before .before .before .before .before .before .before .before .before .before .note .kept .0) (c .before .before .before .before .before .before .before .before .before .before .before .before .before .note .kept .1 .0) _ _ p (c .before .before .before .before .before .before .analyse .ensures) (c .before .before .before .before .before .before .analyse .kept .1 .1 .0) (c .before .before .before .before .before .before .analyse .kept .1 .1 .1 .0))
+
+analyse-sequence-same-length : (t : ℕ) → analyse-sequence-lts.Need-same-length (analyse-sequence-calls t) (analyse-sequence-at t) analyse-sequence.Post
+analyse-sequence-same-length t c =
+    c .before .before .before .before .analyse2 .kept .1 .1 .0 ∙ c .before .before .before .before .before .before .before .before .before .before .before .analyse .kept .1 .1 .0 ∙ c .before .before .before .before .before .before .before .before .before .before .before .before .before .before .before .before .before .before .note .kept .0
+
+analyse-sequence-same-length-2 : (t : ℕ) → analyse-sequence-lts.Need-same-length-2 (analyse-sequence-calls t) (analyse-sequence-at t) analyse-sequence.Post
+analyse-sequence-same-length-2 t c =
+    c .before .before .before .before .analyse2 .kept .1 .1 .1 .0 ∙ c .before .before .before .before .before .before .before .before .before .before .before .analyse .kept .1 .1 .1 .0 ∙ c .before .before .before .before .before .before .before .before .before .before .before .before .before .before .before .before .before .before .note .kept .1 .0
+
+analyse-sequence-returns : (t : ℕ) → analyse-sequence-lts.Need-returns (analyse-sequence-calls t) (analyse-sequence-at t) analyse-sequence.Post
+analyse-sequence-returns t c =
+    sequence-both (c .before .before .before .before .before .before .before .before .before .before .before .before .before .before .before .before .before .before .before .before .before .before .before .before .before .pre .1 .0) (analyse-sequence-noted t (c .before .before .before .before .before .before .before .before .before .before .before .before .before .before)) (c .before .before .before .before .before .before .before .before .before .before .before .before .before .before .before .before .before .before .note .kept .0) (c .before .before .before .before .before .before .before .before .before .before .before .before .before .before .before .before .before .before .note .kept .1 .0) _ _ (analyse-sequence-parts t (c .before .before .before .before .before .before .before .before .before .before .before .before .before .before)) (c .before .before .before .before .before .before .before .before .before .before .before .analyse .ensures) (c .before .before .before .before .analyse2 .ensures)
+
+abbrev settle-Inv-loop : settle-lts.InvT-loop
+settle-Inv-loop table index variables₀ arrays₀ condition body context masks₀ variables arrays masks =
+    Passing (truthIn table condition) (commandIn table body) context masks₀ variables₀ arrays₀ masks variables arrays
+
+abbrev settle-μ-loop : settle-lts.MeasureT-loop
+settle-μ-loop table index variables₀ arrays₀ condition body context masks₀ variables arrays masks =
+    publicAmong (declaredMarks 64 16) masks
+
+-- ---- settling
+-- a command of the table is noted with its number
+module _ (t : ℕ) (d : settle-lts.After-join (settle-calls t) (settle-at t) settle.Post settle-Inv-loop settle-μ-loop) where
+  abbrev settle-entry : settle-lts.Start (settle-calls t) (settle-at t) settle.Post settle-Inv-loop settle-μ-loop
+  settle-entry = d .before .before .before .before .before .before .before .before
+
+  settle-note : noteOf (commandIn (now (settle-entry .args .table)) (settle-entry .args .body)) ≡ settle-entry .args .body
+  settle-note =
+      let start = settle-entry in
+      let pre = start .pre .1 in
+      let table = now (start .args .table) in
+      indexed-note table (now (start .args .index)) (slice-bytes table (d .before .before .before .before .before .before .before .shared-slice-known .given)) (pre .node .indexed) (start .args .body) (pre .node .inside) (pre .node .isSort)
+
+  -- the passes start from the entering labelling joined with what is kept
+  settle-start : d .join .result ≡ join (settle-entry .args .labels) (keptIn (now (settle-entry .args .variables)) (now (settle-entry .args .arrays)) (commandIn (now (settle-entry .args .table)) (settle-entry .args .body)))
+  unfolding keptIn
+  settle-start = d .join .ensures ∙ ap (join (settle-entry .args .labels)) (d .before .noted-labelling .ensures ∙ ap (λ (k : ℕ). noteIn (now (settle-entry .args .variables)) (now (settle-entry .args .arrays)) k .labelling) (sym settle-note))
+
+  settle-answer : analyseOf (while (noteOf (commandIn (now (settle-entry .args .table)) (settle-entry .args .body))) (truthIn (now (settle-entry .args .table)) (settle-entry .args .condition)) (commandIn (now (settle-entry .args .table)) (settle-entry .args .body))) (settle-entry .args .context) (d .join .result)
+      ≡ analyseOf (while (noteOf (commandIn (now (settle-entry .args .table)) (settle-entry .args .body))) (truthIn (now (settle-entry .args .table)) (settle-entry .args .condition)) (commandIn (now (settle-entry .args .table)) (settle-entry .args .body))) (settle-entry .args .context) (settle-entry .args .labels)
+  settle-answer =
+      let start = settle-entry in
+      warm-answer (truthIn (now (start .args .table)) (start .args .condition)) (commandIn (now (start .args .table)) (start .args .body)) (start .args .context) (start .args .labels)
+      (now (start .args .variables)) (now (start .args .arrays)) (start .pre .1 .inOrder) settle-start
+
+module _ (t : ℕ) (d : settle-lts.After-same (settle-calls t) (settle-at t) settle.Post settle-Inv-loop settle-μ-loop) where
+  settle-within : Within 64 16 (d .before .before .before .before .before .before .analyse .result)
+  settle-within = record { variableMask = omega (arith, d .before .before .before .before .before .before .analyse .ok); arrayMask = omega (arith, d .before .before .before .before .before .before .analyse .ok) }
+
+settle-noted-labelling-requires : (t : ℕ) → settle-lts.Need-noted-labelling-requires (settle-calls t) (settle-at t) settle.Post settle-Inv-loop settle-μ-loop
+settle-noted-labelling-requires t c κs =
+    let pre = c .before .before .before .before .before .before .pre .1 in
+    let inside = pre .node .inside in
+    (omega (arith, pre .room .variables), omega (arith, pre .room .arrays), pre .room .fit (c .before .before .before .before .before .before .args .body))
+
+settle-join-requires : (t : ℕ) → settle-lts.Need-join-requires (settle-calls t) (settle-at t) settle.Post settle-Inv-loop settle-μ-loop
+settle-join-requires t c κs = tt
+
+settle-loop-holds : (t : ℕ) → settle-lts.Need-loop-holds (settle-calls t) (settle-at t) settle.Post settle-Inv-loop settle-μ-loop
+settle-loop-holds t c =
+    let start = c .before .before .before .before .before .before .before .before in
+    let table = now (start .args .table) in
+    let body : Com ℕ = commandIn table (start .args .body) in
+    let own = settle-note t c in
+    passing-starts (truthIn table (start .args .condition)) body (start .args .context) (start .args .labels) (now (start .args .variables)) (now (start .args .arrays))
+    (start .pre .1 .inOrder) (settle-start t c) (record { variableMask = omega (arith, c .join .ok); arrayMask = omega (arith, c .join .ok) }) (start .pre .1 .room .fit)
+
+settle-guarded-requires : (t : ℕ) → settle-lts.Need-guarded-requires (settle-calls t) (settle-at t) settle.Post settle-Inv-loop settle-μ-loop
+settle-guarded-requires t c κs = c .before .before .before .before .before .before .before .before .before .pre .1 .test
+
+settle-analyse-requires : (t : ℕ) → settle-lts.Need-analyse-requires (settle-calls t) (settle-at t) settle.Post settle-Inv-loop settle-μ-loop
+settle-analyse-requires t c κs =
+    let start = c .before .before .before .before .before .before .before .before .before .before .before .before in
+    let pre = start .pre .1 in
+    let inv = c .before .before .before .loop .inv in (
+      subst (λ m. 2 * start .args .body + 2 < m) (start .pre .0) (omega arith),
+      record {
+        node = pre .node;
+        distinct = pre .distinct;
+        room = record { variables = omega (arith, pre .room .variables, inv .variableLength); arrays = omega (arith, pre .room .arrays, inv .arrayLength); fit = inv .fit };
+        inOrder = rw (c .before .before .guarded .ensures) (inv .inOrder);
+      },
+    )
+
+settle-join-requires-2 : (t : ℕ) → settle-lts.Need-join-requires-2 (settle-calls t) (settle-at t) settle.Post settle-Inv-loop settle-μ-loop
+settle-join-requires-2 t c κs = tt
+
+settle-same-requires : (t : ℕ) → settle-lts.Need-same-requires (settle-calls t) (settle-at t) settle.Post settle-Inv-loop settle-μ-loop
+settle-same-requires t c κs = tt
+
+settle-loop-less : (t : ℕ) → settle-lts.Need-loop-less (settle-calls t) (settle-at t) settle.Post settle-Inv-loop settle-μ-loop
+settle-loop-less t c = passing-falls _ _ _ (c .before .before .before .before .before .before .before .before .before .before .before .loop .inv) (c .before .before .before .before .before .before .before .before .before .before .guarded .ensures) (c .before .before .before .before .before .before .before .analyse .ensures) (c .before .before .join2 .ensures) (settle-within t (c .before)) (sym (c .before .same .ensures) ∙ c .if1 .left)
+
+settle-loop-again : (t : ℕ) → settle-lts.Need-loop-again (settle-calls t) (settle-at t) settle.Post settle-Inv-loop settle-μ-loop
+settle-loop-again t c =
+    passing-next _ _ _ (c .before .before .before .before .before .before .before .before .before .before .before .loop .inv) (c .before .before .before .before .before .before .before .before .before .before .guarded .ensures) (c .before .before .before .before .before .before .before .analyse .ensures) (c .before .before .join2 .ensures) (settle-within t (c .before))
+    (c .before .before .before .before .before .before .before .analyse .kept .1 .1 .0) (c .before .before .before .before .before .before .before .analyse .kept .1 .1 .1 .0)
+
+settle-same-length : (t : ℕ) → settle-lts.Need-same-length (settle-calls t) (settle-at t) settle.Post settle-Inv-loop settle-μ-loop
+settle-same-length t c = c .before .before .before .before .before .before .before .analyse .kept .1 .1 .0 ∙ c .before .before .before .before .before .before .before .before .before .before .before .loop .inv .variableLength
+
+settle-same-length-2 : (t : ℕ) → settle-lts.Need-same-length-2 (settle-calls t) (settle-at t) settle.Post settle-Inv-loop settle-μ-loop
+settle-same-length-2 t c = c .before .before .before .before .before .before .before .analyse .kept .1 .1 .1 .0 ∙ c .before .before .before .before .before .before .before .before .before .before .before .loop .inv .arrayLength
+
+settle-returns : (t : ℕ) → settle-lts.Need-returns (settle-calls t) (settle-at t) settle.Post settle-Inv-loop settle-μ-loop
+settle-returns t c =
+    passing-ends _ _ _ (c .before .before .before .before .before .before .before .before .before .before .before .loop .inv) (c .before .before .before .before .before .before .before .before .before .before .guarded .ensures) (c .before .before .before .before .before .before .before .analyse .ensures) (c .before .before .join2 .ensures)
+    (settle-answer t (c .before .before .before .before .before .before .before .before .before .before .before .before)) (sym (c .before .same .ensures) ∙ c .if1 .taken)
+
+pub +analyse+analyse-if+analyse-sequence+settle-spec : {M : Type 1} → statement M
++analyse+analyse-if+analyse-sequence+settle-spec =
+    close μ-analyse μ-analyse-if μ-analyse-sequence μ-settle (λ t. analyse-lts.spec (analyse-calls t)
+    (analyse-at t)
+    analyse.Post
+    (analyse-node-at-requires t)
+    (analyse-enum-known-node t)
+    (analyse-analyse-sequence-requires t)
+    (analyse-enum-known-node-2 t)
+    (analyse-analyse-if-requires t)
+    (analyse-enum-known-node-3 t)
+    (analyse-note-requires t)
+    (analyse-settle-requires t)
+    (analyse-analyse-single-requires t)
+    (analyse-same-length t)
+    (analyse-same-length-2 t)
+    (analyse-returns t)
+    (analyse-same-length-3 t)
+    (analyse-same-length-4 t)
+    (analyse-returns-2 t)
+    (analyse-same-length-5 t)
+    (analyse-same-length-6 t)
+    (analyse-returns-3 t)
+    (analyse-same-length-7 t)
+    (analyse-same-length-8 t)
+    (analyse-returns-4 t))
+    (λ t. analyse-if-lts.spec (analyse-if-calls t)
+    (analyse-if-at t)
+    analyse-if.Post
+    (analyse-if-note-requires t)
+    (analyse-if-guarded-requires t)
+    (analyse-if-analyse-requires t)
+    (analyse-if-analyse-requires-2 t)
+    (analyse-if-join-requires t)
+    (analyse-if-same-length t)
+    (analyse-if-same-length-2 t)
+    (analyse-if-returns t))
+    (λ t. analyse-sequence-lts.spec (analyse-sequence-calls t)
+    (analyse-sequence-at t)
+    analyse-sequence.Post
+    (analyse-sequence-note-requires t)
+    (analyse-sequence-analyse-requires t)
+    (analyse-sequence-analyse-requires-2 t)
+    (analyse-sequence-same-length t)
+    (analyse-sequence-same-length-2 t)
+    (analyse-sequence-returns t))
+    λ t. settle-lts.spec (settle-calls t)
+    (settle-at t)
+    settle.Post
+    settle-Inv-loop
+    settle-μ-loop
+    (settle-noted-labelling-requires t)
+    (settle-join-requires t)
+    (settle-loop-holds t)
+    (settle-guarded-requires t)
+    (settle-analyse-requires t)
+    (settle-join-requires-2 t)
+    (settle-same-requires t)
+    (settle-loop-less t)
+    (settle-loop-again t)
+    (settle-same-length t)
+    (settle-same-length-2 t)
+    (settle-returns t)

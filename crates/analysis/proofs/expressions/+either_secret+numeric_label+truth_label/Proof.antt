@@ -1,0 +1,328 @@
+-- Labels of expressions: each arm answers what the definition joins from the children, whose numbers are lower.
+use Rattle.reader.specs.Index.{numericIn}
+use Rattle.awhile.specs.declared.Node.{Node}
+use Rattle.reader.proofs.Index.{Parts}
+use Rattle.bytes_le.proofs.Numbers.{slice-bytes}
+use Rattle.labels.specs.Labellings.{labelOfA, labelOfB}
+use Rattle.analysis.proofs.Nodes.{node-parts, child-below, pair-below}
+use Rattle.analysis.proofs.ExpressionLabels.{first-secret, second-label, number-public, constant-public, same-numeric, same-truth}
+use denote.Ref.{now}
+use Rattle.awhile.specs.Nodes.{sortOf}
+use mathlib.Core.Path.{_≡_, refl, sym, ap, subst, _∙_}
+use native.Mathlib.Omega.{arith}
+use borrow.Author.Needs.{needs}
+use Prim.Native.Nat.{ℕ, _+_, _*_, _<_, max}
+use borrow.Fn.Kinds.{In}
+use borrow.Fn.PlainCycle.{Measures, is, falls, and}
+use Rattle.analysis.proofs.expressions.either_secret.Reads as either-secret
+use Rattle.analysis.proofs.expressions.either_secret.Kinds as either-secret-kinds
+use Rattle.analysis.proofs.expressions.+either_secret+numeric_label+truth_label.Lts-either_secret as either-secret-lts
+use Rattle.analysis.proofs.expressions.numeric_label.Reads as numeric-label
+use Rattle.analysis.proofs.expressions.numeric_label.Kinds as numeric-label-kinds
+use Rattle.analysis.proofs.expressions.+either_secret+numeric_label+truth_label.Lts-numeric_label as numeric-label-lts
+use Rattle.analysis.proofs.expressions.truth_label.Reads as truth-label
+use Rattle.analysis.proofs.expressions.truth_label.Kinds as truth-label-kinds
+use Rattle.analysis.proofs.expressions.+either_secret+numeric_label+truth_label.Lts-truth_label as truth-label-lts
+use Rattle.reader.proofs.lookup.node_at.Reads as node-at-reads
+use Rattle.analysis.proofs.labelling.variable_label.Reads as variable-label-reads
+use Rattle.analysis.proofs.expressions.+either_secret+numeric_label+truth_label.{statement}
+use Rattle.analysis.proofs.expressions.+either_secret+numeric_label+truth_label.Tie.{close}
+
+abbrev μ-either-secret : Measures 2 either-secret-kinds.ps ℕ
+μ-either-secret κs a = 2 * max (a .1 .1 .1 .0) (a .1 .1 .1 .1 .0) + 2
+
+abbrev μ-numeric-label : Measures 2 numeric-label-kinds.ps ℕ
+μ-numeric-label κs a = 2 * a .1 .1 .1 .0 + 1
+
+abbrev μ-truth-label : Measures 2 truth-label-kinds.ps ℕ
+μ-truth-label κs a = 2 * a .1 .1 .1 .0 + 1
+
+abbrev either-secret-at : ℕ → In 2 either-secret-kinds.ps
+either-secret-at t =
+    and 2 either-secret-kinds.ps (is 2 either-secret-kinds.ps μ-either-secret t) either-secret.Pre
+
+abbrev either-secret-below : ℕ → In 2 either-secret-kinds.ps
+either-secret-below t =
+    and
+    2
+    either-secret-kinds.ps
+    (falls 2 either-secret-kinds.ps _<_ μ-either-secret t)
+    either-secret.Pre
+
+abbrev numeric-label-at : ℕ → In 2 numeric-label-kinds.ps
+numeric-label-at t =
+    and 2 numeric-label-kinds.ps (is 2 numeric-label-kinds.ps μ-numeric-label t) numeric-label.Pre
+
+abbrev numeric-label-below : ℕ → In 2 numeric-label-kinds.ps
+numeric-label-below t =
+    and
+    2
+    numeric-label-kinds.ps
+    (falls 2 numeric-label-kinds.ps _<_ μ-numeric-label t)
+    numeric-label.Pre
+
+abbrev truth-label-at : ℕ → In 2 truth-label-kinds.ps
+truth-label-at t =
+    and 2 truth-label-kinds.ps (is 2 truth-label-kinds.ps μ-truth-label t) truth-label.Pre
+
+abbrev truth-label-below : ℕ → In 2 truth-label-kinds.ps
+truth-label-below t =
+    and 2 truth-label-kinds.ps (falls 2 truth-label-kinds.ps _<_ μ-truth-label t) truth-label.Pre
+
+abbrev truth-label-calls : ℕ → truth-label-lts.Claims
+truth-label-calls t = (node-at-reads.Asked, node-at-reads.Learnt, either-secret-below t, either-secret.Post, truth-label-below t, truth-label.Post)
+
+abbrev numeric-label-calls : ℕ → numeric-label-lts.Claims
+numeric-label-calls t = (node-at-reads.Asked, node-at-reads.Learnt, variable-label-reads.Asked, variable-label-reads.Learnt, either-secret-below t, either-secret.Post, truth-label-below t, truth-label.Post)
+
+abbrev either-secret-calls : ℕ → either-secret-lts.Claims
+either-secret-calls t = (numeric-label-below t, numeric-label.Post)
+
+either-secret-numeric-label-requires : (t : ℕ) → either-secret-lts.Need-numeric-label-requires (either-secret-calls t) (either-secret-at t) either-secret.Post
+either-secret-numeric-label-requires t c κs =
+    let start = c .before .before in (subst (λ m. 2 * start .args .left + 1 < m) (start .pre .0) (omega arith), start .pre .1 .0)
+
+either-secret-numeric-label-requires-2 : (t : ℕ) → either-secret-lts.Need-numeric-label-requires-2 (either-secret-calls t) (either-secret-at t) either-secret.Post
+either-secret-numeric-label-requires-2 t c κs =
+    let start = c .before .before .before .before in (subst (λ m. 2 * start .args .right + 1 < m) (start .pre .0) (omega arith), start .pre .1 .1)
+
+either-secret-returns : (t : ℕ) → either-secret-lts.Need-returns (either-secret-calls t) (either-secret-at t) either-secret.Post
+either-secret-returns t c =
+    let args = c .before .before .before .before .args in
+    first-secret (labelOfA (args .labels) (numericIn (now (args .table)) (args .left))) (labelOfA (args .labels) (numericIn (now (args .table)) (args .right)))
+    (sym (c .before .numeric-label .ensures) ∙ c .if1 .taken)
+
+either-secret-returns-2 : (t : ℕ) → either-secret-lts.Need-returns-2 (either-secret-calls t) (either-secret-at t) either-secret.Post
+either-secret-returns-2 t c =
+    let args = c .before .before .before .before .before .args in
+    second-label (labelOfA (args .labels) (numericIn (now (args .table)) (args .left))) (labelOfA (args .labels) (numericIn (now (args .table)) (args .right)))
+    (c .numeric-label2 .result) (sym (c .before .before .numeric-label .ensures) ∙ c .before .if1 .left) (c .numeric-label2 .ensures)
+
+module _ (t : ℕ) (d : numeric-label-lts.After-node-at (numeric-label-calls t) (numeric-label-at t) numeric-label.Post) where
+  numeric-parts : (m : Node) → d .node-at .result ≡ m → Parts (now (d .before .before .before .args .table)) (d .before .before .before .args .n) m
+  numeric-parts =
+      let start = d .before .before .before in
+      node-parts (slice-bytes (now (start .args .table)) (d .before .before .shared-slice-known .given)) (start .pre .1 .indexed) (start .pre .1 .inside) (d .node-at .ensures)
+
+module _ (t : ℕ) (d : truth-label-lts.After-node-at (truth-label-calls t) (truth-label-at t) truth-label.Post) where
+  truth-parts : (m : Node) → d .node-at .result ≡ m → Parts (now (d .before .before .before .args .table)) (d .before .before .before .args .n) m
+  truth-parts =
+      let start = d .before .before .before in
+      node-parts (slice-bytes (now (start .args .table)) (d .before .before .shared-slice-known .given)) (start .pre .1 .indexed) (start .pre .1 .inside) (d .node-at .ensures)
+
+numeric-label-node-at-requires : (t : ℕ) → numeric-label-lts.Need-node-at-requires (numeric-label-calls t) (numeric-label-at t) numeric-label.Post
+numeric-label-node-at-requires t c κs =
+    let start = c .before .before in (start .pre .1 .indexed, start .pre .1 .inside)
+
+numeric-label-enum-known-node : (t : ℕ) → numeric-label-lts.Need-enum-known-node (numeric-label-calls t) (numeric-label-at t) numeric-label.Post
+numeric-label-enum-known-node t c = search needs
+
+numeric-label-variable-label-requires : (t : ℕ) → numeric-label-lts.Need-variable-label-requires (numeric-label-calls t) (numeric-label-at t) numeric-label.Post
+numeric-label-variable-label-requires t c κs = tt
+
+numeric-label-enum-known-node-2 : (t : ℕ) → numeric-label-lts.Need-enum-known-node-2 (numeric-label-calls t) (numeric-label-at t) numeric-label.Post
+numeric-label-enum-known-node-2 t c = search needs
+
+numeric-label-either-secret-requires : (t : ℕ) → numeric-label-lts.Need-either-secret-requires (numeric-label-calls t) (numeric-label-at t) numeric-label.Post
+numeric-label-either-secret-requires t c κs =
+    let p = numeric-parts t (c .before .before .before) _ (c .before .node2 .given .1) in
+    pair-below (c .before .before .before .before .before .before .pre .1 .indexed) (c .before .before .before .before .before .before .pre .0) _ _ (p .0) (p .1)
+
+numeric-label-enum-known-node-3 : (t : ℕ) → numeric-label-lts.Need-enum-known-node-3 (numeric-label-calls t) (numeric-label-at t) numeric-label.Post
+numeric-label-enum-known-node-3 t c = search needs
+
+numeric-label-either-secret-requires-2 : (t : ℕ) → numeric-label-lts.Need-either-secret-requires-2 (numeric-label-calls t) (numeric-label-at t) numeric-label.Post
+numeric-label-either-secret-requires-2 t c κs =
+    let p = numeric-parts t (c .before .before .before) _ (c .before .node3 .given .1) in
+    pair-below (c .before .before .before .before .before .before .pre .1 .indexed) (c .before .before .before .before .before .before .pre .0) _ _ (p .0) (p .1)
+
+numeric-label-enum-known-node-4 : (t : ℕ) → numeric-label-lts.Need-enum-known-node-4 (numeric-label-calls t) (numeric-label-at t) numeric-label.Post
+numeric-label-enum-known-node-4 t c = search needs
+
+numeric-label-either-secret-requires-3 : (t : ℕ) → numeric-label-lts.Need-either-secret-requires-3 (numeric-label-calls t) (numeric-label-at t) numeric-label.Post
+numeric-label-either-secret-requires-3 t c κs =
+    let p = numeric-parts t (c .before .before .before) _ (c .before .node4 .given .1) in
+    pair-below (c .before .before .before .before .before .before .pre .1 .indexed) (c .before .before .before .before .before .before .pre .0) _ _ (p .0) (p .1)
+
+numeric-label-enum-known-node-5 : (t : ℕ) → numeric-label-lts.Need-enum-known-node-5 (numeric-label-calls t) (numeric-label-at t) numeric-label.Post
+numeric-label-enum-known-node-5 t c = search needs
+
+numeric-label-truth-label-requires : (t : ℕ) → numeric-label-lts.Need-truth-label-requires (numeric-label-calls t) (numeric-label-at t) numeric-label.Post
+numeric-label-truth-label-requires t c κs =
+    let p = numeric-parts t (c .before .before .before) _ (c .before .node5 .given .1) in
+    child-below (c .before .before .before .before .before .before .pre .1 .indexed) (c .before .before .before .before .before .before .pre .0) _ (p .0)
+
+numeric-label-either-secret-requires-4 : (t : ℕ) → numeric-label-lts.Need-either-secret-requires-4 (numeric-label-calls t) (numeric-label-at t) numeric-label.Post
+numeric-label-either-secret-requires-4 t c κs =
+    let p = numeric-parts t (c .before .before .before .before .before) _ (c .before .before .before .node5 .given .1) in
+    pair-below (c .before .before .before .before .before .before .before .before .pre .1 .indexed) (c .before .before .before .before .before .before .before .before .pre .0) _ _ (p .1) (p .2)
+
+numeric-label-returns : (t : ℕ) → numeric-label-lts.Need-returns (numeric-label-calls t) (numeric-label-at t) numeric-label.Post
+unfolding labelOfA
+numeric-label-returns t c =
+    let p = numeric-parts t (c .before .before .before .before) _ (c .before .before .node .given .1) in
+    same-numeric (c .before .before .before .before .before .before .before .args .labels) (p .1) (c .variable-label .ensures)
+
+numeric-label-returns-2 : (t : ℕ) → numeric-label-lts.Need-returns-2 (numeric-label-calls t) (numeric-label-at t) numeric-label.Post
+unfolding labelOfA
+numeric-label-returns-2 t c =
+    let p = numeric-parts t (c .before .before .before .before) _ (c .before .before .node2 .given .1) in
+    same-numeric (c .before .before .before .before .before .before .before .args .labels) (p .2) (c .either-secret .ensures)
+
+numeric-label-returns-3 : (t : ℕ) → numeric-label-lts.Need-returns-3 (numeric-label-calls t) (numeric-label-at t) numeric-label.Post
+unfolding labelOfA
+numeric-label-returns-3 t c =
+    let p = numeric-parts t (c .before .before .before .before) _ (c .before .before .node3 .given .1) in
+    same-numeric (c .before .before .before .before .before .before .before .args .labels) (p .2) (c .either-secret2 .ensures)
+
+numeric-label-returns-4 : (t : ℕ) → numeric-label-lts.Need-returns-4 (numeric-label-calls t) (numeric-label-at t) numeric-label.Post
+unfolding labelOfA
+numeric-label-returns-4 t c =
+    let p = numeric-parts t (c .before .before .before .before) _ (c .before .before .node4 .given .1) in
+    same-numeric (c .before .before .before .before .before .before .before .args .labels) (p .2) (c .either-secret3 .ensures)
+
+numeric-label-returns-5 : (t : ℕ) → numeric-label-lts.Need-returns-5 (numeric-label-calls t) (numeric-label-at t) numeric-label.Post
+unfolding labelOfA
+numeric-label-returns-5 t c =
+    let p = numeric-parts t (c .before .before .before .before .before) _ (c .before .before .before .node5 .given .1) in
+    same-numeric (c .before .before .before .before .before .before .before .before .args .labels) (p .3) (first-secret _ _ (sym (c .before .truth-label .ensures) ∙ c .if1 .taken))
+
+numeric-label-returns-6 : (t : ℕ) → numeric-label-lts.Need-returns-6 (numeric-label-calls t) (numeric-label-at t) numeric-label.Post
+unfolding labelOfA
+numeric-label-returns-6 t c =
+    let p = numeric-parts t (c .before .before .before .before .before .before) _ (c .before .before .before .before .node5 .given .1) in
+    same-numeric (c .before .before .before .before .before .before .before .before .before .args .labels) (p .3) (second-label _ _ _ (sym (c .before .before .truth-label .ensures) ∙ c .before .if1 .left) (c .either-secret4 .ensures))
+
+numeric-label-returns-7 : (t : ℕ) → numeric-label-lts.Need-returns-7 (numeric-label-calls t) (numeric-label-at t) numeric-label.Post
+numeric-label-returns-7 t c =
+    let start = c .before .before .before .before in
+    number-public (now (start .args .table)) (start .args .labels) (start .args .n) (c .before .node-at .result) (c .match .keys6)
+    (ap sortOf (c .before .node-at .ensures) ∙ start .pre .1 .isSort) (numeric-parts t (c .before) (c .before .node-at .result) refl)
+
+truth-label-node-at-requires : (t : ℕ) → truth-label-lts.Need-node-at-requires (truth-label-calls t) (truth-label-at t) truth-label.Post
+truth-label-node-at-requires t c κs =
+    let start = c .before .before in (start .pre .1 .indexed, start .pre .1 .inside)
+
+truth-label-enum-known-node : (t : ℕ) → truth-label-lts.Need-enum-known-node (truth-label-calls t) (truth-label-at t) truth-label.Post
+truth-label-enum-known-node t c = search needs
+
+truth-label-either-secret-requires : (t : ℕ) → truth-label-lts.Need-either-secret-requires (truth-label-calls t) (truth-label-at t) truth-label.Post
+truth-label-either-secret-requires t c κs =
+    let p = truth-parts t (c .before .before .before) _ (c .before .node .given .1) in
+    pair-below (c .before .before .before .before .before .before .pre .1 .indexed) (c .before .before .before .before .before .before .pre .0) _ _ (p .0) (p .1)
+
+truth-label-enum-known-node-2 : (t : ℕ) → truth-label-lts.Need-enum-known-node-2 (truth-label-calls t) (truth-label-at t) truth-label.Post
+truth-label-enum-known-node-2 t c = search needs
+
+truth-label-either-secret-requires-2 : (t : ℕ) → truth-label-lts.Need-either-secret-requires-2 (truth-label-calls t) (truth-label-at t) truth-label.Post
+truth-label-either-secret-requires-2 t c κs =
+    let p = truth-parts t (c .before .before .before) _ (c .before .node2 .given .1) in
+    pair-below (c .before .before .before .before .before .before .pre .1 .indexed) (c .before .before .before .before .before .before .pre .0) _ _ (p .0) (p .1)
+
+truth-label-enum-known-node-3 : (t : ℕ) → truth-label-lts.Need-enum-known-node-3 (truth-label-calls t) (truth-label-at t) truth-label.Post
+truth-label-enum-known-node-3 t c = search needs
+
+truth-label-truth-label-requires : (t : ℕ) → truth-label-lts.Need-truth-label-requires (truth-label-calls t) (truth-label-at t) truth-label.Post
+truth-label-truth-label-requires t c κs =
+    let p = truth-parts t (c .before .before .before) _ (c .before .node3 .given .1) in
+    child-below (c .before .before .before .before .before .before .pre .1 .indexed) (c .before .before .before .before .before .before .pre .0) _ (p .0)
+
+truth-label-enum-known-node-4 : (t : ℕ) → truth-label-lts.Need-enum-known-node-4 (truth-label-calls t) (truth-label-at t) truth-label.Post
+truth-label-enum-known-node-4 t c = search needs
+
+truth-label-truth-label-requires-2 : (t : ℕ) → truth-label-lts.Need-truth-label-requires-2 (truth-label-calls t) (truth-label-at t) truth-label.Post
+truth-label-truth-label-requires-2 t c κs =
+    let p = truth-parts t (c .before .before .before) _ (c .before .node4 .given .1) in
+    child-below (c .before .before .before .before .before .before .pre .1 .indexed) (c .before .before .before .before .before .before .pre .0) _ (p .0)
+
+truth-label-truth-label-requires-3 : (t : ℕ) → truth-label-lts.Need-truth-label-requires-3 (truth-label-calls t) (truth-label-at t) truth-label.Post
+truth-label-truth-label-requires-3 t c κs =
+    let p = truth-parts t (c .before .before .before .before .before) _ (c .before .before .before .node4 .given .1) in
+    child-below (c .before .before .before .before .before .before .before .before .pre .1 .indexed) (c .before .before .before .before .before .before .before .before .pre .0) _ (p .1)
+
+truth-label-returns : (t : ℕ) → truth-label-lts.Need-returns (truth-label-calls t) (truth-label-at t) truth-label.Post
+unfolding labelOfB
+truth-label-returns t c =
+    let p = truth-parts t (c .before .before .before .before) _ (c .before .before .node .given .1) in
+    same-truth (c .before .before .before .before .before .before .before .args .labels) (p .2) (c .either-secret .ensures)
+
+truth-label-returns-2 : (t : ℕ) → truth-label-lts.Need-returns-2 (truth-label-calls t) (truth-label-at t) truth-label.Post
+unfolding labelOfB
+truth-label-returns-2 t c =
+    let p = truth-parts t (c .before .before .before .before) _ (c .before .before .node2 .given .1) in
+    same-truth (c .before .before .before .before .before .before .before .args .labels) (p .2) (c .either-secret2 .ensures)
+
+truth-label-returns-3 : (t : ℕ) → truth-label-lts.Need-returns-3 (truth-label-calls t) (truth-label-at t) truth-label.Post
+unfolding labelOfB
+truth-label-returns-3 t c =
+    let p = truth-parts t (c .before .before .before .before) _ (c .before .before .node3 .given .1) in
+    same-truth (c .before .before .before .before .before .before .before .args .labels) (p .1) (c .truth-label .ensures)
+
+truth-label-returns-4 : (t : ℕ) → truth-label-lts.Need-returns-4 (truth-label-calls t) (truth-label-at t) truth-label.Post
+unfolding labelOfB
+truth-label-returns-4 t c =
+    let p = truth-parts t (c .before .before .before .before .before) _ (c .before .before .before .node4 .given .1) in
+    same-truth (c .before .before .before .before .before .before .before .before .args .labels) (p .2) (first-secret _ _ (sym (c .before .truth-label2 .ensures) ∙ c .if1 .taken))
+
+truth-label-returns-5 : (t : ℕ) → truth-label-lts.Need-returns-5 (truth-label-calls t) (truth-label-at t) truth-label.Post
+unfolding labelOfB
+truth-label-returns-5 t c =
+    let p = truth-parts t (c .before .before .before .before .before .before) _ (c .before .before .before .before .node4 .given .1) in
+    same-truth (c .before .before .before .before .before .before .before .before .before .args .labels) (p .2) (second-label _ _ _ (sym (c .before .before .truth-label2 .ensures) ∙ c .before .if1 .left) (c .truth-label3 .ensures))
+
+truth-label-returns-6 : (t : ℕ) → truth-label-lts.Need-returns-6 (truth-label-calls t) (truth-label-at t) truth-label.Post
+truth-label-returns-6 t c =
+    let start = c .before .before .before .before in
+    constant-public (now (start .args .table)) (start .args .labels) (start .args .n) (c .before .node-at .result) (c .match .keys5)
+    (ap sortOf (c .before .node-at .ensures) ∙ start .pre .1 .isSort) (truth-parts t (c .before) (c .before .node-at .result) refl)
+
+pub +either-secret+numeric-label+truth-label-spec : {M : Type 1} → statement M
++either-secret+numeric-label+truth-label-spec =
+    close μ-either-secret μ-numeric-label μ-truth-label (λ t. either-secret-lts.spec (either-secret-calls t)
+    (either-secret-at t)
+    either-secret.Post
+    (either-secret-numeric-label-requires t)
+    (either-secret-numeric-label-requires-2 t)
+    (either-secret-returns t)
+    (either-secret-returns-2 t))
+    (λ t. numeric-label-lts.spec (numeric-label-calls t)
+    (numeric-label-at t)
+    numeric-label.Post
+    (numeric-label-node-at-requires t)
+    (numeric-label-enum-known-node t)
+    (numeric-label-variable-label-requires t)
+    (numeric-label-enum-known-node-2 t)
+    (numeric-label-either-secret-requires t)
+    (numeric-label-enum-known-node-3 t)
+    (numeric-label-either-secret-requires-2 t)
+    (numeric-label-enum-known-node-4 t)
+    (numeric-label-either-secret-requires-3 t)
+    (numeric-label-enum-known-node-5 t)
+    (numeric-label-truth-label-requires t)
+    (numeric-label-either-secret-requires-4 t)
+    (numeric-label-returns t)
+    (numeric-label-returns-2 t)
+    (numeric-label-returns-3 t)
+    (numeric-label-returns-4 t)
+    (numeric-label-returns-5 t)
+    (numeric-label-returns-6 t)
+    (numeric-label-returns-7 t))
+    λ t. truth-label-lts.spec (truth-label-calls t)
+    (truth-label-at t)
+    truth-label.Post
+    (truth-label-node-at-requires t)
+    (truth-label-enum-known-node t)
+    (truth-label-either-secret-requires t)
+    (truth-label-enum-known-node-2 t)
+    (truth-label-either-secret-requires-2 t)
+    (truth-label-enum-known-node-3 t)
+    (truth-label-truth-label-requires t)
+    (truth-label-enum-known-node-4 t)
+    (truth-label-truth-label-requires-2 t)
+    (truth-label-truth-label-requires-3 t)
+    (truth-label-returns t)
+    (truth-label-returns-2 t)
+    (truth-label-returns-3 t)
+    (truth-label-returns-4 t)
+    (truth-label-returns-5 t)
+    (truth-label-returns-6 t)

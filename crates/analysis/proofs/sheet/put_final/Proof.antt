@@ -1,0 +1,34 @@
+-- `put_final` stores a record.
+use mathlib.Core.Path.{refl}
+use mathlib.Core.List.{_++_}
+use denote.Ref.{now}
+use Rattle.bytes_le.specs.Numbers.{le}
+use Rattle.labels.specs.Sheet.{masksBytes}
+use Rattle.analysis.proofs.Stored.{stored-then}
+use borrow.Author.Needs.{needs}
+use Rattle.analysis.proofs.sheet.put_final.Statement.{statement}
+use Rattle.analysis.proofs.sheet.put_final.Tie as tie
+
+put-head-requires : tie.Need-put-head-requires
+put-head-requires c κs = search needs
+
+put16-requires : tie.Need-put16-requires
+put16-requires c κs = search needs
+
+put-masks-requires : tie.Need-put-masks-requires
+put-masks-requires c κs = search needs
+
+same-length : tie.Need-same-length
+same-length c = search needs
+
+returns : tie.Need-returns
+unfolding le
+returns c =
+    let args = c .before .before .before .before .before .before .before .before .before .before .before .before .before .args in
+    let head = c .before .before .before .before .before .before .before .before .before .before .put-head .last .0 in
+    stored-then (le 2 14 ++ (le 2 128 ++ le 2 1)) (le 2 (args .count) ++ masksBytes (args .masks)) (now (args .out)) 0 6 refl (c .before .before .before .before .before .before .before .before .before .before .put-head .ensures)
+    (stored-then (le 2 (args .count)) (masksBytes (args .masks)) head 6 8 refl (c .before .before .before .before .before .before .put16 .ensures) (c .before .before .put-masks .ensures))
+
+pub put-final-spec : {M : Type 1} → statement M
+put-final-spec =
+    tie.close (tie.spec put-head-requires put16-requires put-masks-requires same-length returns)

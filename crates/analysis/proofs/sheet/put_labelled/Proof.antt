@@ -1,0 +1,34 @@
+-- `put_labelled` stores three fields and a label.
+use Prim.Native.Nat.{_+_}
+use mathlib.Core.Path.{refl}
+use mathlib.Core.List.{_++_}
+use denote.Ref.{now}
+use Rattle.bytes_le.specs.Numbers.{le}
+use Rattle.labels.specs.Sheet.{labelBytes}
+use Rattle.analysis.proofs.Stored.{stored-then}
+use borrow.Author.Needs.{needs}
+use Rattle.analysis.proofs.sheet.put_labelled.Statement.{statement}
+use Rattle.analysis.proofs.sheet.put_labelled.Tie as tie
+
+put-head-requires : tie.Need-put-head-requires
+put-head-requires c κs = search needs
+
+add-put-label : tie.Need-add-put-label
+add-put-label c = search needs
+
+put-label-requires : tie.Need-put-label-requires
+put-label-requires c κs = search needs
+
+same-length : tie.Need-same-length
+same-length c = search needs
+
+returns : tie.Need-returns
+unfolding le
+returns c =
+    let args = c .before .before .before .before .before .before .before .before .before .args in
+    stored-then (le 2 (args .size) ++ (le 2 (args .kind) ++ le 2 (args .n))) (labelBytes (args .secret)) (now (args .out)) (args .at) (args .at + 6) refl
+    (c .before .before .before .before .before .before .put-head .ensures) (c .before .before .put-label .ensures)
+
+pub put-labelled-spec : {M : Type 1} → statement M
+put-labelled-spec =
+    tie.close (tie.spec put-head-requires add-put-label put-label-requires same-length returns)

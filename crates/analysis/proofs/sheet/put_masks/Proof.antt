@@ -1,0 +1,41 @@
+-- `put_masks` stores two masks.
+use mathlib.Core.Path.{refl, ap, _∙_}
+use Prim.Native.Nat.{_+_}
+use denote.Ref.{now}
+use lib.Seq.{sets}
+use Rattle.bytes_le.specs.Numbers.{le}
+use Rattle.labels.specs.Sheet.{masksBytes}
+use Rattle.analysis.proofs.Stored.{stored-then, le-four}
+use borrow.Author.Needs.{needs}
+use Rattle.analysis.proofs.sheet.put_masks.Statement.{statement}
+use Rattle.analysis.proofs.sheet.put_masks.Tie as tie
+
+cast-put32 : tie.Need-cast-put32
+cast-put32 c = search needs
+
+put32-requires : tie.Need-put32-requires
+put32-requires c κs = search needs
+
+add-put16 : tie.Need-add-put16
+add-put16 c = search needs
+
+cast-put16 : tie.Need-cast-put16
+cast-put16 c = search needs
+
+put16-requires : tie.Need-put16-requires
+put16-requires c κs = search needs
+
+same-length : tie.Need-same-length
+same-length c = search needs
+
+returns : tie.Need-returns
+unfolding masksBytes le
+returns c =
+    let args = c .before .before .before .before .before .before .before .before .before .before .before .args in
+    stored-then (le 4 (args .labels .variables)) (le 2 (args .labels .arrays)) (now (args .out)) (args .at) (args .at + 4) refl
+    (c .before .before .before .before .before .before .before .put32 .ensures ∙ ap (sets (now (args .out)) (args .at)) (le-four (args .labels .variables))) (c .before .before .put16 .ensures)
+
+pub put-masks-spec : {M : Type 1} → statement M
+put-masks-spec =
+    tie.close
+    (tie.spec cast-put32 put32-requires add-put16 cast-put16 put16-requires same-length returns)

@@ -1,0 +1,33 @@
+-- `put_sequence` stores a record.
+use mathlib.Core.Path.{refl}
+use mathlib.Core.List.{_++_}
+use Prim.Native.Nat.{_+_}
+use denote.Ref.{now}
+use Rattle.bytes_le.specs.Numbers.{le}
+use Rattle.labels.specs.Sheet.{masksBytes}
+use Rattle.analysis.proofs.Stored.{stored-then}
+use borrow.Author.Needs.{needs}
+use Rattle.analysis.proofs.sheet.put_sequence.Statement.{statement}
+use Rattle.analysis.proofs.sheet.put_sequence.Tie as tie
+
+put-head-requires : tie.Need-put-head-requires
+put-head-requires c κs = search needs
+
+add-put-masks : tie.Need-add-put-masks
+add-put-masks c = search needs
+
+put-masks-requires : tie.Need-put-masks-requires
+put-masks-requires c κs = search needs
+
+same-length : tie.Need-same-length
+same-length c = search needs
+
+returns : tie.Need-returns
+unfolding le
+returns c =
+    let args = c .before .before .before .before .before .before .before .before .before .args in
+    (stored-then (le 2 12 ++ (le 2 129 ++ le 2 (args .n))) (masksBytes (args .masks)) (now (args .out)) (args .at) (args .at + 6) refl (c .before .before .before .before .before .before .put-head .ensures) (c .before .before .put-masks .ensures), refl)
+
+pub put-sequence-spec : {M : Type 1} → statement M
+put-sequence-spec =
+    tie.close (tie.spec put-head-requires add-put-masks put-masks-requires same-length returns)

@@ -1,0 +1,4 @@
+-- What labelling a table in memory requires and leaves.
+pub mod Notes
+pub mod Warm
+pub mod Conditions

@@ -1,0 +1,48 @@
+-- Warm starts: a loop starts its passes from the entering labelling joined with what it last settled at, so that nested loops settle in
+-- few passes. What it last settled at is kept where the notes are, as the note of its body. The results are those of the analysis.
+use Prim.Native.Nat.{ℕ, _+_, _≤_}
+use mathlib.Core.Bool.{Bool, cond, _||_}
+use mathlib.Core.List.{List}
+use mathlib.Core.Path.{_≡_}
+use lib.Dec.{eqb}
+use Rattle.awhile.specs.Language.{Com, skip, assign, sequence, if, while, read, write, noteOf}
+use Rattle.awhile.specs.declared.Labelling.{Labelling}
+use Rattle.labels.specs.Labellings.{labelOfB, join, _⊑_}
+use Rattle.labels.specs.Analysis.{analyse}
+use Rattle.analysis.specs.Notes.{noteIn}
+
+-- how many commands with this number stand in a command, itself included
+unfoldable pub standing : (node : ℕ) → Com ℕ → ℕ
+standing p (skip n) = cond (eqb p n) 1 0
+standing p (assign n v e) = cond (eqb p n) 1 0
+standing p (sequence n c d) = cond (eqb p n) 1 0 + standing p c + standing p d
+standing p (if n b c d) = cond (eqb p n) 1 0 + standing p c + standing p d
+standing p (while n b c) = cond (eqb p n) 1 0 + standing p c
+standing p (read n v a i) = cond (eqb p n) 1 0
+standing p (write n a i e) = cond (eqb p n) 1 0
+
+-- no two commands of a command have one number
+pub record Distinct (c : Com ℕ) : Type 0 where
+  pub once : (p : ℕ) → standing p c ≤ 1
+
+-- the notes of all commands other than those of a command are the same before and after
+pub record Outside (c : Com ℕ) (vs arrs ws brrs : List ℕ) : Type 0 where
+  pub same : (p : ℕ) → standing p c ≡ 0 → noteIn ws brrs p ≡ noteIn vs arrs p
+
+-- what a loop last settled at, from the note of its body
+unfoldable pub keptIn : (vs arrs : List ℕ) → (body : Com ℕ) → Labelling
+keptIn vs arrs c = noteIn vs arrs (noteOf c) .labelling
+
+-- The kept masks are in order for an analysis: those of a loop are no more than it settles at, and those inside its body are in order for
+-- the pass that it starts with.
+module _ (vs arrs : List ℕ) where
+  abbrev pub InOrder : Com ℕ → (context : Bool) → Labelling → Type 0
+  InOrder (skip n) x l = Unit
+  InOrder (assign n v e) x l = Unit
+  InOrder (sequence n c d) x l = InOrder c x l × InOrder d x (analyse c x l)
+  InOrder (if n b c d) x l = InOrder c (labelOfB l b || x) l × InOrder d (labelOfB l b || x) l
+  InOrder (while n b c) x l =
+      (keptIn vs arrs c ⊑ analyse (while n b c) x l)
+      × InOrder c (labelOfB (join l (keptIn vs arrs c)) b || x) (join l (keptIn vs arrs c))
+  InOrder (read n v a i) x l = Unit
+  InOrder (write n a i e) x l = Unit

@@ -1,0 +1,296 @@
+-- The hardened table written record by record: array counts one behind the other, then the whole.
+use Prim.Native.Nat.{ℕ, _+_, _-_, _*_, _^_, _≤_, _<_}
+use native.Mathlib.Numerals.{add-one}
+use native.Mathlib.Omega.{arith}
+use mathlib.Core.Bool.{Bool, false, _||_}
+use mathlib.Core.List.{List, [], _∷_, _++_, flatMap, append-nil}
+use mathlib.Core.Path.{_≡_, refl, sym, ap, _∙_}
+use lib.ListN.{length, getD, take, length-append, length-take, length-drop}
+use lib.Pow.{pow-mono}
+use lib.Seq.{sets, length-sets, take-suc, length-take-le}
+use Rattle.bytes_le.specs.Numbers.{le, leAt}
+use Rattle.bytes_le.proofs.Numbers.{Below, length-le}
+use Rattle.bytes_le.proofs.Stores.{sets-append}
+use Rattle.awhile.specs.Language.{Com, skip, assign, sequence, if, while, read, write, mapNotes}
+use Rattle.awhile.specs.Encoding.{nodesOf, countBytes, headerBytes, labelsBytes, tableBytes, writeC}
+use Rattle.reader.specs.Index.{tableOf, nodesIn, nodeIn, commandIn}
+use Rattle.awhile.specs.Nodes.{sortOf, nodeBytes}
+use Rattle.awhile.specs.Tables.{Table, accepted, readTable, maxVariables, maxArrays, maxNodes}
+use Rattle.awhile.specs.Trees.{rootOf}
+use Rattle.awhile.specs.declared.Labelling.{Labelling}
+use Rattle.reader.proofs.Index.{indexed-root, indexed-root-sort, indexed-well-formed}
+use Rattle.awhile.proofs.Lists.{flatMap-append}
+use Rattle.labels.specs.Analysis.{analyse}
+use Rattle.labels.specs.Annotation.{Entry, annotate}
+use Rattle.labels.specs.Labellings.{labelOfB}
+use Rattle.analysis.specs.Notes.{noteIn, Noted}
+use Rattle.labels.specs.Sheet.{annotated}
+use Rattle.awhile.proofs.Counts.{count-at}
+use Rattle.masks.specs.Decisions.{decide}
+use Rattle.masks.specs.Hardening.{harden, hardenedProgram, tableOfHardened, hardenedTable}
+use Rattle.hardener.specs.InMemory.{annotatedIn, hardenedIn, Hardenable}
+use Rattle.hardener.specs.Output.{Measurable, Writable, WroteTable}
+use Rattle.hardener.specs.Sizes.{bytesOf, Sized}
+use Rattle.hardener.specs.Written.{Room, Wrote}
+use Rattle.hardener.specs.declared.Size.{Size}
+use Rattle.hardener.specs.Records.{recordBytes}
+use Rattle.hardener.specs.declared.Record.the-variants.{One}
+use Rattle.hardener.proofs.Lengths.{counted-C}
+use Rattle.hardener.proofs.Parts.{sets-rest}
+use Rattle.hardener.proofs.Writers.{sizeIs, restOf, withRest}
+use Rattle.awhile.proofs.Size.{root-size}
+use Rattle.masks.proofs.Growth.{hardened-size, nodesOf-mapped, decide-large}
+use Rattle.hardener.proofs.CommandSizes.{any-flag, decide-nodes}
+
+-- ---- array counts
+length-counts : (cs : List ℕ) → length (flatMap countBytes cs) ≡ 6 * length cs
+unfolding flatMap countBytes
+length-counts [] = refl
+length-counts (c ∷ cs) = simp (length-append, length-le) (omega (arith, length-counts cs))
+
+count-length : (n : ℕ) → length (countBytes n) ≡ 6
+unfolding countBytes
+count-length n = simp (length-append, length-le)
+
+-- one more count
+counts-next : (cs : List ℕ) (a : ℕ) → a < length cs → flatMap countBytes (take a cs) ++ countBytes (getD cs a 0) ≡ flatMap countBytes (take (a + 1) cs)
+unfolding flatMap
+counts-next cs a less =
+    ap (λ b. flatMap countBytes (take a cs) ++ b) (sym (append-nil (countBytes (getD cs a 0))))
+    ∙ sym (flatMap-append countBytes (take a cs) (getD cs a 0 ∷ []))
+    ∙ ap (flatMap countBytes) (sym (take-suc cs a 0 less))
+    ∙ ap (λ n. flatMap countBytes (take n cs)) (sym (add-one a))
+
+count-record : (n : ℕ) → recordBytes (One 2 n) ≡ countBytes n
+unfolding recordBytes countBytes le
+count-record n = refl
+
+-- the record of array a, written into the rest from its place on
+pub counts-step : (s : List ℕ) → Below 256 s → readTable s ≡ accepted (tableOf s) → (a r : ℕ) → a < length (tableOf s .counts) → r ≡ leAt 2 s (20 + 6 * a + 4)
+    → (l m rest : List ℕ) → 20 + 6 * length (tableOf s .counts) ≤ length l → m ≡ sets l 20 (flatMap countBytes (take a (tableOf s .counts)))
+    → rest ≡ sets (restOf (20 + 6 * a) m) 0 (recordBytes (One 2 r))
+    → withRest (20 + 6 * a) m rest ≡ sets l 20 (flatMap countBytes (take (a + 1) (tableOf s .counts)))
+counts-step s bytes reads a r less is l m rest room done stored =
+    let cs : List ℕ = tableOf s .counts in
+    let place : 24 + 6 * a ≡ 20 + 6 * a + 4 = omega arith in
+    let count : r ≡ getD cs a 0 = is ∙ ap (leAt 2 s) (sym place) ∙ sym (count-at s bytes (tableOf s) reads a less) in
+    let written : recordBytes (One 2 r) ≡ countBytes (getD cs a 0) = count-record r ∙ ap countBytes count in
+    let six : length (countBytes (getD cs a 0)) ≡ 6 = count-length (getD cs a 0) in
+    let same : length m ≡ length l = ap length done ∙ length-sets l 20 (flatMap countBytes (take a cs)) in
+    let there : 20 + 6 * a + length (countBytes (getD cs a 0)) ≤ length m = omega arith in
+    let so-far : 20 + 6 * a ≡ 20 + length (flatMap countBytes (take a cs)) = omega (arith, length-counts (take a cs), length-take-le a cs (omega arith)) in
+    ap (withRest (20 + 6 * a) m) (stored ∙ ap (sets (restOf (20 + 6 * a) m) 0) written)
+    ∙ sets-rest m (20 + 6 * a) (countBytes (getD cs a 0)) there
+    ∙ ap (λ h. sets h (20 + 6 * a) (countBytes (getD cs a 0))) done
+    ∙ ap (λ i. sets (sets l 20 (flatMap countBytes (take a cs))) i (countBytes (getD cs a 0))) so-far
+    ∙ sym (sets-append (flatMap countBytes (take a cs)) (countBytes (getD cs a 0)) l 20)
+    ∙ ap (sets l 20) (counts-next cs a less)
+
+-- ---- the notes of the analysis are what the program is annotated with
+module _ (vs arrs : List ℕ) where
+  pub annotate-noted : (c : Com ℕ) (x : Bool) (l : Labelling) → Noted vs arrs (annotate c x l) → annotate c x l ≡ mapNotes (noteIn vs arrs) c
+  unfolding annotate mapNotes
+  annotate-noted (skip n) x l h = ap skip (sym h)
+  annotate-noted (assign n v e) x l h = ap (λ k. assign k v e) (sym h)
+  annotate-noted (sequence n c d) x l h =
+      let first = annotate-noted c x l (h .1) in
+      let second = annotate-noted d x (analyse c x l) (h .2) in
+      let note = h .0 in
+      cc
+  annotate-noted (if n b c d) x l h =
+      let first = annotate-noted c (labelOfB l b || x) l (h .1) in
+      let second = annotate-noted d (labelOfB l b || x) l (h .2) in
+      let note = h .0 in
+      cc
+  annotate-noted (while n b c) x l h =
+      let m = analyse (while n b c) x l in
+      let body = annotate-noted c (labelOfB m b || x) m (h .1) in
+      let note = h .0 in
+      cc
+  annotate-noted (read n v a i) x l h = ap (λ k. read k v a i) (sym h)
+  annotate-noted (write n a i e) x l h = ap (λ k. write k a i e) (sym h)
+
+-- ---- the whole table
+length-header : (v a n : ℕ) → length (headerBytes v a n) ≡ 10
+unfolding headerBytes
+length-header v a n = simp (length-append, length-le)
+
+length-labels : (l : Labelling) → length (labelsBytes l) ≡ 10
+unfolding labelsBytes
+length-labels l = simp (length-append, length-le)
+
+-- four runs of bytes, one behind the other
+four-runs : (l h b c n : List ℕ) (a : ℕ) → length h ≡ 10 → length b ≡ 10 → length c ≡ 6 * a
+    → sets (sets (sets (sets l 0 h) 10 b) 20 c) (20 + 6 * a) n ≡ sets l 0 (h ++ (b ++ (c ++ n)))
+four-runs l h b c n a p q r =
+    let e : 20 + 6 * a ≡ 20 + length c = omega arith in
+    let f : 20 ≡ 10 + length b = omega arith in
+    let g : 10 ≡ 0 + length h = omega arith in
+    ap (λ i. sets (sets (sets (sets l 0 h) 10 b) 20 c) i n) e
+    ∙ sym (sets-append c n (sets (sets l 0 h) 10 b) 20)
+    ∙ ap (λ i. sets (sets (sets l 0 h) 10 b) i (c ++ n)) f
+    ∙ sym (sets-append b (c ++ n) (sets l 0 h) 10)
+    ∙ ap (λ i. sets (sets l 0 h) i (b ++ (c ++ n))) g
+    ∙ sym (sets-append h (b ++ (c ++ n)) l 0)
+
+-- the length of a hardened table
+pub table-length : (t : Table) → length (tableBytes (hardenedTable t)) ≡ 20 + 6 * length (t .counts) + bytesOf (hardenedProgram t)
+unfolding tableBytes hardenedTable tableOfHardened
+table-length t =
+    let p = hardenedProgram t in
+    let h = headerBytes (t .variables + 1) (length (t .counts)) (length (writeC 0 p)) in
+    let b = labelsBytes (t .labels) in
+    let c = flatMap countBytes (t .counts) in
+    rw (length-append h (b ++ (c ++ flatMap nodeBytes (writeC 0 p))), length-append b (c ++ flatMap nodeBytes (writeC 0 p)), length-append c (flatMap nodeBytes (writeC 0 p)))
+    (omega (
+      arith,
+      length-header (t .variables + 1) (length (t .counts)) (length (writeC 0 p)),
+      length-labels (t .labels),
+      length-counts (t .counts),
+      counted-C 0 p .bytesAre,
+    ))
+
+module _ {table index vs arrs : List ℕ} {v a root nodes : ℕ} {labels : Labelling} {out : List ℕ} (bytes : Below 256 table)
+    (w : Writable table index vs arrs v a root nodes labels out) where
+  -- what comes out for the root is the hardened program
+  pub root-hardened : hardenedIn table vs arrs v root ≡ hardenedProgram (tableOf table)
+  unfolding hardenedIn annotatedIn hardenedProgram annotated
+  root-hardened =
+      let t = tableOf table in
+      let last : root ≡ nodesIn table - 1 = omega (arith, w .numbers .isRoot) in
+      let noted = annotate-noted vs arrs (rootOf t) false (t .labels) (w .noted .notes) in
+      let tree : rootOf t ≡ commandIn table root = indexed-root table index bytes (w .noted .indexed) ∙ ap (commandIn table) (sym last) in
+      ap (λ f. harden f (decide (mapNotes (noteIn vs arrs) (commandIn table root)))) (w .numbers .isVariables)
+      ∙ ap (λ c. harden (t .variables) (decide c)) (ap (mapNotes (noteIn vs arrs)) (sym tree) ∙ sym noted)
+
+  -- the bytes of the hardened table
+  pub whole-bytes : tableBytes (hardenedTable (tableOf table))
+      ≡ headerBytes (v + 1) a nodes ++ (labelsBytes labels ++ (flatMap countBytes (tableOf table .counts) ++ flatMap nodeBytes (writeC 0 (hardenedIn table vs arrs v root))))
+  unfolding tableBytes hardenedTable tableOfHardened
+  whole-bytes =
+      let t = tableOf table in
+      let p = hardenedProgram t in
+      let n : nodes ≡ length (writeC 0 p) = w .isNodes ∙ sym (counted-C 0 p .nodesAre) in
+      rw (root-hardened, w .numbers .isVariables, w .numbers .isArrays, w .numbers .isLabels, n)
+
+  -- and how many
+  pub whole-length : length (tableBytes (hardenedTable (tableOf table))) ≡ 20 + 6 * a + bytesOf (hardenedIn table vs arrs v root)
+  whole-length = omega (arith, table-length (tableOf table), w .numbers .isArrays, ap bytesOf root-hardened)
+
+  pub whole-fits : 20 + 6 * a + bytesOf (hardenedIn table vs arrs v root) ≤ length out
+  whole-fits = omega (arith, whole-length, w .fits)
+
+  -- arrays and masks are within the limits
+  pub few-arrays : a ≤ maxArrays
+  few-arrays = omega (arith, w .numbers .isArrays, indexed-well-formed table index bytes (w .noted .indexed) .declared .arraysFit)
+
+  pub few-variables : v ≤ maxVariables
+  few-variables = omega (arith, w .numbers .isVariables, indexed-well-formed table index bytes (w .noted .indexed) .declared .variablesFit)
+
+  pub mask-fits : labels .variables < 2 ^ 32
+  mask-fits =
+      let d = indexed-well-formed table index bytes (w .noted .indexed) .declared in
+      let limit : 2 ^ tableOf table .variables ≤ 2 ^ 32 = pow-mono (d .variablesFit) in
+      let mask : labels .variables ≡ tableOf table .labels .variables = ap (λ l. l .variables) (w .numbers .isLabels) in
+      omega (arith, d .variableMaskFits)
+
+  pub root-hardenable : Hardenable table index vs arrs root
+  root-hardenable =
+      let last : nodesIn table - 1 ≡ root = omega (arith, w .numbers .isRoot) in
+      record {
+        node = record {
+          indexed = w .noted .indexed;
+          inside = omega (arith, w .numbers .isRoot);
+          isSort = ap (λ n. sortOf (nodeIn table n)) (sym last) ∙ indexed-root-sort table index bytes (w .noted .indexed);
+        };
+        room = w .noted .room;
+      }
+
+  -- room for the nodes, behind the declarations
+  pub nodes-room : (m : List ℕ) → length m ≡ length out
+      → Room 0 (nodesOf (hardenedIn table vs arrs v root)) (bytesOf (hardenedIn table vs arrs v root)) (restOf (20 + 6 * a) m)
+  nodes-room m same =
+      record {
+        numbers = omega (arith, w .few, w .isNodes, ap nodesOf root-hardened);
+        fits = simp (length-take, length-drop) (omega (arith, whole-fits));
+      }
+
+  -- header, labels, arrays and nodes make the table
+  pub whole-written : {l m k rest : List ℕ} {s : Size} → l ≡ sets out 0 (headerBytes (v + 1) a nodes) → m ≡ sets l 10 (labelsBytes labels)
+      → k ≡ sets m 20 (flatMap countBytes (tableOf table .counts)) → Wrote (writeC 0 (hardenedIn table vs arrs v root)) (restOf (20 + 6 * a) k) rest s
+      → WroteTable table out (withRest (20 + 6 * a) k rest) (20 + 6 * a + s .bytes)
+  whole-written {l} {m} {k} {rest} {s} p q r n =
+      let h = headerBytes (v + 1) a nodes in
+      let b = labelsBytes labels in
+      let c = flatMap countBytes (tableOf table .counts) in
+      let ns = flatMap nodeBytes (writeC 0 (hardenedIn table vs arrs v root)) in
+      let counted = counted-C 0 (hardenedIn table vs arrs v root) .bytesAre in
+      let same : length k ≡ length out =
+      ap length r ∙ length-sets m 20 c ∙ ap length q ∙ length-sets l 10 b ∙ ap length p ∙ length-sets out 0 h in
+      let there : 20 + 6 * a + length ns ≤ length k = omega (arith, whole-fits) in
+      record {
+        stored =
+            ap (withRest (20 + 6 * a) k) (n .stored)
+            ∙ sets-rest k (20 + 6 * a) ns there
+            ∙ ap (λ x. sets x (20 + 6 * a) ns) (r ∙ ap (λ x. sets x 20 c) (q ∙ ap (λ x. sets x 10 b) p))
+            ∙ four-runs out h b c ns a (length-header (v + 1) a nodes) (length-labels labels) (omega (arith, length-counts (tableOf table .counts), w .numbers .isArrays))
+            ∙ ap (sets out 0) (sym whole-bytes);
+        counted = omega (arith, whole-length, n .bytesCounted);
+      }
+
+-- ---- measuring the hardened table
+module _ {table index vs arrs : List ℕ} {a root : ℕ} (bytes : Below 256 table) (m : Measurable table index vs arrs a root) where
+  measured-root : rootOf (tableOf table) ≡ commandIn table root
+  measured-root =
+      let last : nodesIn table - 1 ≡ root = omega (arith, m .isRoot) in
+      indexed-root table index bytes (m .noted .indexed) ∙ ap (commandIn table) last
+
+  -- the notes annotate the program
+  measured-notes : annotatedIn table vs arrs root ≡ annotated (tableOf table)
+  unfolding annotatedIn annotated
+  measured-notes =
+      ap (mapNotes (noteIn vs arrs)) (sym measured-root)
+      ∙ sym (annotate-noted vs arrs (rootOf (tableOf table)) false (tableOf table .labels) (m .noted .notes))
+
+  pub measured-hardenable : Hardenable table index vs arrs root
+  measured-hardenable =
+      let last : nodesIn table - 1 ≡ root = omega (arith, m .isRoot) in
+      record {
+        node =
+            record {
+              indexed = m .noted .indexed;
+              inside = omega (arith, m .isRoot);
+              isSort = ap (λ n. sortOf (nodeIn table n)) (sym last) ∙ indexed-root-sort table index bytes (m .noted .indexed);
+            };
+        room = m .noted .room;
+      }
+
+  -- at most 8 nodes come out per node put in
+  pub measured-few : nodesOf (hardenedIn table vs arrs 0 root) ≤ maxNodes
+  unfolding hardenedIn annotatedIn nodesIn
+  measured-few =
+      let c = mapNotes (noteIn vs arrs) (commandIn table root) in
+      omega (
+        arith,
+        hardened-size 0 (decide c) (decide-large c),
+        decide-nodes c,
+        nodesOf-mapped (noteIn vs arrs) (commandIn table root),
+        ap nodesOf measured-root,
+        root-size (tableOf table) (indexed-well-formed table index bytes (m .noted .indexed)),
+        m .few,
+      )
+
+  pub measured-sized : {s : Size} → Sized (nodesOf (hardenedIn table vs arrs 0 root)) (bytesOf (hardenedIn table vs arrs 0 root)) s
+      → Sized (nodesOf (hardenedProgram (tableOf table))) (length (tableBytes (hardenedTable (tableOf table)))) (sizeIs (s .nodes) (20 + 6 * a + s .bytes))
+  unfolding hardenedIn hardenedProgram
+  measured-sized s =
+      let same = any-flag 0 (tableOf table .variables) (decide (annotated (tableOf table))) in
+      let notes = ap (λ c. nodesOf (harden 0 (decide c))) measured-notes in
+      let lengths = ap (λ c. bytesOf (harden 0 (decide c))) measured-notes in
+      record {
+        nodesCounted = omega (arith, s .nodesCounted, same .nodesSame);
+        bytesCounted = omega (arith, s .bytesCounted, same .bytesSame, table-length (tableOf table), m .isArrays);
+      }
+
+  pub measured-arrays : a ≤ maxArrays
+  measured-arrays = omega (arith, m .isArrays, indexed-well-formed table index bytes (m .noted .indexed) .declared .arraysFit)

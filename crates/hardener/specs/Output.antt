@@ -1,0 +1,43 @@
+-- What writing a hardened table requires: the table that was read and its numbers, the notes that the analysis left, and room.
+use Prim.Native.Nat.{ℕ, _+_, _≤_}
+use mathlib.Core.List.{List}
+use mathlib.Core.Path.{_≡_}
+use lib.ListN.{length}
+use lib.Seq.{sets}
+use Rattle.awhile.specs.Encoding.{nodesOf, tableBytes}
+use Rattle.reader.specs.Index.{tableOf, nodesIn}
+use Rattle.awhile.specs.Tables.{maxNodes}
+use Rattle.awhile.specs.declared.Labelling.{Labelling}
+use Rattle.analysis.specs.Conditions.{Sheetable}
+use Rattle.masks.specs.Hardening.{hardenedProgram, hardenedTable}
+
+-- the numbers of a table that was read
+pub record Numbers (table : List ℕ) (variables arrays root : ℕ) (labels : Labelling) : Type 0 where
+  pub isVariables : variables ≡ tableOf table .variables
+  pub isArrays : arrays ≡ length (tableOf table .counts)
+  pub isRoot : root + 1 ≡ nodesIn table
+  pub isLabels : labels ≡ tableOf table .labels
+
+pub record Writable (table index vs arrs : List ℕ) (variables arrays root nodes : ℕ) (labels : Labelling) (out : List ℕ) : Type 0 where
+  pub noted : Sheetable table index vs arrs
+  pub numbers : Numbers table variables arrays root labels
+  -- as many nodes as come out
+  pub isNodes : nodes ≡ nodesOf (hardenedProgram (tableOf table))
+  pub few : nodes ≤ maxNodes
+  pub fits : length (tableBytes (hardenedTable (tableOf table))) ≤ length out
+
+-- the table is written at the front, and its length answered
+pub record WroteTable (table before after : List ℕ) (answer : ℕ) : Type 0 where
+  pub stored : after ≡ sets before 0 (tableBytes (hardenedTable (tableOf table)))
+  pub counted : answer ≡ length (tableBytes (hardenedTable (tableOf table)))
+
+-- "hardening with N above 512" is refused, so that what comes out fits a table
+abbrev pub maxHardenedNodes : ℕ
+maxHardenedNodes = 512
+
+-- what measuring requires
+pub record Measurable (table index vs arrs : List ℕ) (arrays root : ℕ) : Type 0 where
+  pub noted : Sheetable table index vs arrs
+  pub isArrays : arrays ≡ length (tableOf table .counts)
+  pub isRoot : root + 1 ≡ nodesIn table
+  pub few : nodesIn table ≤ maxHardenedNodes

@@ -1,0 +1,400 @@
+// Hardened commands, each written at the front of what is left of the output. A command is hardened from its parts, whose numbers are lower.
+use crate::Pair;
+use crate::Size;
+use crate::accesses::append_sequence;
+use crate::accesses::harden_read;
+use crate::accesses::harden_write;
+use crate::copies::both;
+use crate::copies::copy_numeric;
+use crate::copies::last;
+use crate::deciding::mask_condition;
+use crate::deciding::mask_index;
+use crate::deciding::mask_value;
+use crate::masked::copy_condition;
+use crate::masked::put_flag_update;
+use crate::records::append;
+use awhile::Node;
+use reader::lookup::node_at;
+ghost use Prim.Native.Nat.{_+_};
+ghost use mathlib.Core.Bool.{true, false};
+ghost use mathlib.Core.Option.{none};
+ghost use Rattle.awhile.specs.Encoding.{nodesOf, writeC};
+ghost use Rattle.awhile.specs.declared.Sort.the-variants.{Truth};
+ghost use Rattle.analysis.specs.Conditions.{OfSort};
+ghost use Rattle.hardener.specs.InMemory.{hardenedIn, sideIn, ifIn, loopIn, whileIn, Hardenable};
+ghost use Rattle.hardener.specs.Sizes.{bytesOf};
+ghost use Rattle.hardener.specs.Written.{Room, Wrote, WroteTwo};
+
+// Hardens a command.
+pub fn harden_command(
+    table: &[u8],
+    index: &[u16],
+    variables: &[u64],
+    arrays: &[u32],
+    flag: usize,
+    n: usize,
+    from: usize,
+    out: &mut [u8],
+) -> Size
+    requires { ⌜ Hardenable (now table) (now index) (now variables) (now arrays) n ⌝ }
+    requires { ⌜
+        Room from
+        (nodesOf (hardenedIn (now table) (now variables) (now arrays) flag n))
+        (bytesOf (hardenedIn (now table) (now variables) (now arrays) flag n))
+        (now out) ⌝ }
+    ensures { λ r. ⌜
+        Wrote (writeC from (hardenedIn (now (table .entry)) (now (variables .entry)) (now (arrays .entry)) flag n)) (now (out .entry)) (now (out .exit)) r ⌝ }
+{
+    let node = node_at(table, index, n);
+    match node {
+        Node::Skip => append(out, 0, 0, node),
+        Node::Assign { variable, value } => {
+            let part = copy_numeric(table, index, value, from, &mut *out);
+            append(
+                out,
+                part.nodes,
+                part.bytes,
+                Node::Assign {
+                    variable,
+                    value: last(from, part.nodes),
+                },
+            )
+        }
+        Node::Sequence { first, second } => {
+            let one = harden_command(
+                table,
+                index,
+                variables,
+                arrays,
+                flag,
+                first,
+                from,
+                &mut *out,
+            );
+            let at = one.bytes;
+            let two = harden_command(
+                table,
+                index,
+                variables,
+                arrays,
+                flag,
+                second,
+                from + one.nodes,
+                &mut out[at..],
+            );
+            append_sequence(out, from, one, two)
+        }
+        Node::If { condition, yes, no } => {
+            let mask = mask_condition(table, index, variables, arrays, condition, n);
+            harden_if(
+                table,
+                index,
+                variables,
+                arrays,
+                flag,
+                condition,
+                mask,
+                yes,
+                no,
+                from,
+                out,
+            )
+        }
+        Node::While { condition, body } => {
+            // a loop's condition is labelled by what settled, which enters its body
+            let mask = mask_condition(table, index, variables, arrays, condition, body);
+            harden_while(
+                table,
+                index,
+                variables,
+                arrays,
+                flag,
+                condition,
+                mask,
+                body,
+                from,
+                out,
+            )
+        }
+        Node::Read {
+            variable,
+            array,
+            index: place,
+        } => {
+            let mask = mask_index(table, index, variables, arrays, place, n);
+            let hide = mask_value(table, index, variables, arrays, array, place, n);
+            harden_read(
+                table,
+                index,
+                flag,
+                variable,
+                array,
+                place,
+                mask,
+                hide,
+                from,
+                out,
+            )
+        }
+        Node::Write {
+            array,
+            index: place,
+            value,
+        } => {
+            let mask = mask_index(table, index, variables, arrays, place, n);
+            harden_write(table, index, flag, array, place, value, mask, from, out)
+        }
+        // nodes of other sorts never stand here
+        _ => Size { nodes: 0, bytes: 0 },
+    }
+}
+
+// A side of an if, or a loop's body: it begins with the flag's update.
+fn harden_side(
+    table: &[u8],
+    index: &[u16],
+    variables: &[u64],
+    arrays: &[u32],
+    flag: usize,
+    condition: usize,
+    mask: bool,
+    taken: bool,
+    side: usize,
+    from: usize,
+    out: &mut [u8],
+) -> Size
+    requires { ⌜ OfSort (now table) (now index) Truth condition × Hardenable (now table) (now index) (now variables) (now arrays) side ⌝ }
+    requires { ⌜
+        Room from
+        (nodesOf (sideIn (now table) (now variables) (now arrays) flag condition mask taken side))
+        (bytesOf (sideIn (now table) (now variables) (now arrays) flag condition mask taken side))
+        (now out) ⌝ }
+    ensures { λ r. ⌜
+        Wrote (writeC from (sideIn (now (table .entry)) (now (variables .entry)) (now (arrays .entry)) flag condition mask taken side))
+        (now (out .entry)) (now (out .exit)) r ⌝ }
+{
+    let update = put_flag_update(table, index, condition, mask, flag, taken, from, &mut *out);
+    let at = update.bytes;
+    let rest = harden_command(
+        table,
+        index,
+        variables,
+        arrays,
+        flag,
+        side,
+        from + update.nodes,
+        &mut out[at..],
+    );
+    append_sequence(out, from, update, rest)
+}
+
+// Both sides of an if, one behind the other.
+fn harden_sides(
+    table: &[u8],
+    index: &[u16],
+    variables: &[u64],
+    arrays: &[u32],
+    flag: usize,
+    condition: usize,
+    mask: bool,
+    first: usize,
+    second: usize,
+    from: usize,
+    out: &mut [u8],
+) -> Pair
+    requires { ⌜ OfSort (now table) (now index) Truth condition
+        × Hardenable (now table) (now index) (now variables) (now arrays) first × Hardenable (now table) (now index) (now variables) (now arrays) second ⌝ }
+    requires { ⌜
+        Room from
+        (nodesOf (sideIn (now table) (now variables) (now arrays) flag condition mask true first)
+        + nodesOf (sideIn (now table) (now variables) (now arrays) flag condition mask false second))
+        (bytesOf (sideIn (now table) (now variables) (now arrays) flag condition mask true first)
+        + bytesOf (sideIn (now table) (now variables) (now arrays) flag condition mask false second))
+        (now out) ⌝ }
+    ensures { λ r. ⌜
+        WroteTwo from
+        (writeC from (sideIn (now (table .entry)) (now (variables .entry)) (now (arrays .entry)) flag condition mask true first))
+        (writeC (from + nodesOf (sideIn (now (table .entry)) (now (variables .entry)) (now (arrays .entry)) flag condition mask true first))
+        (sideIn (now (table .entry)) (now (variables .entry)) (now (arrays .entry)) flag condition mask false second))
+        (now (out .entry)) (now (out .exit)) r ⌝ }
+{
+    let one = harden_side(
+        table,
+        index,
+        variables,
+        arrays,
+        flag,
+        condition,
+        mask,
+        true,
+        first,
+        from,
+        &mut *out,
+    );
+    let at = one.bytes;
+    let two = harden_side(
+        table,
+        index,
+        variables,
+        arrays,
+        flag,
+        condition,
+        mask,
+        false,
+        second,
+        from + one.nodes,
+        &mut out[at..],
+    );
+    both(from, one, two)
+}
+
+// An if: the condition, both sides from the byte where it ended, and the node.
+fn harden_if(
+    table: &[u8],
+    index: &[u16],
+    variables: &[u64],
+    arrays: &[u32],
+    flag: usize,
+    condition: usize,
+    mask: bool,
+    first: usize,
+    second: usize,
+    from: usize,
+    out: &mut [u8],
+) -> Size
+    requires { ⌜ OfSort (now table) (now index) Truth condition
+        × Hardenable (now table) (now index) (now variables) (now arrays) first × Hardenable (now table) (now index) (now variables) (now arrays) second ⌝ }
+    requires { ⌜
+        Room from
+        (nodesOf (ifIn (now table) (now variables) (now arrays) flag condition mask none first second))
+        (bytesOf (ifIn (now table) (now variables) (now arrays) flag condition mask none first second))
+        (now out) ⌝ }
+    ensures { λ r. ⌜
+        Wrote (writeC from (ifIn (now (table .entry)) (now (variables .entry)) (now (arrays .entry)) flag condition mask none first second))
+        (now (out .entry)) (now (out .exit)) r ⌝ }
+{
+    let test = copy_condition(table, index, condition, mask, flag, from, &mut *out);
+    let at = test.bytes;
+    let sides = harden_sides(
+        table,
+        index,
+        variables,
+        arrays,
+        flag,
+        condition,
+        mask,
+        first,
+        second,
+        from + test.nodes,
+        &mut out[at..],
+    );
+    append(
+        out,
+        test.nodes + sides.nodes,
+        at + sides.bytes,
+        Node::If {
+            condition: last(from, test.nodes),
+            yes: sides.left,
+            no: sides.right,
+        },
+    )
+}
+
+// A loop without what stands after it.
+fn harden_loop(
+    table: &[u8],
+    index: &[u16],
+    variables: &[u64],
+    arrays: &[u32],
+    flag: usize,
+    condition: usize,
+    mask: bool,
+    body: usize,
+    from: usize,
+    out: &mut [u8],
+) -> Size
+    requires { ⌜ OfSort (now table) (now index) Truth condition × Hardenable (now table) (now index) (now variables) (now arrays) body ⌝ }
+    requires { ⌜
+        Room from
+        (nodesOf (loopIn (now table) (now variables) (now arrays) flag condition mask none body))
+        (bytesOf (loopIn (now table) (now variables) (now arrays) flag condition mask none body))
+        (now out) ⌝ }
+    ensures { λ r. ⌜
+        Wrote (writeC from (loopIn (now (table .entry)) (now (variables .entry)) (now (arrays .entry)) flag condition mask none body))
+        (now (out .entry)) (now (out .exit)) r ⌝ }
+{
+    let test = copy_condition(table, index, condition, mask, flag, from, &mut *out);
+    let at = test.bytes;
+    let side = harden_side(
+        table,
+        index,
+        variables,
+        arrays,
+        flag,
+        condition,
+        mask,
+        true,
+        body,
+        from + test.nodes,
+        &mut out[at..],
+    );
+    let parts = both(from, test, side);
+    append(
+        out,
+        parts.nodes,
+        parts.bytes,
+        Node::While {
+            condition: parts.left,
+            body: parts.right,
+        },
+    )
+}
+
+// A loop, and after it the flag's update.
+fn harden_while(
+    table: &[u8],
+    index: &[u16],
+    variables: &[u64],
+    arrays: &[u32],
+    flag: usize,
+    condition: usize,
+    mask: bool,
+    body: usize,
+    from: usize,
+    out: &mut [u8],
+) -> Size
+    requires { ⌜ OfSort (now table) (now index) Truth condition × Hardenable (now table) (now index) (now variables) (now arrays) body ⌝ }
+    requires { ⌜
+        Room from
+        (nodesOf (whileIn (now table) (now variables) (now arrays) flag condition mask none body))
+        (bytesOf (whileIn (now table) (now variables) (now arrays) flag condition mask none body))
+        (now out) ⌝ }
+    ensures { λ r. ⌜
+        Wrote (writeC from (whileIn (now (table .entry)) (now (variables .entry)) (now (arrays .entry)) flag condition mask none body))
+        (now (out .entry)) (now (out .exit)) r ⌝ }
+{
+    let whole = harden_loop(
+        table,
+        index,
+        variables,
+        arrays,
+        flag,
+        condition,
+        mask,
+        body,
+        from,
+        &mut *out,
+    );
+    let at = whole.bytes;
+    let update = put_flag_update(
+        table,
+        index,
+        condition,
+        mask,
+        flag,
+        false,
+        from + whole.nodes,
+        &mut out[at..],
+    );
+    append_sequence(out, from, whole, update)
+}

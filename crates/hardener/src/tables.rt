@@ -1,0 +1,119 @@
+// The hardened table: its own header, the labels and arrays as they were, then the hardened nodes.
+use crate::Record;
+use crate::Size;
+use crate::commands::harden_command;
+use crate::records::put_record;
+use crate::totals::harden_size;
+use awhile::Labelling;
+use bytes_le::get;
+use bytes_le::put;
+ghost use Prim.Native.Nat.{_+_, _*_, _^_, _≤_, _<_};
+ghost use mathlib.Core.List.{flatMap};
+ghost use mathlib.Core.Path.{_≡_};
+ghost use lib.ListN.{length};
+ghost use lib.Seq.{sets};
+ghost use Rattle.awhile.specs.Encoding.{headerBytes, labelsBytes, countBytes, nodesOf, tableBytes};
+ghost use Rattle.reader.specs.Index.{tableOf};
+ghost use Rattle.awhile.specs.Tables.{accepted, readTable, maxArrays};
+ghost use Rattle.hardener.specs.Output.{Measurable, Writable, WroteTable};
+ghost use Rattle.masks.specs.Hardening.{hardenedProgram, hardenedTable};
+ghost use Rattle.hardener.specs.Sizes.{Sized};
+
+// The header record.
+fn put_header(variables: usize, arrays: usize, nodes: usize, out: &mut [u8])
+    requires { ⌜ 10 ≤ length (now out) ⌝ }
+    ensures { λ _. ⌜ now (out .exit) ≡ sets (now (out .entry)) 0 (headerBytes variables arrays nodes) ⌝ }
+{
+    put::put16(&mut *out, 0, 10);
+    put::put16(&mut *out, 2, 1);
+    put::put16(&mut *out, 4, 1);
+    put::put8(&mut *out, 6, variables);
+    put::put8(&mut *out, 7, arrays);
+    put::put16(&mut *out, 8, nodes);
+}
+
+// The labels record, behind the header.
+fn put_labels(labels: Labelling, out: &mut [u8])
+    requires { ⌜ (20 ≤ length (now out)) × (labels .variables < 2 ^ 32) ⌝ }
+    ensures { λ _. ⌜ now (out .exit) ≡ sets (now (out .entry)) 10 (labelsBytes labels) ⌝ }
+{
+    put::put16(&mut *out, 10, 10);
+    put::put16(&mut *out, 12, 3);
+    put::put32(&mut *out, 14, labels.variables as u32);
+    put::put16(&mut *out, 18, labels.arrays as usize);
+}
+
+// The array records, behind the labels.
+fn put_counts(table: &[u8], arrays: usize, out: &mut [u8])
+    requires { ⌜ readTable (now table) ≡ accepted (tableOf (now table)) ⌝ }
+    requires { ⌜ (arrays ≡ length (tableOf (now table) .counts)) × (arrays ≤ maxArrays) × (20 + 6 * arrays ≤ length (now out)) ⌝ }
+    ensures { λ _. ⌜ now (out .exit) ≡ sets (now (out .entry)) 20 (flatMap countBytes (tableOf (now (table .entry)) .counts)) ⌝ }
+{
+    let mut a = 0;
+    while a < arrays {
+        let at = 20 + 6 * a;
+        let count = get::u16_at(table, at + 4);
+        put_record(
+            &mut out[at..],
+            Record::One {
+                kind: 2,
+                first: count,
+            },
+        );
+        a += 1;
+    }
+}
+
+// How many nodes and bytes the hardened table has.
+pub fn measure_hardened(
+    table: &[u8],
+    index: &[u16],
+    variables: &[u64],
+    arrays: &[u32],
+    count: usize,
+    root: usize,
+) -> Size
+    requires { ⌜ Measurable (now table) (now index) (now variables) (now arrays) count root ⌝ }
+    ensures { λ r. ⌜
+        Sized (nodesOf (hardenedProgram (tableOf (now (table .entry))))) (length (tableBytes (hardenedTable (tableOf (now (table .entry)))))) r ⌝ }
+{
+    let size = harden_size(table, index, variables, arrays, root);
+    Size {
+        nodes: size.nodes,
+        bytes: 20 + 6 * count + size.bytes,
+    }
+}
+
+// The hardened table at the front of a slice, from its root and from how many nodes come out. The answer is its byte length.
+pub fn write_hardened(
+    table: &[u8],
+    index: &[u16],
+    variables: &[u64],
+    arrays: &[u32],
+    declared: usize,
+    count: usize,
+    labels: Labelling,
+    root: usize,
+    nodes: usize,
+    out: &mut [u8],
+) -> usize
+    requires { ⌜ Writable (now table) (now index) (now variables) (now arrays) declared count root nodes labels (now out) ⌝ }
+    ensures { λ r. ⌜ WroteTable (now (table .entry)) (now (out .entry)) (now (out .exit)) r ⌝ }
+{
+    // the flag is one variable more
+    put_header(declared + 1, count, nodes, &mut *out);
+    put_labels(labels, &mut *out);
+    put_counts(table, count, &mut *out);
+    let at = 20 + 6 * count;
+    let size = harden_command(
+        table,
+        index,
+        variables,
+        arrays,
+        declared,
+        root,
+        0,
+        &mut out[at..],
+    );
+    at + size.bytes
+}

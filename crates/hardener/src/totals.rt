@@ -1,0 +1,149 @@
+// How much a hardened command takes: so many nodes, in so many bytes.
+use crate::Size;
+use crate::deciding::mask_condition;
+use crate::deciding::mask_index;
+use crate::deciding::mask_value;
+use crate::sizes::numeric_size;
+use crate::sizes::over_one;
+use crate::sizes::over_two;
+use crate::sizes::truth_size;
+use awhile::Node;
+use reader::lookup::node_at;
+ghost use Prim.Native.Nat.{_+_, _*_, _≤_};
+ghost use mathlib.Core.Bool.{cond};
+ghost use Rattle.awhile.specs.Encoding.{nodesOf};
+ghost use Rattle.awhile.specs.Tables.{maxNodes};
+ghost use Rattle.hardener.specs.InMemory.{hardenedIn, Hardenable};
+ghost use Rattle.hardener.specs.Sizes.{bytesOf, Sized, Few};
+
+// A condition, with (flag = 0) and .. where it is masked.
+fn test_size(part: Size, mask: bool) -> Size
+    requires { ⌜ Few (part .nodes + cond mask 4 0) (part .bytes + cond mask 30 0) ⌝ }
+    ensures { λ r. ⌜ Sized (part .nodes + cond mask 4 0) (part .bytes + cond mask 30 0) r ⌝ }
+{
+    if mask {
+        Size {
+            nodes: part.nodes + 4,
+            bytes: part.bytes + 30,
+        }
+    } else {
+        part
+    }
+}
+
+// An index, with (flag = 1) ? 0 : .. where it is masked.
+fn place_size(part: Size, mask: bool) -> Size
+    requires { ⌜ Few (part .nodes + cond mask 5 0) (part .bytes + cond mask 40 0) ⌝ }
+    ensures { λ r. ⌜ Sized (part .nodes + cond mask 5 0) (part .bytes + cond mask 40 0) r ⌝ }
+{
+    if mask {
+        Size {
+            nodes: part.nodes + 5,
+            bytes: part.bytes + 40,
+        }
+    } else {
+        part
+    }
+}
+
+// A read over its index, with the mask of its value where it is hidden.
+fn read_size(place: Size, hide: bool) -> Size
+    requires { ⌜ Few (place .nodes + cond hide 9 1) (place .bytes + cond hide 72 10) ⌝ }
+    ensures { λ r. ⌜ Sized (place .nodes + cond hide 9 1) (place .bytes + cond hide 72 10) r ⌝ }
+{
+    if hide {
+        Size {
+            nodes: place.nodes + 9,
+            bytes: place.bytes + 72,
+        }
+    } else {
+        Size {
+            nodes: place.nodes + 1,
+            bytes: place.bytes + 10,
+        }
+    }
+}
+
+// An if: its condition stands in it and in two updates, each of 4 nodes more and joined on by a sequence.
+fn if_size(test: Size, first: Size, second: Size) -> Size
+    requires { ⌜ Few (3 * test .nodes + first .nodes + second .nodes + 11) (3 * test .bytes + first .bytes + second .bytes + 90) ⌝ }
+    ensures { λ r. ⌜ Sized (3 * test .nodes + first .nodes + second .nodes + 11) (3 * test .bytes + first .bytes + second .bytes + 90) r ⌝ }
+{
+    Size {
+        nodes: 3 * test.nodes + first.nodes + second.nodes + 11,
+        bytes: 3 * test.bytes + first.bytes + second.bytes + 90,
+    }
+}
+
+// A loop likewise.
+fn while_size(test: Size, body: Size) -> Size
+    requires { ⌜ Few (3 * test .nodes + body .nodes + 11) (3 * test .bytes + body .bytes + 88) ⌝ }
+    ensures { λ r. ⌜ Sized (3 * test .nodes + body .nodes + 11) (3 * test .bytes + body .bytes + 88) r ⌝ }
+{
+    Size {
+        nodes: 3 * test.nodes + body.nodes + 11,
+        bytes: 3 * test.bytes + body.bytes + 88,
+    }
+}
+
+// The size of what a command hardens to. It is the same whatever the flag's number.
+pub fn harden_size(table: &[u8], index: &[u16], variables: &[u64], arrays: &[u32], n: usize) -> Size
+    requires { ⌜ Hardenable (now table) (now index) (now variables) (now arrays) n ⌝ }
+    requires { ⌜ nodesOf (hardenedIn (now table) (now variables) (now arrays) 0 n) ≤ maxNodes ⌝ }
+    ensures { λ r. ⌜
+        Sized (nodesOf (hardenedIn (now (table .entry)) (now (variables .entry)) (now (arrays .entry)) 0 n))
+        (bytesOf (hardenedIn (now (table .entry)) (now (variables .entry)) (now (arrays .entry)) 0 n)) r ⌝ }
+{
+    let node = node_at(table, index, n);
+    match node {
+        Node::Skip => Size { nodes: 1, bytes: 4 },
+        Node::Assign { value, .. } => {
+            let part = numeric_size(table, index, value);
+            over_one(part, 8)
+        }
+        Node::Sequence { first, second } => {
+            let one = harden_size(table, index, variables, arrays, first);
+            let two = harden_size(table, index, variables, arrays, second);
+            over_two(one, two, 8)
+        }
+        Node::If { condition, yes, no } => {
+            let mask = mask_condition(table, index, variables, arrays, condition, n);
+            let part = truth_size(table, index, condition);
+            let test = test_size(part, mask);
+            let one = harden_size(table, index, variables, arrays, yes);
+            let two = harden_size(table, index, variables, arrays, no);
+            if_size(test, one, two)
+        }
+        Node::While { condition, body } => {
+            let mask = mask_condition(table, index, variables, arrays, condition, body);
+            let part = truth_size(table, index, condition);
+            let test = test_size(part, mask);
+            let one = harden_size(table, index, variables, arrays, body);
+            while_size(test, one)
+        }
+        Node::Read {
+            array,
+            index: place,
+            ..
+        } => {
+            let mask = mask_index(table, index, variables, arrays, place, n);
+            let hide = mask_value(table, index, variables, arrays, array, place, n);
+            let part = numeric_size(table, index, place);
+            let masked = place_size(part, mask);
+            read_size(masked, hide)
+        }
+        Node::Write {
+            index: place,
+            value,
+            ..
+        } => {
+            let mask = mask_index(table, index, variables, arrays, place, n);
+            let part = numeric_size(table, index, place);
+            let masked = place_size(part, mask);
+            let written = numeric_size(table, index, value);
+            over_two(masked, written, 10)
+        }
+        // nodes of other sorts never stand here
+        _ => Size { nodes: 0, bytes: 0 },
+    }
+}

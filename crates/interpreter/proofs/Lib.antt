@@ -1,0 +1,16 @@
+-- Laws for evaluation and runs over a table in memory.
+pub mod Words
+pub mod DirectiveLists
+pub mod NodeKinds
+pub mod Counts
+pub mod CellPlaces
+pub mod Guides
+pub mod ShownSteps
+pub mod NextSteps
+pub mod Effects
+pub mod Stacks
+pub mod Underway
+pub mod Leavings
+pub mod WholeRuns
+pub mod Evaluation
+pub mod Actions

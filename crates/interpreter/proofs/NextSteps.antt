@@ -1,0 +1,226 @@
+-- The next step of the machine as the code has it: why it is not taken, or the machine after it.
+use Prim.Native.Nat.{ℕ, zero, suc, _+_, _*_, _-_, _^_, _≤_, _<_}
+use native.Mathlib.Nat.{add-zero}
+use native.Mathlib.Omega.{arith}
+use mathlib.Core.Bool.{Bool, true, false, cond}
+use mathlib.Core.Path.{_≡_, refl, sym, ap, _∙_}
+use mathlib.Core.Option.{Option, none, some}
+use mathlib.Core.List.{List, [], _∷_, _++_, flatMap, append-nil}
+use lib.ListN.{length, length-append}
+use lib.Dec.{leb}
+use borrow.Author.Tests.{le-leb, lt-leb, leb-true}
+use Rattle.bytes_le.specs.Numbers.{le, leAt}
+use Rattle.bytes_le.proofs.Numbers.{length-le}
+use Rattle.awhile.specs.Language.{Com}
+use Rattle.reader.specs.Index.{tableOf, commandIn}
+use Rattle.machine.specs.Observations.{Observation, observationBytes, shownBytes}
+use Rattle.machine.specs.Look.{look}
+use Rattle.machine.specs.Steps.{State, quietly}
+use Rattle.machine.specs.Runs.{Room, bytes, holds, Machine, over, goes, moved, shownIf, shownStep, stepOf, nextOf, next, endWithout, run}
+use Rattle.machine.specs.Runs.{Next as NextStep}
+use Rattle.interpreter.specs.Evaluation.{variablesIn}
+use Rattle.interpreter.specs.Actions.{changed, heightOf, observationOf, quietLook, lookOf, QuietFits, Looked}
+use Rattle.interpreter.specs.Fitting.{fitOf}
+use Rattle.interpreter.specs.Guiding.{Readable, guideOf, GoesBy, RunsOut}
+use Rattle.interpreter.specs.Stepping.{movedState, pendingOf, cellsIn, machineOf, bytesOf, seenList, quietNext, shownNext, ChangeFits, steppedTo, Ends, Advances, NextAs}
+use Rattle.machine.specs.declared.Directive.{Directive}
+use Rattle.machine.specs.declared.End.{End}
+use Rattle.machine.specs.declared.End.the-variants.{Finished, Spent, OutOfDirectives, Stuck, Full}
+use Rattle.interpreter.specs.declared.action.Change.{Change}
+use Rattle.interpreter.specs.declared.action.Change.the-variants.{PutBack, Assign, Store}
+use Rattle.interpreter.specs.declared.action.Shown.{Shown}
+use Rattle.interpreter.specs.declared.action.Shown.the-variants.{Fork, Get, Put}
+use Rattle.interpreter.specs.declared.action.Action.the-variants.{Quiet, Show}
+use Rattle.interpreter.specs.declared.fit.Fit.{Fit}
+use Rattle.interpreter.specs.declared.fit.Fit.the-variants.{Goes, Unfit}
+use Rattle.interpreter.specs.declared.state.MachineState.{MachineState}
+use Rattle.interpreter.specs.declared.step.Seen.the-variants.{Nothing, Observed}
+use Rattle.interpreter.specs.declared.step.Next.the-variants.{Over}
+use Rattle.interpreter.specs.declared.step.Next.the-variants.{Goes as GoesOn}
+use Rattle.machine.proofs.Runs.{run-over, run-nothing}
+use Rattle.interpreter.proofs.ShownSteps.{fitState, afterShown, step-shown, fit-after, FitFits, fit-fits}
+
+-- the length of an observation's record
+observation-length : (s : Shown) → length (observationBytes (observationOf s)) ≡ bytesOf s
+unfolding observationBytes observationOf bytesOf le
+observation-length (Fork v y n) = refl
+observation-length (Get x a i) = refl
+observation-length (Put a i v) = refl
+
+pub seen-length : (s : Shown) → length (shownBytes (seenList (Observed s))) ≡ bytesOf s
+unfolding shownBytes seenList flatMap
+seen-length s = simp length-append (omega (arith, observation-length s))
+
+-- ---- a shown step, as its parts are found
+module _ (st : MachineState) (s : Shown) (fit : Fit) (size used room : ℕ) where
+  pub shown-stuck : fit ≡ Unfit → Over Stuck ≡ shownNext st s fit size used room
+  unfolding shownNext
+  shown-stuck unfit = rw (unfit, shownNext)
+
+  module _ (c : Change) (f : Bool) (fits : fit ≡ Goes c f) (length : ℕ) (isLength : length ≡ bytesOf s) (shownFit : st .shown ≤ room) where
+    pub shown-full : room - st .shown < length → Over Full ≡ shownNext st s fit size used room
+    unfolding shownNext
+    shown-full long = rw (fits, shownNext, lt-leb (st .shown + bytesOf s) room (omega arith))
+
+    pub shown-on : length ≤ room - st .shown → (height : ℕ) → height ≡ heightOf c (st .pending - 1) → (after : MachineState) → after ≡ movedState st f used size height length
+        → GoesOn c (Observed s) after ≡ shownNext st s fit size used room
+    unfolding shownNext
+    shown-on short height isHeight after isAfter = rw (fits, shownNext, le-leb (st .shown + bytesOf s) room (omega arith), isAfter, isHeight, isLength)
+
+module _ (table list : List ℕ) (isGuessing : Bool) (budget room : ℕ) (st : MachineState) (vs cs ps : List ℕ) where
+  abbrev machine : List Observation → Machine ℕ
+  machine os = machineOf table list isGuessing st vs cs ps os
+
+  -- nothing is pending
+  pub ends-finished : st .pending ≡ 0 → Ends table list isGuessing budget room st vs cs ps Finished
+  unfolding machineOf pendingOf
+  ends-finished empty =
+      record { isRun = λ os shown. run-nothing (tableOf table .counts) (bytes room) (budget - st .steps) (machine os) (rw (empty, pendingOf)) }
+
+  module _ (some : 0 < st .pending) where
+    -- the command that is next, and those below it
+    abbrev below : List (Com ℕ)
+    below = pendingOf table ps (st .pending - 1)
+
+    abbrev command : Com ℕ
+    command = commandIn table (leAt 4 ps (4 * (st .pending - 1)))
+
+    pending-next : pendingOf table ps (st .pending) ≡ command ∷ below
+    unfolding pendingOf
+    pending-next = top (st .pending) some
+      where
+        top : (n : ℕ) → 0 < n → pendingOf table ps n ≡ commandIn table (leAt 4 ps (4 * (n - 1))) ∷ pendingOf table ps (n - 1)
+        top zero h = absurd (omega arith)
+        top (suc n) h = let e : suc n - 1 ≡ n = omega arith in rw e
+
+    -- the budget is used
+    pub ends-spent : budget ≤ st .steps → Ends table list isGuessing budget room st vs cs ps Spent
+    unfolding machineOf run endWithout
+    ends-spent used =
+        let empty : budget - st .steps ≡ 0 = omega arith in
+        record { isRun = λ os shown. rw empty (λ i. record { end = endWithout (pending-next i); machine = machine os }) }
+
+    module _ (left : st .steps < budget) where
+      -- the next step is not taken
+      ends-over : (e : End) → ((os : List Observation) → length (shownBytes os) ≡ st .shown → next (tableOf table .counts) (bytes room) (machine os) ≡ over e)
+          → Ends table list isGuessing budget room st vs cs ps e
+      ends-over e never =
+          let one : budget - st .steps ≡ suc (budget - st .steps - 1) = omega arith in
+          record { isRun = λ os shown. rw one (run-over (tableOf table .counts) (bytes room) (budget - st .steps - 1) (machine os) (never os shown)) }
+
+      -- the next step is that of the command that is next
+      next-looks : (os : List Observation)
+          → next (tableOf table .counts) (bytes room) (machine os) ≡ stepOf (tableOf table .counts) (bytes room) (machine os) (look command below (variablesIn table vs))
+      unfolding next nextOf machineOf
+      next-looks os = rw (pending-next, nextOf)
+
+      -- a silent step
+      quiet-stepped : (c : Change) (os : List Observation) → QuietFits table c
+          → stepOf (tableOf table .counts) (bytes room) (machine os) (quietLook table c below (variablesIn table vs))
+          ≡ goes (steppedTo table list isGuessing below (machine os) c Nothing (movedState st (st .flag) 0 0 (heightOf c (st .pending - 1)) 0))
+      unfolding stepOf quietLook quietly moved steppedTo movedState machineOf changed seenList
+      quiet-stepped (PutBack b) os fits = rw (add-zero (st .at))
+      quiet-stepped (Assign x v) os fits = rw (add-zero (st .at))
+      quiet-stepped (Store p v) os fits = absurd fits
+
+      quiet-change : (c : Change) → QuietFits table c → ChangeFits table c
+      quiet-change (PutBack b) fits = fits
+      quiet-change (Assign x v) fits = fits
+      quiet-change (Store p v) fits = absurd fits
+
+      module _ (usedFit : st .used ≤ st .steps) (shownFit : st .shown ≤ room) where
+        -- a command that is silent
+        pub advances-quietly : Readable list (st .at) → (c : Change) → Looked table vs (leAt 4 ps (4 * (st .pending - 1))) (Quiet c)
+            → NextAs table list isGuessing budget room st vs cs ps (quietNext st c)
+        unfolding quietNext lookOf movedState seenList shownBytes flatMap
+        advances-quietly readable c looked =
+            record {
+              isNext = λ os shown. next-looks os ∙ ap (stepOf (tableOf table .counts) (bytes room) (machine os)) (looked .isLook below) ∙ quiet-stepped c os (looked .fits);
+              fits = quiet-change c (looked .fits);
+              some = some;
+              isHeight = refl;
+              isSteps = refl;
+              stepsFit = left;
+              usedFit = omega arith;
+              readable = rw add-zero readable;
+              isShown = refl;
+              shownFit = omega arith;
+            }
+
+        module _ (s : Shown) (looked : Looked table vs (leAt 4 ps (4 * (st .pending - 1))) (Show s)) where
+          next-shows : (os : List Observation)
+              → next (tableOf table .counts) (bytes room) (machine os)
+              ≡ shownStep (bytes room) (machine os) (observationOf s) (afterShown (tableOf table .counts) table below (machine os .state) s) (guideOf isGuessing list (st .at))
+          unfolding lookOf machineOf
+          next-shows os =
+              next-looks os ∙ ap (stepOf (tableOf table .counts) (bytes room) (machine os)) (looked .isLook below)
+              ∙ step-shown (tableOf table .counts) table below (bytes room) (machine os) s
+
+          -- a shown command without a directive
+          pub ends-out : RunsOut isGuessing list (st .at) → Ends table list isGuessing budget room st vs cs ps OutOfDirectives
+          ends-out out =
+              ends-over OutOfDirectives
+              (λ os shown. next-shows os ∙ out .step (bytes room) (machine os) (observationOf s) (afterShown (tableOf table .counts) table below (machine os .state) s))
+
+          module _ (d : Directive) (size used : ℕ) (by : GoesBy isGuessing list (st .at) d size used) where
+            -- the step under a directive, as the code finds it
+            next-fits : (os : List Observation)
+                → next (tableOf table .counts) (bytes room) (machine os)
+                ≡ shownIf (bytes room) (machine os) (observationOf s) (guideOf isGuessing list (st .at + size)) used
+                (fitState table below (machine os .state) (fitOf (tableOf table .counts) cs (st .flag) s d))
+            unfolding machineOf cellsIn
+            next-fits os =
+                next-shows os ∙ by .step (bytes room) (machine os) (observationOf s) (afterShown (tableOf table .counts) table below (machine os .state) s)
+                ∙ ap (shownIf (bytes room) (machine os) (observationOf s) (guideOf isGuessing list (st .at + size)) used)
+                (fit-after (tableOf table .counts) table below (machine os .state) cs refl s d)
+
+            abbrev Found : Fit → Type 0
+            Found fit = (os : List Observation) → next (tableOf table .counts) (bytes room) (machine os)
+                ≡ shownIf (bytes room) (machine os) (observationOf s) (guideOf isGuessing list (st .at + size)) used (fitState table below (machine os .state) fit)
+
+            unfit : Found Unfit → Ends table list isGuessing budget room st vs cs ps Stuck
+            unfolding shownIf
+            unfit found = ends-over Stuck (λ os shown. found os)
+
+            module _ (c : Change) (f : Bool) (found : Found (Goes c f)) where
+              abbrev after : MachineState
+              after = movedState st f used size (heightOf c (st .pending - 1)) (bytesOf s)
+
+              in-room : (os : List Observation) → length (shownBytes os) ≡ st .shown → (b : Bool) → leb (st .shown + bytesOf s) room ≡ b
+                  → holds (bytes room) (length (shownBytes os) + length (observationBytes (observationOf s))) ≡ b
+              unfolding holds
+              in-room os shown b e = rw (shown, observation-length s) e
+
+              full : leb (st .shown + bytesOf s) room ≡ false → Ends table list isGuessing budget room st vs cs ps Full
+              unfolding shownIf machineOf
+              full e = ends-over Full (λ os shown. found os ∙ rw (in-room os shown false e))
+
+              stepped : leb (st .shown + bytesOf s) room ≡ true → ChangeFits table c → Advances table list isGuessing budget room st vs cs ps c (Observed s) after
+              unfolding shownIf moved steppedTo movedState seenList machineOf
+              stepped e fits =
+                  record {
+                    isNext = λ os shown. found os ∙ rw (in-room os shown true e);
+                    fits = fits;
+                    some = some;
+                    isHeight = refl;
+                    isSteps = refl;
+                    stepsFit = left;
+                    usedFit = omega (arith, by .few);
+                    readable = by .readable;
+                    isShown = ap (λ n. st .shown + n) (sym (seen-length s));
+                    shownFit = leb-true (st .shown + bytesOf s) room e;
+                  }
+
+              shown-goes : (b : Bool) → leb (st .shown + bytesOf s) room ≡ b → ChangeFits table c
+                  → NextAs table list isGuessing budget room st vs cs ps (cond b (GoesOn c (Observed s) after) (Over Full))
+              shown-goes true e fits = stepped e fits
+              shown-goes false e fits = full e
+
+            -- a shown command under a directive
+            pub shows : NextAs table list isGuessing budget room st vs cs ps (shownNext st s (fitOf (tableOf table .counts) cs (st .flag) s d) size used room)
+            unfolding shownNext lookOf
+            shows = go (fitOf (tableOf table .counts) cs (st .flag) s d) next-fits (fit-fits table cs (st .flag) s d (looked .fits))
+              where
+                go : (fit : Fit) → Found fit → FitFits table fit → NextAs table list isGuessing budget room st vs cs ps (shownNext st s fit size used room)
+                go (Goes c f) found fits = shown-goes c f found (leb (st .shown + bytesOf s) room) refl fits
+                go Unfit found fits = unfit found

@@ -1,0 +1,128 @@
+-- What a node's command does is read off its kind.
+use Prim.Native.Nat.{ℕ}
+use mathlib.Core.Path.{_≡_, ap, _∙_}
+use denote.Ref.{now}
+use Rattle.bytes_le.proofs.Numbers.{slice-bytes}
+use Rattle.awhile.specs.Nodes.{sortOf}
+use Rattle.reader.proofs.Index.{Child, Parts}
+use Rattle.awhile.specs.declared.Sort.{Sort}
+use Rattle.awhile.specs.declared.Sort.the-variants.{Numeric, Truth, Command}
+use Rattle.awhile.specs.declared.Node.{Node}
+use Rattle.interpreter.specs.Evaluation.{NodeOf}
+use Rattle.interpreter.specs.Actions.{CommandAt}
+use Rattle.interpreter.proofs.NodeKinds.{unnamed-command}
+use Rattle.interpreter.proofs.Evaluation.{child-asked, asked-parts}
+use Rattle.interpreter.proofs.Actions.{looked-skip, looked-assign, looked-sequence, looked-if, looked-while, looked-read, looked-write}
+use borrow.Author.Needs.{needs}
+use Rattle.interpreter.proofs.action.look_at.Statement.{statement}
+use Rattle.interpreter.proofs.action.look_at.Tie as tie
+
+-- what is known of the node that was found, of its children and of itself
+module _ (d : tie.After-node-at) where
+  parts : (m : Node) → d .node-at .result ≡ m → Parts (now (d .before .before .before .before .args .table)) (d .before .before .before .before .args .n) m
+  parts m is =
+      let start = d .before .before .before .before in
+      asked-parts (now (start .args .table)) (now (start .args .index)) (now (start .args .variables)) (start .args .n) Command (start .pre)
+      (slice-bytes (now (start .args .table)) (d .before .before .before .shared-slice-known .given)) (d .node-at .result) m (d .node-at .ensures) is
+
+  child : (wanted : Sort) (k : ℕ) → Child (now (d .before .before .before .before .args .table)) wanted (d .before .before .before .before .args .n) k
+      → NodeOf wanted (now (d .before .before .before .before .args .table)) (now (d .before .before .before .before .args .index)) (now (d .before .before .before .before .args .variables)) k
+  child wanted k =
+      let start = d .before .before .before .before in
+      child-asked (now (start .args .table)) (now (start .args .index)) (now (start .args .variables)) (start .args .n) Command wanted k (start .pre)
+
+  self : CommandAt (now (d .before .before .before .before .args .table)) (d .before .before .before .before .args .n)
+  self = let asked = d .before .before .before .before .pre in record { inside = asked .inside; isCommand = asked .isSort }
+
+node-at-requires : tie.Need-node-at-requires
+node-at-requires c κs = search needs
+
+enum-known-node : tie.Need-enum-known-node
+enum-known-node c = search needs
+
+value-requires : tie.Need-value-requires
+value-requires c κs = child (c .before .before .before) Numeric _ (parts (c .before .before .before) _ (c .before .node .given .1) .1)
+
+enum-known-node-2 : tie.Need-enum-known-node-2
+enum-known-node-2 c = search needs
+
+enum-known-node-3 : tie.Need-enum-known-node-3
+enum-known-node-3 c = search needs
+
+truth-requires : tie.Need-truth-requires
+truth-requires c κs = child (c .before .before .before) Truth _ (parts (c .before .before .before) _ (c .before .node3 .given .1) .0)
+
+enum-known-node-4 : tie.Need-enum-known-node-4
+enum-known-node-4 c = search needs
+
+truth-requires-2 : tie.Need-truth-requires-2
+truth-requires-2 c κs = child (c .before .before .before) Truth _ (parts (c .before .before .before) _ (c .before .node4 .given .1) .0)
+
+enum-known-node-5 : tie.Need-enum-known-node-5
+enum-known-node-5 c = search needs
+
+value-requires-2 : tie.Need-value-requires-2
+value-requires-2 c κs = child (c .before .before .before) Numeric _ (parts (c .before .before .before) _ (c .before .node5 .given .1) .2)
+
+enum-known-node-6 : tie.Need-enum-known-node-6
+enum-known-node-6 c = search needs
+
+value-requires-3 : tie.Need-value-requires-3
+value-requires-3 c κs = child (c .before .before .before) Numeric _ (parts (c .before .before .before) _ (c .before .node6 .given .1) .1)
+
+value-requires-4 : tie.Need-value-requires-4
+value-requires-4 c κs = child (c .before .before .before .before) Numeric _ (parts (c .before .before .before .before) _ (c .before .before .node6 .given .1) .2)
+
+enum-told : tie.Need-enum-told
+enum-told c = search needs
+
+returns : tie.Need-returns
+returns c = looked-assign _ _ _ _ _ _ (parts (c .before .before .before .before) _ (c .before .before .node .given .1)) (c .value .ensures)
+
+returns-2 : tie.Need-returns-2
+returns-2 c = looked-sequence _ _ _ _ _ (parts (c .before .before .before) _ (c .before .node2 .given .1))
+
+returns-3 : tie.Need-returns-3
+returns-3 c = looked-if _ _ _ _ _ _ _ (parts (c .before .before .before .before) _ (c .before .before .node3 .given .1)) (c .truth .ensures)
+
+returns-4 : tie.Need-returns-4
+returns-4 c = looked-while _ _ _ _ _ _ (self (c .before .before .before .before)) (parts (c .before .before .before .before) _ (c .before .before .node4 .given .1)) (c .truth2 .ensures)
+
+returns-5 : tie.Need-returns-5
+returns-5 c = looked-read _ _ _ _ _ _ _ (parts (c .before .before .before .before) _ (c .before .before .node5 .given .1)) (c .value2 .ensures)
+
+returns-6 : tie.Need-returns-6
+returns-6 c = looked-write _ _ _ _ _ _ _ _ (parts (c .before .before .before .before .before) _ (c .before .before .before .node6 .given .1)) (c .before .value3 .ensures) (c .value4 .ensures)
+
+returns-7 : tie.Need-returns-7
+returns-7 c = looked-skip _ _ _ (parts (c .before .before) _ (c .enum-told .given .1))
+
+returns-8 : tie.Need-returns-8
+returns-8 c = absurd (unnamed-command (c .before .node-at .result) (c .match .keys8) (ap sortOf (c .before .node-at .ensures) ∙ c .before .before .before .before .before .pre .isSort))
+
+pub look-at-spec : {M : Type 1} → statement M
+look-at-spec =
+    tie.close
+    (tie.spec
+    node-at-requires
+    enum-known-node
+    value-requires
+    enum-known-node-2
+    enum-known-node-3
+    truth-requires
+    enum-known-node-4
+    truth-requires-2
+    enum-known-node-5
+    value-requires-2
+    enum-known-node-6
+    value-requires-3
+    value-requires-4
+    enum-told
+    returns
+    returns-2
+    returns-3
+    returns-4
+    returns-5
+    returns-6
+    returns-7
+    returns-8)

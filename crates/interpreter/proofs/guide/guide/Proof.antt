@@ -1,0 +1,48 @@
+-- `machine::guide::guide` meets its contract.
+use Rattle.interpreter.proofs.Guides.{goes-plainly, runs-out, goes-by, never-refused}
+use borrow.Author.Tests.{not-true, not-false}
+use borrow.Author.Needs.{needs}
+use Rattle.interpreter.proofs.guide.guide.Statement.{statement}
+use Rattle.interpreter.proofs.guide.guide.Tie as tie
+
+returns : tie.Need-returns
+returns c = rw (not-true (c .before .before .args .guessing) (c .if1 .taken)) (goes-plainly _ _ (c .before .before .pre))
+
+returns-2 : tie.Need-returns-2
+returns-2 c = rw (not-false (c .before .before .before .args .guessing) (c .before .if1 .left)) (runs-out _ _ (c .before .before .before .pre) (c .if2 .taken))
+
+directive-at-requires : tie.Need-directive-at-requires
+directive-at-requires c κs = search needs
+
+enum-known-found : tie.Need-enum-known-found
+enum-known-found c = search needs
+
+size-of-requires : tie.Need-size-of-requires
+size-of-requires c κs = search needs
+
+enum-told : tie.Need-enum-told
+enum-told c = search needs
+
+returns-3 : tie.Need-returns-3
+returns-3 c =
+    let start = c .before .before .before .before .before .before .before .before in
+    rw (not-false (start .args .guessing) (c .before .before .before .before .before .before .if1 .left))
+    (goes-by _ _ (start .pre) (c .before .before .before .before .before .if2 .left) _ (c .before .before .before .before .directive-at .ensures) _ (c .before .before .found .given .1) _ (c .size-of .ensures))
+
+returns-4 : tie.Need-returns-4
+returns-4 c =
+    let start = c .before .before .before .before .before .before in
+    absurd (never-refused _ _ (start .pre) (c .before .before .before .if2 .left) _ (c .before .before .directive-at .ensures) (c .enum-told .given .1))
+
+pub guide-spec : {M : Type 1} → statement M
+guide-spec =
+    tie.close
+    (tie.spec
+    returns
+    returns-2
+    directive-at-requires
+    enum-known-found
+    size-of-requires
+    enum-told
+    returns-3
+    returns-4)

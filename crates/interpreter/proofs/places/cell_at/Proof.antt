@@ -1,0 +1,60 @@
+-- `machine::places::cell_at` meets its contract.
+use Prim.Native.Nat.{_+_}
+use Rattle.interpreter.proofs.CellPlaces.{cell-undeclared, cell-found, cell-missing}
+use native.Mathlib.Omega.{arith}
+use borrow.Author.Needs.{needs}
+use Rattle.interpreter.proofs.places.cell_at.Statement.{statement}
+use Rattle.interpreter.proofs.places.cell_at.Tie as tie
+
+returns : tie.Need-returns
+returns c = λ counts at. cell-undeclared counts _ at _ _ (c .if1 .taken)
+
+mul-place : tie.Need-mul-place
+mul-place c = search needs
+
+shared-slice-read-place : tie.Need-shared-slice-read-place
+shared-slice-read-place c = search needs
+
+cast-place : tie.Need-cast-place
+cast-place c = omega (arith, c .shared-slice-known .given (c .before .before .args .array))
+
+add-place : tie.Need-add-place
+add-place c = omega (arith, c .shared-slice-known .given (c .before .before .args .array))
+
+add-if2 : tie.Need-add-if2
+add-if2 c = search needs
+
+mul-if2 : tie.Need-mul-if2
+mul-if2 c = search needs
+
+shared-slice-read-if2 : tie.Need-shared-slice-read-if2
+shared-slice-read-if2 c = search needs
+
+cast-if2 : tie.Need-cast-if2
+cast-if2 c = omega (arith, c .shared-slice-known2 .given (c .before .before .before .args .array + 1))
+
+cast-t13 : tie.Need-cast-t13
+cast-t13 c = omega (arith, c .before .shared-slice-known2 .given (c .before .before .before .before .args .array + 1))
+
+returns-2 : tie.Need-returns-2
+returns-2 c = λ counts at. cell-found counts _ at _ _ (c .before .before .before .if1 .left) (c .if2 .taken)
+
+returns-3 : tie.Need-returns-3
+returns-3 c = λ counts at. cell-missing counts _ at _ _ (c .before .before .before .if1 .left) (c .if2 .left)
+
+pub cell-at-spec : {M : Type 1} → statement M
+cell-at-spec =
+    tie.close
+    (tie.spec
+    returns
+    mul-place
+    shared-slice-read-place
+    cast-place
+    add-place
+    add-if2
+    mul-if2
+    shared-slice-read-if2
+    cast-if2
+    cast-t13
+    returns-2
+    returns-3)

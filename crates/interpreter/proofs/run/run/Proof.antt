@@ -1,0 +1,90 @@
+-- `machine::run::run` meets its contract.
+use mathlib.Core.Path.{refl}
+-- A run begins at the root, goes on to its end, and leaves the pending list with zeros behind it.
+use Prim.Native.Nat.{_*_, _≤_}
+use native.Mathlib.Omega.{arith}
+use lib.ListN.{length}
+use Rattle.bytes_le.proofs.Numbers.{slice-bytes}
+use Rattle.interpreter.proofs.WholeRuns.{asked-arrays, root-below, run-begins, pending-within, run-leaves}
+use borrow.Author.Needs.{needs}
+use Rattle.interpreter.proofs.run.run.Statement.{statement}
+use Rattle.interpreter.proofs.run.run.Tie as tie
+
+-- what is known after the loop: how the run stopped, in slices of the lengths that they had
+module _ (d : tie.After-go-on) where
+  within : (d .go-on .result .state .pending ≤ d .before .before .before .before .before .before .before .before .before .before .before .before .before .before .before .before .before .before .before .before .args .nodes) × (4 * d .before .before .before .before .before .before .before .before .before .before .before .before .before .before .before .before .before .before .before .before .args .nodes ≤ length (d .go-on .last .1 .1 .1 .1 .1 .1 .1 .0))
+  within =
+      pending-within _ _ _ _ _ (slice-bytes _ (d .before .before .before .before .before .before .before .before .before .before .before .before .before .before .before .before .before .before .before .shared-slice-known .given)) _ _ _ (d .before .before .before .before .before .before .before .before .before .before .before .before .before .before .before .before .before .before .before .before .pre) _ (d .before .before .before .before .before .before .before .before .put32 .ensures) _ _ _ _ _ _ _ _ (d .go-on .ensures)
+      (d .go-on .kept .1 .1 .1 .1 .1 .0) (d .go-on .kept .1 .1 .1 .1 .1 .1 .0) (d .go-on .kept .1 .1 .1 .1 .1 .1 .1 .0)
+
+slice-aggregate-find-starts : tie.Need-slice-aggregate-find-starts
+slice-aggregate-find-starts c = search needs
+
+find-starts-requires : tie.Need-find-starts-requires
+find-starts-requires c κs = (asked-arrays _ _ _ _ _ (slice-bytes _ (c .before .before .before .before .before .before .before .shared-slice-known .given)) _ _ _ (c .before .before .before .before .before .before .before .before .pre), refl)
+
+sub-put32 : tie.Need-sub-put32
+sub-put32 c = root-below _ _ _ _ _ (slice-bytes _ (c .before .before .before .before .before .before .before .before .before .before .shared-slice-known .given)) _ _ _ (c .before .before .before .before .before .before .before .before .before .before .before .pre) .0
+
+cast-put32 : tie.Need-cast-put32
+cast-put32 c = record { fits = root-below _ _ _ _ _ (slice-bytes _ (c .before .before .before .before .before .before .before .before .before .before .shared-slice-known .given)) _ _ _ (c .before .before .before .before .before .before .before .before .before .before .before .pre) .1 }
+
+put32-requires : tie.Need-put32-requires
+put32-requires c κs = root-below _ _ _ _ _ (slice-bytes _ (c .before .before .before .before .before .before .before .before .before .before .shared-slice-known .given)) _ _ _ (c .before .before .before .before .before .before .before .before .before .before .before .pre) .2
+
+slice-aggregate-go-on : tie.Need-slice-aggregate-go-on
+slice-aggregate-go-on c = search needs
+
+go-on-requires : tie.Need-go-on-requires
+go-on-requires c κs = run-begins _ _ _ _ _ (slice-bytes _ (c .before .before .before .before .before .before .before .before .before .before .before .before .before .before .before .before .before .before .shared-slice-known .given)) _ _ _ (c .before .before .before .before .before .before .before .before .before .before .before .before .before .before .before .before .before .before .before .pre) _ (c .before .before .before .before .before .before .before .put32 .ensures) _ (c .before .before .before .before .before .before .before .before .before .before .find-starts .ensures) (c .before .before .before .before .before .before .before .before .before .before .find-starts .kept .1 .1 .0) _ _
+
+next-word-requires : tie.Need-next-word-requires
+next-word-requires c κs =
+    let fits = within (c .before .before .before .before .before .before .before .before .before .before) in
+    omega (arith, fits .0, fits .1)
+
+clear-requires : tie.Need-clear-requires
+clear-requires c κs = within (c .before .before .before .before .before .before .before .before .before .before .before .before)
+
+numbers-of-requires : tie.Need-numbers-of-requires
+numbers-of-requires c κs = search needs
+
+same-length : tie.Need-same-length
+same-length c = search needs
+
+same-length-2 : tie.Need-same-length-2
+same-length-2 c = search needs
+
+same-length-3 : tie.Need-same-length-3
+same-length-3 c = search needs
+
+same-length-4 : tie.Need-same-length-4
+same-length-4 c = search needs
+
+returns : tie.Need-returns
+returns c =
+    let d = c .before .before .before .before .before .before .before .before .before .before .before .before .before .before .before .before in
+    run-leaves _ _ _ _ _ (slice-bytes _ (d .before .before .before .before .before .before .before .before .before .before .before .before .before .before .before .before .before .before .before .shared-slice-known .given)) _ _ _ (d .before .before .before .before .before .before .before .before .before .before .before .before .before .before .before .before .before .before .before .before .pre) _ (d .before .before .before .before .before .before .before .before .put32 .ensures) _ _ _ _ _ _ _ _ (d .go-on .ensures)
+    (d .go-on .kept .1 .1 .1 .1 .1 .0) (d .go-on .kept .1 .1 .1 .1 .1 .1 .0) (d .go-on .kept .1 .1 .1 .1 .1 .1 .1 .0)
+    (slice-bytes _ (c .before .before .before .before .before .before .before .before .before .before .before .before .before .before .slice-known6 .given)) (slice-bytes _ (c .before .before .before .before .before .before .before .before .before .before .before .before .slice-known7 .given)) (slice-bytes _ (c .before .before .before .before .before .before .before .before .before .before .slice-known8 .given))
+    _ (c .before .before .before .clear .ensures) _ (c .before .before .before .before .before .next-word .ensures) _ (c .numbers-of .ensures)
+
+pub run-spec : {M : Type 1} → statement M
+run-spec =
+    tie.close
+    (tie.spec
+    slice-aggregate-find-starts
+    find-starts-requires
+    sub-put32
+    cast-put32
+    put32-requires
+    slice-aggregate-go-on
+    go-on-requires
+    next-word-requires
+    clear-requires
+    numbers-of-requires
+    same-length
+    same-length-2
+    same-length-3
+    same-length-4
+    returns)

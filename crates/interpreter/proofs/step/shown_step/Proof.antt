@@ -1,0 +1,50 @@
+-- `machine::step::shown_step` meets its contract.
+use Rattle.interpreter.proofs.NextSteps.{shown-full, shown-on, shown-stuck}
+use borrow.Author.Needs.{needs}
+use Rattle.interpreter.proofs.step.shown_step.Statement.{statement}
+use Rattle.interpreter.proofs.step.shown_step.Tie as tie
+
+enum-known-found : tie.Need-enum-known-found
+enum-known-found c = search needs
+
+bytes-of-requires : tie.Need-bytes-of-requires
+bytes-of-requires c κs = search needs
+
+sub-if1 : tie.Need-sub-if1
+sub-if1 c = search needs
+
+returns : tie.Need-returns
+returns c = shown-full _ _ _ _ _ _ _ _ (c .before .before .before .before .found .given .1) _ (c .before .before .bytes-of .ensures) (c .before .before .before .before .before .before .pre .3) (c .if1 .taken)
+
+sub-height : tie.Need-sub-height
+sub-height c = search needs
+
+height-requires : tie.Need-height-requires
+height-requires c κs = search needs
+
+moved-requires : tie.Need-moved-requires
+moved-requires c κs = search needs
+
+enum-told : tie.Need-enum-told
+enum-told c = search needs
+
+returns-2 : tie.Need-returns-2
+returns-2 c = shown-on _ _ _ _ _ _ _ _ (c .before .before .before .before .before .before .before .found .given .1) _ (c .before .before .before .before .before .bytes-of .ensures) (c .before .before .before .before .before .before .before .before .before .pre .3) (c .before .before .before .if1 .left) _ (c .before .height .ensures) _ (c .moved .ensures)
+
+returns-3 : tie.Need-returns-3
+returns-3 c = shown-stuck _ _ _ _ _ _ (c .enum-told .given .1)
+
+pub shown-step-spec : {M : Type 1} → statement M
+shown-step-spec =
+    tie.close
+    (tie.spec
+    enum-known-found
+    bytes-of-requires
+    sub-if1
+    returns
+    sub-height
+    height-requires
+    moved-requires
+    enum-told
+    returns-2
+    returns-3)

@@ -1,0 +1,145 @@
+-- The machine as the code has it: a state by value, words in lent bytes, and what the next step is.
+use Prim.Native.Nat.{ℕ, zero, suc, _+_, _*_, _-_, _^_, _≤_, _<_}
+use mathlib.Core.Bool.{Bool, false, cond}
+use mathlib.Core.Path.{_≡_}
+use mathlib.Core.Option.{Option, none, some}
+use mathlib.Core.List.{List, [], _∷_, _++_}
+use lib.ListN.{length}
+use lib.Dec.{leb}
+use Rattle.bytes_le.specs.Numbers.{leAt, fromWords}
+use Rattle.awhile.specs.Language.{Com}
+use Rattle.awhile.specs.Lists.{sum}
+use Rattle.reader.specs.Index.{Indexed, tableOf, nodesIn, commandIn}
+use Rattle.machine.specs.Observations.{Observation, shownBytes}
+use Rattle.machine.specs.Steps.{State, atFork, atGet, atPut}
+use Rattle.machine.specs.Runs.{Machine, Outcome, bytes, next, goes, run}
+use Rattle.interpreter.specs.Evaluation.{variablesIn}
+use Rattle.interpreter.specs.Actions.{backOn, heightOf, changed, observationOf, CommandAt, BackFits}
+use Rattle.interpreter.specs.Fitting.{Starts}
+use Rattle.interpreter.specs.Guiding.{Readable, guideOf}
+use Rattle.machine.specs.declared.Directive.{Directive}
+use Rattle.machine.specs.declared.End.{End}
+use Rattle.machine.specs.declared.End.the-variants.{Stuck, Full}
+use Rattle.interpreter.specs.declared.action.Change.{Change}
+use Rattle.interpreter.specs.declared.action.Change.the-variants.{PutBack, Assign, Store}
+use Rattle.interpreter.specs.declared.action.Shown.{Shown}
+use Rattle.interpreter.specs.declared.action.Shown.the-variants.{Fork, Get, Put}
+use Rattle.interpreter.specs.declared.fit.Fit.{Fit}
+use Rattle.interpreter.specs.declared.fit.Fit.the-variants.{Goes, Unfit}
+use Rattle.interpreter.specs.declared.state.MachineState.{MachineState}
+use Rattle.interpreter.specs.declared.step.Seen.{Seen}
+use Rattle.interpreter.specs.declared.step.Seen.the-variants.{Nothing, Observed}
+use Rattle.interpreter.specs.declared.step.Next.{Next}
+use Rattle.interpreter.specs.declared.step.Next.the-variants.{Over}
+use Rattle.interpreter.specs.declared.step.Next.the-variants.{Goes as GoesOn}
+
+-- ---- the state by value
+unfoldable pub startState : MachineState
+startState = record { flag = false; steps = 0; used = 0; at = 0; pending = 1; shown = 0 }
+
+unfoldable pub movedState : MachineState → (flag : Bool) → (used size pending bytes : ℕ) → MachineState
+movedState s f u size p b = record { flag = f; steps = s .steps + 1; used = s .used + u; at = s .at + size; pending = p; shown = s .shown + b }
+
+-- a state that can be moved on: something is pending, and the counts fit
+pub record Moving (state : MachineState) : Type 0 where
+  pub some : 0 < state .pending
+  pub few : state .pending ≤ 4096
+  pub stepsFit : state .steps + 1 < 2 ^ 32
+  pub usedFit : state .used + 1 < 2 ^ 32
+
+-- ---- what it stands for, with the lent bytes
+-- the first so many entries, the next command first
+unfoldable pub pendingOf : (table pending : List ℕ) → (count : ℕ) → List (Com ℕ)
+pendingOf table pending zero = []
+pendingOf table pending (suc k) = commandIn table (leAt 4 pending (4 * k)) ∷ pendingOf table pending k
+
+unfoldable pub cellsIn : (table cells : List ℕ) → List ℕ
+cellsIn table cells = fromWords (sum (tableOf table .counts)) cells
+
+unfoldable pub machineOf : (table list : List ℕ) → (guessing : Bool) → MachineState → (variables cells pending : List ℕ) → List Observation → Machine ℕ
+machineOf table list g st vs cs ps os =
+    record {
+      state = record { pending = pendingOf table ps (st .pending); variables = variablesIn table vs; cells = cellsIn table cs; flag = st .flag };
+      guide = guideOf g list (st .at);
+      steps = st .steps;
+      used = st .used;
+      shown = os;
+    }
+
+-- ---- what a step does
+unfoldable pub bytesOf : Shown → ℕ
+bytesOf (Fork v y n) = 6
+bytesOf (Get x a i) = 10
+bytesOf (Put a i v) = 10
+
+unfoldable pub seenList : Seen → List Observation
+seenList Nothing = []
+seenList (Observed s) = observationOf s ∷ []
+
+unfoldable pub quietNext : MachineState → Change → Next
+quietNext st c = GoesOn c Nothing (movedState st (st .flag) 0 0 (heightOf c (st .pending - 1)) 0)
+
+unfoldable pub shownNext : MachineState → Shown → Fit → (size used room : ℕ) → Next
+shownNext st s Unfit size used room = Over Stuck
+shownNext st s (Goes c f) size used room =
+    cond (leb (st .shown + bytesOf s) room)
+    (GoesOn c (Observed s) (movedState st f used size (heightOf c (st .pending - 1)) (bytesOf s)))
+    (Over Full)
+
+-- a change that can be made to the lent bytes
+abbrev pub ChangeFits : (table : List ℕ) → Change → Type 0
+ChangeFits table (PutBack b) = BackFits table b
+ChangeFits table (Assign x v) = x < tableOf table .variables
+ChangeFits table (Store p v) = p < sum (tableOf table .counts)
+
+-- the machine after a step: its command taken off, its change made
+unfoldable pub steppedTo : (table list : List ℕ) → (guessing : Bool) → List (Com ℕ) → Machine ℕ → Change → Seen → MachineState → Machine ℕ
+steppedTo table list g rest m c seen st =
+    record {
+      state = changed table c rest (m .state) (st .flag);
+      guide = guideOf g list (st .at);
+      steps = st .steps;
+      used = st .used;
+      shown = m .shown ++ seenList seen;
+    }
+
+-- ---- what holds between two steps
+pub record Holds (table index starts list : List ℕ) (budget room : ℕ) (state : MachineState) (variables cells pending : List ℕ) : Type 0 where
+  pub indexed : Indexed table index
+  pub begins : Starts (tableOf table .counts) starts
+  pub startsLong : length starts ≡ 17
+  pub variablesLong : length variables ≡ 4 * tableOf table .variables
+  pub cellsLong : length cells ≡ 4 * sum (tableOf table .counts)
+  pub pendingLong : 4 * nodesIn table ≤ length pending
+  pub readable : Readable list (state .at)
+  pub entries : (j : ℕ) → j < state .pending → CommandAt table (leAt 4 pending (4 * j))
+  pub few : state .pending ≤ nodesIn table
+  pub stepsFit : state .steps ≤ budget
+  pub usedFit : state .used ≤ state .steps
+  pub shownFit : state .shown ≤ room
+
+module _ (table list : List ℕ) (isGuessing : Bool) (budget room : ℕ) (state : MachineState) (variables cells pending : List ℕ) where
+  -- the run is over
+  pub record Ends (end : End) : Type 0 where
+    pub isRun : (os : List Observation) → length (shownBytes os) ≡ state .shown
+        → run (tableOf table .counts) (bytes room) (budget - state .steps) (machineOf table list isGuessing state variables cells pending os)
+        ≡ record { end = end; machine = machineOf table list isGuessing state variables cells pending os }
+
+  -- the step is taken
+  pub record Advances (change : Change) (seen : Seen) (after : MachineState) : Type 0 where
+    pub isNext : (os : List Observation) → length (shownBytes os) ≡ state .shown
+        → next (tableOf table .counts) (bytes room) (machineOf table list isGuessing state variables cells pending os)
+        ≡ goes (steppedTo table list isGuessing (pendingOf table pending (state .pending - 1)) (machineOf table list isGuessing state variables cells pending os) change seen after)
+    pub fits : ChangeFits table change
+    pub some : 0 < state .pending
+    pub isHeight : after .pending ≡ heightOf change (state .pending - 1)
+    pub isSteps : after .steps ≡ state .steps + 1
+    pub stepsFit : state .steps < budget
+    pub usedFit : after .used ≤ after .steps
+    pub readable : Readable list (after .at)
+    pub isShown : after .shown ≡ state .shown + length (shownBytes (seenList seen))
+    pub shownFit : after .shown ≤ room
+
+  abbrev pub NextAs : Next → Type 0
+  NextAs (Over e) = Ends e
+  NextAs (GoesOn c seen st) = Advances c seen st

@@ -1,0 +1,148 @@
+// One step of a machine, decided before anything is changed: why it is not taken, or all that it does.
+use crate::action::Action;
+use crate::action::Change;
+use crate::action::Shown;
+use crate::action::height;
+use crate::action::look_at;
+use crate::fit::Fit;
+use crate::fit::fitting;
+use crate::guide::Guided;
+use crate::guide::guide;
+use crate::state::MachineState;
+use bytes_le::get::u32_at;
+use machine::End;
+ghost use Prim.Native.Nat.{_+_, _≤_, _<_, _^_};
+ghost use mathlib.Core.Path.{_≡_};
+ghost use Rattle.interpreter.specs.Stepping.{Moving, bytesOf, quietNext, shownNext, Holds, NextAs};
+
+// What a step shows, if anything.
+pub enum Seen {
+    Nothing,
+    Observed { shown: Shown },
+}
+
+// "nothing of a step happens when the run ends there"
+pub enum Next {
+    Over {
+        end: End,
+    },
+    Goes {
+        change: Change,
+        seen: Seen,
+        state: MachineState,
+    },
+}
+
+// The length of an observation's record.
+fn bytes_of(shown: Shown) -> usize
+    ensures { λ r. ⌜ r ≡ bytesOf shown ⌝ }
+{
+    match shown {
+        Shown::Fork {
+            value: _,
+            yes: _,
+            no: _,
+        } => 6,
+        Shown::Get {
+            variable: _,
+            array: _,
+            index: _,
+        } => 10,
+        Shown::Put {
+            array: _,
+            index: _,
+            value: _,
+        } => 10,
+    }
+}
+
+// A silent step.
+fn quiet_step(state: MachineState, change: Change) -> Next
+    requires { ⌜ Moving state ⌝ }
+    ensures { λ r. ⌜ r ≡ quietNext state change ⌝ }
+{
+    let pending = height(change, state.pending - 1);
+    let after = state.moved(state.flag, 0, 0, pending, 0);
+    Next::Goes {
+        change,
+        seen: Seen::Nothing,
+        state: after,
+    }
+}
+
+// A shown step: stuck, full, or the step.
+fn shown_step(
+    state: MachineState,
+    shown: Shown,
+    found: Fit,
+    size: usize,
+    used: u32,
+    room: usize,
+) -> Next
+    requires { ⌜ Moving state × (used ≤ 1) × (state .at + size < 2 ^ 64) × (state .shown ≤ room) ⌝ }
+    ensures { λ r. ⌜ r ≡ shownNext state shown found size used room ⌝ }
+{
+    match found {
+        Fit::Goes { change, flag } => {
+            let bytes = bytes_of(shown);
+            if room - state.shown < bytes {
+                return Next::Over { end: End::Full };
+            }
+            let pending = height(change, state.pending - 1);
+            let after = state.moved(flag, used, size, pending, bytes);
+            Next::Goes {
+                change,
+                seen: Seen::Observed { shown },
+                state: after,
+            }
+        }
+        Fit::Unfit => Next::Over { end: End::Stuck },
+    }
+}
+
+// The next step of either machine. The five ends are checked in their order.
+pub fn next_step(
+    table: &[u8],
+    index: &[u16],
+    starts: &[u16],
+    directives: &[u8],
+    guessing: bool,
+    variables: &[u8],
+    cells: &[u8],
+    pending: &[u8],
+    room: usize,
+    budget: u32,
+    state: MachineState,
+) -> Next
+    requires { ⌜ Holds (now table) (now index) (now starts) (now directives) budget room state (now variables) (now cells) (now pending) ⌝ }
+    ensures { λ r. ⌜ NextAs (now (table .entry)) (now (directives .entry)) guessing budget room state (now (variables .entry)) (now (cells .entry)) (now (pending .entry)) r ⌝ }
+{
+    let count = state.pending;
+    if count == 0 {
+        return Next::Over { end: End::Finished };
+    }
+    if budget <= state.steps {
+        return Next::Over { end: End::Spent };
+    }
+    let n = u32_at(pending, 4 * (count - 1)) as usize;
+    let action = look_at(table, index, variables, n);
+    match action {
+        Action::Quiet { change } => quiet_step(state, change),
+        Action::Show { shown } => {
+            let guided = guide(directives, guessing, state.at);
+            match guided {
+                Guided::By {
+                    directive,
+                    size,
+                    used,
+                } => {
+                    let found = fitting(starts, cells, state.flag, shown, directive);
+                    shown_step(state, shown, found, size, used, room)
+                }
+                Guided::Out => Next::Over {
+                    end: End::OutOfDirectives,
+                },
+            }
+        }
+    }
+}

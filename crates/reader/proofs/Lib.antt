@@ -1,0 +1,9 @@
+-- Laws for reading a table record by record.
+pub mod Index
+pub mod Passing
+pub mod Declaring
+pub mod Sorting
+pub mod Tally
+pub mod Walking
+pub mod Searching
+pub mod Answering

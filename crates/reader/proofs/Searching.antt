@@ -1,0 +1,80 @@
+-- Looking for a node that is not in order, by the counts of uses.
+use Prim.Native.Nat.{ℕ, _+_, _-_, _≤_, _<_}
+use native.Mathlib.Omega.{arith}
+use mathlib.Core.Bool.{Bool, true, false}
+use mathlib.Core.Path.{_≡_, refl, sym, ap, _∙_}
+use mathlib.Core.List.{List}
+use lib.ListN.{length, getD}
+use lib.Dec.{ltb}
+use borrow.Author.Tests.{ltb-true, ltb-false, eq-eqb, ne-eqb}
+use Rattle.awhile.specs.Nodes.{sortOf, sameSort}
+use Rattle.awhile.specs.Tables.{usesOf, inOrder, allInOrder}
+use Rattle.reader.specs.Reader.{OrderSearched}
+use Rattle.awhile.proofs.Cases.{in-order-last, in-order-child, all-in-order, each-in-order}
+use Rattle.awhile.specs.declared.Sort.{Sort}
+use Rattle.awhile.specs.declared.Sort.the-variants.{Command}
+use Rattle.awhile.specs.declared.Node.{Node}
+use Rattle.awhile.specs.declared.Node.the-variants.{Skip}
+use Rattle.reader.specs.declared.uses.Broken.the-variants.{At, Nowhere}
+
+-- one node out of order is enough
+pub not-all-in-order : (ns : List Node) (count n : ℕ) → n < count → inOrder ns n ≡ false → allInOrder ns count ≡ false
+not-all-in-order ns count n inside out = go (allInOrder ns count) refl
+  where
+    go : (b : Bool) → allInOrder ns count ≡ b → b ≡ false
+    go true e = sym (each-in-order ns count e n inside) ∙ out
+    go false e = refl
+
+module _ (uses : List ℕ) (nodes : ℕ) (root : Sort) where
+  -- the nodes so far are children exactly once
+  pub record UsedOnce (n : ℕ) : Type 0 where
+    pub more : n < nodes
+    pub once : (i : ℕ) → i < n → getD uses i 0 ≡ 1
+
+  -- one more that is a child exactly once
+  pub once-more : (n : ℕ) → UsedOnce n → n < nodes - 1 → getD uses n 0 ≡ 1 → UsedOnce (n + 1)
+  once-more n h inside here = record { more = omega arith; once = once }
+    where
+      once : (i : ℕ) → i < n + 1 → getD uses i 0 ≡ 1
+      once i below = go (ltb i n) refl
+        where
+          go : (b : Bool) → ltb i n ≡ b → getD uses i 0 ≡ 1
+          go true e = h .once i (ltb-true i n e)
+          go false e = ap (λ k. getD uses k 0) (omega (arith, ltb-false i n e)) ∙ here
+
+  -- a node that is not a child exactly once
+  pub broken-child : (n : ℕ) → n < nodes - 1 → ¬ (getD uses n 0 ≡ 1) → OrderSearched uses nodes root (At n)
+  broken-child n inside other =
+      record {
+        found = λ ns counted used last.
+            (omega arith, in-order-child ns n (λ e. omega arith) ∙ ne-eqb (usesOf ns n) 1 (λ e. other (used n ∙ e)));
+      }
+
+  module _ (n : ℕ) (h : UsedOnce n) (end : nodes - 1 ≤ n) where
+    -- the last node's order is a matter of its sort
+    last-order : (ns : List Node) → length ns ≡ nodes → sortOf (getD ns (nodes - 1) Skip) ≡ root → inOrder ns n ≡ sameSort root Command
+    last-order ns counted last =
+        let here : n ≡ nodes - 1 = omega (arith, h .more) in
+        in-order-last ns n (omega (arith, h .more)) ∙ rw (here, last)
+
+    -- a last node that is no command
+    pub broken-root : sameSort root Command ≡ false → OrderSearched uses nodes root (At n)
+    broken-root other =
+        record { found = λ ns counted used last. (omega (arith, h .more), last-order ns counted last ∙ other) }
+
+    -- none is broken
+    pub none-broken : sameSort root Command ≡ true → OrderSearched uses nodes root Nowhere
+    none-broken isCommand =
+        record {
+          found = λ ns counted used last.
+              all-in-order ns (length ns) (λ i inside. each ns counted used last i inside (ltb i n) refl);
+        }
+      where
+        each : (ns : List Node) → length ns ≡ nodes → ((k : ℕ) → getD uses k 0 ≡ usesOf ns k) → sortOf (getD ns (nodes - 1) Skip) ≡ root
+            → (i : ℕ) → i < length ns → (b : Bool) → ltb i n ≡ b → inOrder ns i ≡ true
+        each ns counted used last i inside true e =
+            let below = ltb-true i n e in
+            in-order-child ns i (λ f. omega (arith, h .more)) ∙ eq-eqb (usesOf ns i) 1 (sym (used i) ∙ h .once i below)
+        each ns counted used last i inside false e =
+            let here : i ≡ n = omega (arith, ltb-false i n e, h .more) in
+            rw here (last-order ns counted last ∙ isCommand)

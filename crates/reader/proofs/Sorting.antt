@@ -1,0 +1,230 @@
+-- Sorts and fields told apart: what the other way of a `let .. else` knows.
+use Prim.Native.Nat.{ℕ, zero, suc}
+use native.Mathlib.Omega.{arith}
+use mathlib.Core.Bool.{Bool, true, false, _&&_, and-true}
+use mathlib.Core.Logic.{⊎-elim}
+use mathlib.Core.Path.{_≡_, refl, sym, ap, _∙_}
+use mathlib.Core.List.{List, [], _∷_, flatMap}
+use lib.ListN.{length, getD}
+use borrow.Author.Tests.{ltb-true}
+use types.Run.{OneOf}
+use denote.Enum.Declared.{tagOf}
+use Rattle.awhile.specs.Lists.{all}
+use Rattle.awhile.specs.Refusals.{refused, got, check}
+use Rattle.awhile.specs.Nodes.{Field, word, child, form, sizeOf, sortOf, decodeAt, fieldInRange, inRange, sameSort, fieldSorted, sorted, fieldChildren}
+use Rattle.awhile.specs.Tables.{framed, readNode}
+use Rattle.reader.specs.Reader.{checkedAs, fieldOf, padded, nodeAs, SortAt, Leads, SortsChecked, NodeChecked}
+use Rattle.awhile.proofs.Lists.{all-head, all-tail, all-cons}
+use Rattle.awhile.proofs.Cases.{node-known, node-unknown}
+use Rattle.reader.proofs.Passing.{framed-refused, framed-passed-on}
+use Rattle.awhile.specs.declared.Sort.{Sort}
+use Rattle.awhile.proofs.Sort as sort
+use Rattle.awhile.specs.declared.Sort.the-variants.{Numeric, Truth, Command}
+use Rattle.reader.proofs.fields.Field as field
+use Rattle.reader.specs.declared.fields.Field.{Field as FieldRead}
+use Rattle.reader.specs.declared.fields.Field.the-variants.{Word, Constant, Variable, Array, Child}
+use Rattle.awhile.specs.declared.Node.{Node}
+use Rattle.awhile.specs.declared.Node.the-variants.{Skip}
+use Rattle.awhile.specs.declared.Decoded.the-variants.{Known, Unknown}
+use Rattle.awhile.specs.declared.Refusal.{Refusal}
+use Rattle.awhile.specs.declared.Refusal.the-variants.{OutOfRange, WrongSort}
+use Rattle.reader.specs.declared.checks.Checked.{Checked}
+use Rattle.reader.specs.declared.checks.Checked.the-variants.{Refused, Passed}
+use Rattle.reader.specs.declared.walk.NodeRead.the-variants.{Refused as NodeRefused, Node as NodeGot}
+
+-- a sort that is not the wanted one
+pub not-numeric : (s : Sort) → OneOf (1 ∷ 2 ∷ []) (tagOf sort.the-type s) → sameSort s Numeric ≡ false
+unfolding sameSort
+not-numeric Numeric h = absurd (⊎-elim (λ e. omega arith) (λ e. omega arith) h)
+not-numeric Truth h = refl
+not-numeric Command h = refl
+
+-- not a truth
+pub not-truth : (s : Sort) → OneOf (0 ∷ 2 ∷ []) (tagOf sort.the-type s) → sameSort s Truth ≡ false
+unfolding sameSort
+not-truth Numeric h = refl
+not-truth Truth h = absurd (⊎-elim (λ e. omega arith) (λ e. omega arith) h)
+not-truth Command h = refl
+
+-- not a command
+pub not-command : (s : Sort) → OneOf (0 ∷ 1 ∷ []) (tagOf sort.the-type s) → sameSort s Command ≡ false
+unfolding sameSort
+not-command Numeric h = refl
+not-command Truth h = refl
+not-command Command h = absurd (⊎-elim (λ e. omega arith) (λ e. omega arith) h)
+
+-- a field that is a child is not one of the others
+never-child : (s : Sort) (n : ℕ) → OneOf (0 ∷ 1 ∷ 2 ∷ 3 ∷ []) (tagOf field.the-type (Child s n)) → ⊥
+never-child s n h = ⊎-elim (λ e. omega arith) (λ r. ⊎-elim (λ e. omega arith) (λ q. ⊎-elim (λ e. omega arith) (λ e. omega arith) q) r) h
+
+-- another field asks for no sort
+pub not-child : (f : FieldRead) → OneOf (0 ∷ 1 ∷ 2 ∷ 3 ∷ []) (tagOf field.the-type f) → (ns : List Node) → fieldSorted ns (fieldOf f) ≡ true
+unfolding fieldSorted
+not-child (Word n) h ns = refl
+not-child (Constant n) h ns = refl
+not-child (Variable x) h ns = refl
+not-child (Array a) h ns = refl
+not-child (Child s n) h ns = absurd (never-child s n h)
+
+-- and names no child
+pub no-children : (f : FieldRead) → OneOf (0 ∷ 1 ∷ 2 ∷ 3 ∷ []) (tagOf field.the-type f) → fieldChildren (fieldOf f) ≡ []
+unfolding fieldChildren
+no-children (Word n) h = refl
+no-children (Constant n) h = refl
+no-children (Variable x) h = refl
+no-children (Array a) h = refl
+no-children (Child s n) h = absurd (never-child s n h)
+
+-- ---- fields checked one after the other
+module _ (x r : Refusal) (c : Bool) where
+  first-fails : (b : Bool) → Refused x ≡ checkedAs (check (b && true) r (got tt)) → Refused x ≡ checkedAs (check (b && c) r (got tt))
+  unfolding checkedAs check
+  first-fails true e = cc
+  first-fails false e = e
+
+first-passes : (a : Checked) (r : Refusal) (b c : Bool) → Passed ≡ checkedAs (check (b && true) r (got tt)) → a ≡ checkedAs (check c r (got tt)) → a ≡ checkedAs (check (b && c) r (got tt))
+unfolding checkedAs check
+first-passes a r true c e rest = rest
+first-passes a r false c e rest = cc
+
+module _ (s index : List ℕ) (at : ℕ) where
+  -- a field that names no child passes
+  pub none-checked : (f : FieldRead) → OneOf (0 ∷ 1 ∷ 2 ∷ 3 ∷ []) (tagOf field.the-type f) → SortsChecked s index at (fieldOf f ∷ []) Passed
+  unfolding all checkedAs check
+  none-checked f other = record { isChecked = λ vs arrs ns leads ranged. rw (not-child f other ns) }
+
+  -- a child whose record is found by the index passes where it is of the wanted sort
+  pub child-checked : (wanted found : Sort) (node : ℕ) (a : Checked) → SortAt s (getD index node 0) found
+      → a ≡ checkedAs (check (sameSort found wanted) (WrongSort at) (got tt)) → SortsChecked s index at (child wanted node ∷ []) a
+  unfolding all fieldSorted fieldInRange
+  child-checked wanted found node a there e =
+      record {
+        isChecked = λ vs arrs ns leads ranged.
+            let below = ltb-true node (length ns) (all-head (fieldInRange vs arrs (length ns)) (child wanted node) [] ranged) in
+            let same : found ≡ sortOf (getD ns node Skip) = there .isSort (getD ns node Skip) (leads .decoded node below) in
+            rw (and-true, ← same) e;
+      }
+
+  module _ (f : Field) (fs : List Field) where
+    -- a field that fails refuses them all
+    pub sorts-refused : (x : Refusal) → SortsChecked s index at (f ∷ []) (Refused x) → SortsChecked s index at (f ∷ fs) (Refused x)
+    unfolding all
+    sorts-refused x h =
+        record {
+          isChecked = λ vs arrs ns leads ranged.
+              let range = fieldInRange vs arrs (length ns) in
+              first-fails x (WrongSort at) (all (fieldSorted ns) fs) (fieldSorted ns f) (h .isChecked vs arrs ns leads (all-cons range f [] (all-head range f fs ranged) refl));
+        }
+
+    -- a field that passes leaves it to the others
+    pub sorts-passed : (a : Checked) → SortsChecked s index at (f ∷ []) Passed → SortsChecked s index at fs a → SortsChecked s index at (f ∷ fs) a
+    unfolding all
+    sorts-passed a h rest =
+        record {
+          isChecked = λ vs arrs ns leads ranged.
+              let range = fieldInRange vs arrs (length ns) in
+              first-passes a (WrongSort at) (fieldSorted ns f) (all (fieldSorted ns) fs)
+              (h .isChecked vs arrs ns leads (all-cons range f [] (all-head range f fs ranged) refl))
+              (rest .isChecked vs arrs ns leads (all-tail range f fs ranged));
+        }
+
+-- ---- fields and the words after them
+module _ (test : Field → Bool) (words : test (word 0) ≡ true) where
+  -- a test that words pass holds of padded fields where it holds of the fields
+  pub padded-all : (count : ℕ) (fs : List Field) → all test (padded count fs) ≡ all test fs
+  unfolding all
+  padded-all zero fs = refl
+  padded-all (suc count) [] = rw (words, padded-all count [])
+  padded-all (suc count) (f ∷ fs) = rw (padded-all count fs)
+
+-- padded fields name the same children
+pub padded-children : (count : ℕ) (fs : List Field) → flatMap fieldChildren (padded count fs) ≡ flatMap fieldChildren fs
+unfolding flatMap fieldChildren
+padded-children zero fs = refl
+padded-children (suc count) [] = padded-children count []
+padded-children (suc count) (f ∷ fs) = rw (padded-children count fs)
+
+-- ---- what a check says of a node
+module _ (m : Node) where
+  fails : (x r : Refusal) (b : Bool) → Refused x ≡ checkedAs (check b r (got tt)) → NodeRefused x ≡ nodeAs (check b r (got m))
+  unfolding checkedAs nodeAs check
+  fails x r true e = cc
+  fails x r false e = cc
+
+  passes : (r : Refusal) (b : Bool) → Passed ≡ checkedAs (check b r (got tt)) → NodeGot m ≡ nodeAs (check b r (got m))
+  unfolding checkedAs nodeAs check
+  passes r true e = refl
+  passes r false e = cc
+
+-- ---- a node's record, read with an index of the nodes before
+module _ (s index : List ℕ) (vs arrs n at : ℕ) where
+  -- of no kind
+  pub unknown-read : (x : Refusal) → decodeAt s at ≡ Unknown → framed s at 0 (got Skip) ≡ refused x → NodeChecked s index vs arrs n at (NodeRefused x)
+  unfolding nodeAs
+  unknown-read x d e = record { isRead = λ before counted leads nodes. sym (ap nodeAs (node-unknown s at (record { variables = vs; arrays = arrs; nodes = nodes }) before d ∙ e)) }
+
+  module _ (m : Node) (d : decodeAt s at ≡ Known m) where
+    -- of a kind, but its frame is refused
+    pub frame-refused-read : (x : Refusal) → checkedAs (framed s at (sizeOf m) (got tt)) ≡ Refused x → NodeChecked s index vs arrs n at (NodeRefused x)
+    unfolding nodeAs
+    frame-refused-read x e =
+        record {
+          isRead = λ before counted leads nodes.
+              sym (ap nodeAs (node-known s at (record { variables = vs; arrays = arrs; nodes = nodes }) before m d ∙ framed-refused s at (sizeOf m) _ x e));
+        }
+
+    module _ (e : checkedAs (framed s at (sizeOf m) (got tt)) ≡ Passed) (fs : List Field) (f : fs ≡ padded 3 (form m .fields)) where
+      range-same : all (fieldInRange vs arrs n) fs ≡ inRange vs arrs n m
+      unfolding inRange fieldInRange
+      range-same = rw f (padded-all (fieldInRange vs arrs n) refl 3 (form m .fields))
+
+      sorts-same : (before : List Node) → all (fieldSorted before) fs ≡ sorted before m
+      unfolding sorted fieldSorted
+      sorts-same before = rw f (padded-all (fieldSorted before) refl 3 (form m .fields))
+
+      -- what is read depends on its fields
+      framed-read : (before : List Node) → length before ≡ n → (nodes : ℕ)
+          → readNode (record { variables = vs; arrays = arrs; nodes = nodes }) s at before
+          ≡ check (all (fieldInRange vs arrs n) fs) (OutOfRange at) (check (all (fieldSorted before) fs) (WrongSort at) (got m))
+      framed-read before counted nodes =
+          node-known s at (record { variables = vs; arrays = arrs; nodes = nodes }) before m d
+          ∙ framed-passed-on s at (sizeOf m) _ e
+          ∙ rw (counted, range-same, sorts-same before)
+
+      -- a field out of range refuses the record
+      pub range-refused-read : all (fieldInRange vs arrs n) fs ≡ false → NodeChecked s index vs arrs n at (NodeRefused (OutOfRange at))
+      unfolding nodeAs check
+      range-refused-read out =
+          record {
+            isRead = λ before counted leads nodes.
+                let refuses : readNode (record { variables = vs; arrays = arrs; nodes = nodes }) s at before ≡ refused (OutOfRange at) = framed-read before counted nodes ∙ rw out in
+                sym (ap nodeAs refuses);
+          }
+
+      module _ (within : all (fieldInRange vs arrs n) fs ≡ true) where
+        ranged-read : (before : List Node) → length before ≡ n → (nodes : ℕ)
+            → readNode (record { variables = vs; arrays = arrs; nodes = nodes }) s at before ≡ check (all (fieldSorted before) fs) (WrongSort at) (got m)
+        unfolding check
+        ranged-read before counted nodes = framed-read before counted nodes ∙ rw within
+
+        sorted-as : (a : Checked) → SortsChecked s index at fs a → (before : List Node) → length before ≡ n → Leads s index before
+            → a ≡ checkedAs (check (all (fieldSorted before) fs) (WrongSort at) (got tt))
+        sorted-as a h before counted leads = h .isChecked vs arrs before leads (rw counted within)
+
+        -- a child is of the wrong sort
+        pub sort-refused-read : (x : Refusal) → SortsChecked s index at fs (Refused x) → NodeChecked s index vs arrs n at (NodeRefused x)
+        sort-refused-read x h =
+            record {
+              isRead = λ before counted leads nodes.
+                  fails m x (WrongSort at) (all (fieldSorted before) fs) (sorted-as (Refused x) h before counted leads)
+                  ∙ sym (ap nodeAs (ranged-read before counted nodes));
+            }
+
+        -- the record is a node's
+        pub node-got-read : SortsChecked s index at fs Passed → NodeChecked s index vs arrs n at (NodeGot m)
+        node-got-read h =
+            record {
+              isRead = λ before counted leads nodes.
+                  passes m (WrongSort at) (all (fieldSorted before) fs) (sorted-as Passed h before counted leads)
+                  ∙ sym (ap nodeAs (ranged-read before counted nodes));
+            }

@@ -1,0 +1,192 @@
+-- Walking the node records: what is left to read from here is what is to be read of all nodes.
+use Prim.Native.Nat.{ℕ, suc, _+_, _-_, _*_, _≤_, _<_}
+use native.Mathlib.Omega.{arith}
+use mathlib.Core.Bool.{Bool, true, false}
+use mathlib.Core.Path.{_≡_, refl, ap, _∙_}
+use mathlib.Core.List.{List, [], _∷_, _++_, map, map-append, flatMap, append-nil}
+use lib.ListN.{length, getD, set, take, length-append, List·getD-append}
+use lib.Seq.{getD-set-same, getD-set-other, getD-at, take-append-le, take-at}
+use lib.Dec.{ltb}
+use borrow.Author.Tests.{ltb-true, ltb-false}
+use Rattle.bytes_le.proofs.Numbers.{Below}
+use Rattle.awhile.specs.Lists.{sum, all, occurrences}
+use Rattle.awhile.specs.Refusals.{Answer, refused, got}
+use Rattle.awhile.specs.Nodes.{Field, form, sizeOf, decodeAt, fieldInRange, inRange, fieldChildren, childrenOf}
+use Rattle.awhile.specs.Tables.{Header, maxNodes, nodesStart, readNode, readNodes, usesOf}
+use Rattle.reader.specs.Reader.{nodeAs, padded, tally, allBelow, CountsBelow, Kept, NodeChecked, NodesWalked, ended}
+use Rattle.awhile.proofs.Lists.{sum-append, occurrences-append, flatMap-append}
+use Rattle.awhile.proofs.Cases.{nodes-next, nodes-refused}
+use Rattle.awhile.proofs.Records.{sizes-most}
+use Rattle.awhile.proofs.Accepted.{NodeRead, node-read}
+use Rattle.reader.proofs.Sorting.{padded-all, padded-children}
+use Rattle.reader.proofs.Tally.{getD-tally, occurrences-most, fields-children, fields-below, below-weaken}
+use Rattle.awhile.specs.declared.Node.{Node}
+use Rattle.awhile.specs.declared.Node.the-variants.{Skip}
+use Rattle.awhile.specs.declared.Decoded.the-variants.{Known}
+use Rattle.awhile.specs.declared.Refusal.{Refusal}
+use Rattle.reader.specs.declared.walk.NodeRead.the-variants.{Refused as NodeRefused, Node as NodeGot}
+use Rattle.reader.specs.declared.walk.NodesRead.the-variants.{Nodes as NodesGot}
+
+-- a node that the reader hands on was read, and so was a refusal
+node-got : (a : Answer Node) (n : Node) → NodeGot n ≡ nodeAs a → a ≡ got n
+unfolding nodeAs
+node-got (refused r) n e = cc
+node-got (got m) n e = cc
+
+node-not-got : (a : Answer Node) (r : Refusal) → NodeRefused r ≡ nodeAs a → a ≡ refused r
+unfolding nodeAs
+node-not-got (refused q) r e = cc
+node-not-got (got m) r e = cc
+
+-- ---- what is kept of one node more
+module _ (ns : List Node) (m : Node) where
+  -- the nodes before are those that they were
+  before-same : (i : ℕ) → i < length ns → getD (ns ++ (m ∷ [])) i Skip ≡ getD ns i Skip
+  before-same i below = List·getD-append ns (m ∷ []) Skip i below
+
+  uses-more : (n : ℕ) → usesOf (ns ++ (m ∷ [])) n ≡ usesOf ns n + occurrences n (childrenOf m)
+  unfolding usesOf flatMap
+  uses-more n = rw (flatMap-append, occurrences-append, append-nil)
+
+  module _ (s index uses : List ℕ) (start at : ℕ) (k : Kept s index uses start ns) (long : length ns < length index) (place : at ≡ start + sum (map sizeOf ns)) where
+    index-before : (i : ℕ) → i < length ns → getD (set index (length ns) at) i 0 ≡ getD index i 0
+    index-before i below = getD-set-other index (length ns) i at 0 (λ e. omega arith)
+
+    index-here : getD (set index (length ns) at) (length ns) 0 ≡ at
+    index-here = getD-set-same index (length ns) at 0 long
+
+    leads-more : decodeAt s at ≡ Known m → (i : ℕ) → i < length (ns ++ (m ∷ [])) → decodeAt s (getD (set index (length ns) at) i 0) ≡ Known (getD (ns ++ (m ∷ [])) i Skip)
+    leads-more d i inside = go (ltb i (length ns)) refl
+      where
+        go : (b : Bool) → ltb i (length ns) ≡ b → decodeAt s (getD (set index (length ns) at) i 0) ≡ Known (getD (ns ++ (m ∷ [])) i Skip)
+        go true e =
+            let below = ltb-true i (length ns) e in
+            rw (index-before i below, before-same i below) (k .leads .decoded i below)
+        go false e =
+            let last : i ≡ length ns = omega (arith, ltb-false i (length ns) e, length-append ns (m ∷ [])) in
+            rw (last, index-here, getD-at ns m [] Skip (length ns) refl) d
+
+    offsets-more : (i : ℕ) → i < length (ns ++ (m ∷ [])) → getD (set index (length ns) at) i 0 ≡ start + sum (map sizeOf (take i (ns ++ (m ∷ []))))
+    offsets-more i inside = go (ltb i (length ns)) refl
+      where
+        go : (b : Bool) → ltb i (length ns) ≡ b → getD (set index (length ns) at) i 0 ≡ start + sum (map sizeOf (take i (ns ++ (m ∷ []))))
+        go true e =
+            let below = ltb-true i (length ns) e in
+            rw (index-before i below, take-append-le i ns (m ∷ []) (omega arith)) (k .offsets i below)
+        go false e =
+            let last : i ≡ length ns = omega (arith, ltb-false i (length ns) e, length-append ns (m ∷ [])) in
+            rw (last, index-here, take-at ns (m ∷ []) (length ns) refl) place
+
+    -- what is kept of one node more
+    pub kept-more : (cs : List ℕ) → cs ≡ childrenOf m → allBelow (length uses) cs ≡ true → decodeAt s at ≡ Known m
+        → Kept s (set index (length ns) at) (tally uses cs) start (ns ++ (m ∷ []))
+    kept-more cs same below d =
+        record {
+          leads = record { decoded = leads-more d };
+          offsets = offsets-more;
+          used = λ n. getD-tally cs uses n below ∙ rw (same, uses-more n, k .used n);
+        }
+
+-- ---- the walk
+module _ (s : List ℕ) (vs arrs nodes : ℕ) where
+  abbrev header : Header
+  header = record { variables = vs; arrays = arrs; nodes = nodes }
+
+  -- after n nodes, at an offset
+  pub record NodesLeft (index uses : List ℕ) (at n : ℕ) : Type 0 where
+    pub before : List Node
+    pub counted : length before ≡ n
+    pub same : readNodes nodes header s (nodesStart arrs) [] ≡ readNodes (nodes - n) header s at before
+    pub place : at ≡ nodesStart arrs + sum (map sizeOf before)
+    pub kept : Kept s index uses (nodesStart arrs) before
+    pub children : length (flatMap childrenOf before) ≤ 3 * n
+    pub few : n ≤ nodes
+
+  -- before the first node nothing is kept
+  pub nodes-start : (index uses : List ℕ) → CountsBelow 1 uses → NodesLeft index uses (nodesStart arrs) 0
+  unfolding sum usesOf occurrences flatMap
+  nodes-start index uses none =
+      record {
+        before = [];
+        counted = refl;
+        same = ap (λ k. readNodes k header s (nodesStart arrs) []) (omega arith);
+        place = omega arith;
+        kept =
+            record {
+              leads = record { decoded = λ i inside. absurd (omega arith) };
+              offsets = λ i inside. absurd (omega arith);
+              used = λ n. omega (arith, none .each n);
+            };
+        children = omega arith;
+        few = omega arith;
+      }
+
+  module _ (index uses : List ℕ) (at n : ℕ) (h : NodesLeft index uses at n) where
+    -- the offset is small
+    pub offset-small : at ≤ nodesStart arrs + 10 * n
+    offset-small = omega (arith, h .place, h .counted, sizes-most (h .before))
+
+    -- the counts are small
+    pub uses-small : nodes ≤ maxNodes → CountsBelow 65533 uses
+    unfolding usesOf
+    uses-small limit =
+        record { each = λ k. omega (arith, h .kept .used k, occurrences-most k (flatMap childrenOf (h .before)), h .children, h .few) }
+
+    module _ (more : n < nodes) where
+      next : nodes - n ≡ suc (nodes - (n + 1))
+      next = omega arith
+
+      -- a refused record refuses them all
+      pub nodes-stop : (x : Refusal) → NodeChecked s index vs arrs n at (NodeRefused x) → readNodes nodes header s (nodesStart arrs) [] ≡ refused x
+      nodes-stop x c =
+          let e = node-not-got (readNode header s at (h .before)) x (c .isRead (h .before) (h .counted) (h .kept .leads) nodes) in
+          h .same ∙ ap (λ k. readNodes k header s at (h .before)) next ∙ nodes-refused s at header (h .before) (nodes - (n + 1)) x e
+
+      module _ (bytes : Below 256 s) (m : Node) (c : NodeChecked s index vs arrs n at (NodeGot m)) (fs : List Field) (f : fs ≡ padded 3 (form m .fields)) where
+        was-read : readNode header s at (h .before) ≡ got m
+        was-read = node-got (readNode header s at (h .before)) m (c .isRead (h .before) (h .counted) (h .kept .leads) nodes)
+
+        known : NodeRead s bytes header at (h .before) m
+        known = node-read s bytes header at (h .before) m was-read
+
+        same-children : flatMap fieldChildren fs ≡ childrenOf m
+        unfolding childrenOf
+        same-children = rw f (padded-children 3 (form m .fields))
+
+        -- its children are among the nodes before it
+        pub children-inside : (bound : ℕ) → nodes ≤ bound → allBelow bound (flatMap fieldChildren fs) ≡ true
+        unfolding inRange fieldInRange
+        children-inside bound wide =
+            let ranged : all (fieldInRange vs arrs n) fs ≡ true =
+            rw (f, padded-all (fieldInRange vs arrs n) refl 3 (form m .fields)) (rw (h .counted) at (known .fits .ranged)) in
+            below-weaken n bound (flatMap fieldChildren fs) (omega arith) (fields-below vs arrs n fs ranged)
+
+        -- a record that was read is one node more
+        pub nodes-more : nodes ≤ length index → nodes ≤ length uses → length fs ≤ 3
+            → NodesLeft (set index n at) (tally uses (flatMap fieldChildren fs)) (at + sizeOf m) (n + 1)
+        unfolding sum flatMap
+        nodes-more longIndex longUses three =
+            record {
+              before = h .before ++ (m ∷ []);
+              counted = length-append (h .before) (m ∷ []) ∙ omega (arith, h .counted);
+              same =
+                  h .same
+                  ∙ ap (λ k. readNodes k header s at (h .before)) next
+                  ∙ nodes-next s at header (h .before) (nodes - (n + 1)) m was-read;
+              place = rw (map-append, sum-append) (omega (arith, h .place));
+              kept =
+                  rw (← h .counted)
+                  (kept-more (h .before) m s index uses (nodesStart arrs) at (h .kept) (omega (arith, h .counted)) (h .place)
+                  (flatMap fieldChildren fs) same-children (children-inside (length uses) longUses) (known .there .decoded));
+              children =
+                  rw (flatMap-append, length-append, append-nil, ← same-children)
+                  (omega (arith, h .children, fields-children fs));
+              few = omega arith;
+            }
+
+    -- with none left all were read
+    pub nodes-done : nodes ≤ n → NodesWalked s vs arrs nodes index uses (NodesGot at)
+    unfolding readNodes
+    nodes-done all-read =
+        let none : nodes - n ≡ 0 = omega arith in
+        ended (h .before) (h .same ∙ ap (λ k. readNodes k header s at (h .before)) none) (omega (arith, h .counted, h .few)) (ap NodesGot (h .place)) (h .kept)

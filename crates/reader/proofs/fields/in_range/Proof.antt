@@ -1,0 +1,39 @@
+-- `in_range` tests one field after the other.
+use borrow.Author.Tests.{not-true, not-false}
+use mathlib.Core.Bool.{and-true}
+use Rattle.awhile.specs.Lists.{all}
+use borrow.Author.Needs.{needs}
+use Rattle.reader.proofs.fields.in_range.Statement.{statement}
+use Rattle.reader.proofs.fields.in_range.Tie as tie
+
+field-in-range-requires : tie.Need-field-in-range-requires
+field-in-range-requires c κs = search needs
+
+returns : tie.Need-returns
+unfolding all
+returns c = rw (← c .before .field-in-range .ensures, not-true (c .before .field-in-range .result) (c .if1 .taken))
+
+field-in-range-requires-2 : tie.Need-field-in-range-requires-2
+field-in-range-requires-2 c κs = search needs
+
+returns-2 : tie.Need-returns-2
+unfolding all
+returns-2 c = rw (← c .before .before .before .field-in-range .ensures, not-false (c .before .before .before .field-in-range .result) (c .before .before .if1 .left), ← c .before .field-in-range2 .ensures, not-true (c .before .field-in-range2 .result) (c .if2 .taken))
+
+field-in-range-requires-3 : tie.Need-field-in-range-requires-3
+field-in-range-requires-3 c κs = search needs
+
+returns-3 : tie.Need-returns-3
+unfolding all
+returns-3 c = rw (← c .before .before .before .before .field-in-range .ensures, not-false (c .before .before .before .before .field-in-range .result) (c .before .before .before .if1 .left), ← c .before .before .field-in-range2 .ensures, not-false (c .before .before .field-in-range2 .result) (c .before .if2 .left), ← c .field-in-range3 .ensures, and-true)
+
+pub in-range-spec : {M : Type 1} → statement M
+in-range-spec =
+    tie.close
+    (tie.spec
+    field-in-range-requires
+    returns
+    field-in-range-requires-2
+    returns-2
+    field-in-range-requires-3
+    returns-3)

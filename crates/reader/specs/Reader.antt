@@ -1,0 +1,143 @@
+-- What the parts of the reader answer, given what the definitions of reading do.
+use Prim.Native.Nat.{ℕ, zero, suc, _+_, _-_, _<_}
+use mathlib.Core.Bool.{Bool, true, false}
+use mathlib.Core.Path.{_≡_}
+use lib.ListN.{length, getD, set, take}
+use lib.Dec.{ltb}
+use mathlib.Core.List.{List, [], _∷_, map}
+use Rattle.awhile.specs.Lists.{sum, all}
+use Rattle.awhile.specs.Refusals.{Answer, refused, got, check}
+use Rattle.awhile.specs.Nodes.{Field, word, constant, variable, array, child, sizeOf, sortOf, decodeAt, fieldInRange, fieldSorted}
+use Rattle.awhile.specs.Tables.{Header, nodesStart, readNode, readNodes, usesOf, inOrder, allInOrder}
+use Rattle.reader.specs.declared.checks.Checked.{Checked}
+use Rattle.reader.specs.declared.checks.Checked.the-variants.{Refused as CheckRefused, Passed}
+use Rattle.reader.specs.declared.declarations.HeaderRead.{HeaderRead}
+use Rattle.reader.specs.declared.declarations.HeaderRead.the-variants.{Refused as HeaderRefused, Header as HeaderGot}
+use Rattle.reader.specs.declared.declarations.LabelsRead.{LabelsRead}
+use Rattle.reader.specs.declared.declarations.LabelsRead.the-variants.{Refused as LabelsRefused, Labels as LabelsGot}
+use Rattle.reader.specs.declared.declarations.CountRead.{CountRead}
+use Rattle.reader.specs.declared.declarations.CountRead.the-variants.{Refused as CountRefused, Count as CountGot}
+use Rattle.reader.specs.declared.declarations.CellsRead.{CellsRead}
+use Rattle.reader.specs.declared.declarations.CellsRead.the-variants.{Refused as CellsRefused, Cells as CellsGot}
+use Rattle.awhile.specs.declared.Labelling.{Labelling}
+use Rattle.awhile.specs.declared.Sort.{Sort}
+use Rattle.awhile.specs.declared.Node.{Node}
+use Rattle.awhile.specs.declared.Node.the-variants.{Skip}
+use Rattle.awhile.specs.declared.Decoded.the-variants.{Known}
+use Rattle.awhile.specs.declared.Refusal.the-variants.{WrongSort}
+use Rattle.awhile.specs.declared.Refusal.{Refusal}
+use Rattle.reader.specs.declared.uses.Broken.{Broken}
+use Rattle.reader.specs.declared.uses.Broken.the-variants.{At, Nowhere}
+use Rattle.reader.specs.declared.walk.NodesRead.{NodesRead}
+use Rattle.reader.specs.declared.walk.NodesRead.the-variants.{Refused as NodesRefused, Nodes as NodesGot}
+use Rattle.reader.specs.declared.walk.NodeRead.{NodeRead}
+use Rattle.reader.specs.declared.walk.NodeRead.the-variants.{Refused as NodeRefused, Node as NodeGot}
+use Rattle.reader.specs.declared.fields.Field.{Field as FieldRead}
+use Rattle.reader.specs.declared.fields.Field.the-variants.{Word, Constant, Variable, Array, Child}
+use Rattle.reader.specs.declared.fields.Fields.{Fields}
+
+-- a check that passes or refuses
+unfoldable pub checkedAs : Answer (Unit {0}) → Checked
+checkedAs (refused r) = CheckRefused r
+checkedAs (got w) = Passed
+
+-- the header
+unfoldable pub headerAs : Answer Header → HeaderRead
+headerAs (refused r) = HeaderRefused r
+headerAs (got h) = HeaderGot (h .variables) (h .arrays) (h .nodes)
+
+-- the labels record
+unfoldable pub labelsAs : Answer Labelling → LabelsRead
+labelsAs (refused r) = LabelsRefused r
+labelsAs (got l) = LabelsGot l
+
+-- one array record
+unfoldable pub countAs : Answer ℕ → CountRead
+countAs (refused r) = CountRefused r
+countAs (got n) = CountGot n
+
+-- of the cell counts the reader keeps their sum
+unfoldable pub cellsAs : Answer (List ℕ) → CellsRead
+cellsAs (refused r) = CellsRefused r
+cellsAs (got ns) = CellsGot (sum ns)
+
+-- ---- the fields of a record
+-- the field that the code's field is
+abbrev pub fieldOf : FieldRead → Field
+fieldOf (Word n) = word n
+fieldOf (Constant n) = constant n
+fieldOf (Variable x) = variable x
+fieldOf (Array a) = array a
+fieldOf (Child s n) = child s n
+
+-- the three fields that the code has of a record
+abbrev pub fieldsOf : Fields → List Field
+fieldsOf fs = fieldOf (fs .first) ∷ fieldOf (fs .second) ∷ fieldOf (fs .third) ∷ []
+
+-- fields with words 0 after them, up to a number: of a word nothing is asked
+abbrev pub padded : (count : ℕ) → List Field → List Field
+padded zero fs = fs
+padded (suc count) [] = word 0 ∷ padded count []
+padded (suc count) (f ∷ fs) = f ∷ padded count fs
+
+-- ---- the nodes
+-- one node record
+unfoldable pub nodeAs : Answer Node → NodeRead
+nodeAs (refused r) = NodeRefused r
+nodeAs (got n) = NodeGot n
+
+-- the sort of the node that the record at an offset decodes to
+pub record SortAt (s : List ℕ) (at : ℕ) (r : Sort) : Type 0 where
+  pub isSort : (n : Node) → decodeAt s at ≡ Known n → r ≡ sortOf n
+
+-- the offsets of an index lead to the records of these nodes
+pub record Leads (s index : List ℕ) (ns : List Node) : Type 0 where
+  pub decoded : (i : ℕ) → i < length ns → decodeAt s (getD index i 0) ≡ Known (getD ns i Skip)
+
+-- whether the children that fields name are of the wanted sorts, by an index of the nodes before
+pub record SortsChecked (s index : List ℕ) (at : ℕ) (fs : List Field) (r : Checked) : Type 0 where
+  pub isChecked : (vs arrs : ℕ) (ns : List Node) → Leads s index ns → all (fieldInRange vs arrs (length ns)) fs ≡ true
+      → r ≡ checkedAs (check (all (fieldSorted ns) fs) (WrongSort at) (got tt))
+
+-- what reading the next node answers, by an index of the nodes before
+pub record NodeChecked (s index : List ℕ) (vs arrs n at : ℕ) (r : NodeRead) : Type 0 where
+  pub isRead : (before : List Node) → length before ≡ n → Leads s index before
+      → (nodes : ℕ) → r ≡ nodeAs (readNode (record { variables = vs; arrays = arrs; nodes = nodes }) s at before)
+
+-- ---- how often a node is a child
+-- counts with one more for each of these numbers
+unfoldable pub tally : List ℕ → List ℕ → List ℕ
+tally counts [] = counts
+tally counts (n ∷ ns) = tally (set counts n (getD counts n 0 + 1)) ns
+
+-- every number is below a bound
+unfoldable pub allBelow : (bound : ℕ) → List ℕ → Bool
+allBelow bound ns = all (λ n. ltb n bound) ns
+
+-- every count is below a bound
+pub record CountsBelow (bound : ℕ) (counts : List ℕ) : Type 0 where
+  pub each : (n : ℕ) → getD counts n 0 < bound
+
+-- ---- all nodes
+-- what was kept of nodes that were read: offsets that lead to their records, and how often each number is a child
+pub record Kept (s index uses : List ℕ) (start : ℕ) (ns : List Node) : Type 0 where
+  pub leads : Leads s index ns
+  pub offsets : (i : ℕ) → i < length ns → getD index i 0 ≡ start + sum (map sizeOf (take i ns))
+  pub used : (n : ℕ) → getD uses n 0 ≡ usesOf ns n
+
+-- what walking all node records answers and keeps
+pub data NodesWalked (s : List ℕ) (vs arrs nodes : ℕ) (index uses : List ℕ) (r : NodesRead) : Type 0 where
+  stopped : (x : Refusal) → readNodes nodes (record { variables = vs; arrays = arrs; nodes = nodes }) s (nodesStart arrs) [] ≡ refused x
+      → r ≡ NodesRefused x → NodesWalked s vs arrs nodes index uses r
+  ended : (ns : List Node) → readNodes nodes (record { variables = vs; arrays = arrs; nodes = nodes }) s (nodesStart arrs) [] ≡ got ns
+      → length ns ≡ nodes → r ≡ NodesGot (nodesStart arrs + sum (map sizeOf ns)) → Kept s index uses (nodesStart arrs) ns → NodesWalked s vs arrs nodes index uses r
+
+-- ---- the nodes as one tree
+-- a node that is not in order, or that all are
+abbrev pub OrderFound : List Node → Broken → Type 0
+OrderFound ns (At n) = (n < length ns) × (inOrder ns n ≡ false)
+OrderFound ns Nowhere = allInOrder ns (length ns) ≡ true
+
+-- what looking through the counts finds, where they are those of nodes and the root's sort is the last node's
+pub record OrderSearched (uses : List ℕ) (nodes : ℕ) (root : Sort) (r : Broken) : Type 0 where
+  pub found : (ns : List Node) → length ns ≡ nodes → ((n : ℕ) → getD uses n 0 ≡ usesOf ns n) → sortOf (getD ns (nodes - 1) Skip) ≡ root → OrderFound ns r

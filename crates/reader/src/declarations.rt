@@ -1,0 +1,160 @@
+// The declarations of a table: header, labels and arrays.
+ghost use Prim.Native.Nat.{ℕ, _+_, _^_, _<_, _≤_};
+ghost use mathlib.Core.Path.{_≡_};
+ghost use mathlib.Core.Bool.{_&&_};
+ghost use mathlib.Core.List.{[]};
+ghost use lib.Dec.{eqb, ltb, leb};
+ghost use Rattle.awhile.specs.Tables.{maxVariables, maxArrays, maxNodes, maxCells, readHeader, readLabels, readCount, readCounts};
+ghost use Rattle.reader.specs.Reader.{headerAs, labelsAs, countAs, cellsAs};
+use crate::checks;
+use crate::checks::Checked;
+use awhile::Labelling;
+use awhile::MAX_ARRAYS;
+use awhile::MAX_CELLS;
+use awhile::MAX_NODES;
+use awhile::MAX_VARIABLES;
+use awhile::Refusal;
+use bytes_le::get;
+
+// What reading the header answers.
+pub enum HeaderRead {
+    Refused {
+        refusal: Refusal,
+    },
+    Header {
+        variables: usize,
+        arrays: usize,
+        nodes: usize,
+    },
+}
+
+// Version, variables, arrays and nodes are within the limits.
+fn within_limits(version: usize, variables: usize, arrays: usize, nodes: usize) -> bool
+    ensures { λ r. ⌜ r ≡ (eqb version 1 && leb variables maxVariables && leb arrays maxArrays && ltb 0 nodes && leb nodes maxNodes) ⌝ }
+{
+    if version != 1 {
+        return false;
+    }
+    if MAX_VARIABLES < variables {
+        return false;
+    }
+    if MAX_ARRAYS < arrays {
+        return false;
+    }
+    if nodes == 0 {
+        return false;
+    }
+    nodes <= MAX_NODES
+}
+
+// The header: version, variables, arrays and nodes.
+pub fn read_header(table: &[u8]) -> HeaderRead
+    ensures { λ r. ⌜ r ≡ headerAs (readHeader (now (table .entry))) ⌝ }
+{
+    if let Checked::Refused { refusal } = checks::frame_of_kind(table, 0, 1, 10) {
+        return HeaderRead::Refused { refusal };
+    }
+    let version = get::u16_at(table, 4);
+    let variables = get::byte_at(table, 6);
+    let arrays = get::byte_at(table, 7);
+    let nodes = get::u16_at(table, 8);
+    if within_limits(version, variables, arrays, nodes) {
+        return HeaderRead::Header {
+            variables,
+            arrays,
+            nodes,
+        };
+    }
+    HeaderRead::Refused {
+        refusal: Refusal::BeyondLimit { at: 0 },
+    }
+}
+
+// What reading the labels record answers.
+pub enum LabelsRead {
+    Refused { refusal: Refusal },
+    Labels { labels: Labelling },
+}
+
+// No mark of a mask stands at a number from a width up.
+fn mask_fits(mask: u64, width: usize) -> bool
+    requires { ⌜ width < 64 ⌝ }
+    ensures { λ r. ⌜ r ≡ ltb mask (2 ^ width) ⌝ }
+{
+    mask >> width == 0
+}
+
+// The labels record: no mark beyond the variables and arrays that there are.
+pub fn read_labels(table: &[u8], variables: usize, arrays: usize) -> LabelsRead
+    requires { ⌜ (variables ≤ maxVariables) × (arrays ≤ maxArrays) ⌝ }
+    ensures { λ r. ⌜ ((nodes : ℕ) → r ≡ labelsAs (readLabels (now (table .entry)) (record { variables = variables; arrays = arrays; nodes = nodes }))) ⌝ }
+{
+    if let Checked::Refused { refusal } = checks::frame_of_kind(table, 10, 3, 10) {
+        return LabelsRead::Refused { refusal };
+    }
+    let variable_mask = get::u32_at(table, 14) as u64;
+    let array_mask = get::u16_at(table, 18);
+    if mask_fits(variable_mask, variables) {
+        if mask_fits(array_mask as u64, arrays) {
+            return LabelsRead::Labels {
+                labels: Labelling {
+                    variables: variable_mask,
+                    arrays: array_mask as u16,
+                },
+            };
+        }
+    }
+    LabelsRead::Refused {
+        refusal: Refusal::BeyondLimit { at: 10 },
+    }
+}
+
+// What reading one array record answers.
+pub enum CountRead {
+    Refused { refusal: Refusal },
+    Count { count: usize },
+}
+
+// One array record, after arrays with so many cells.
+fn read_count(table: &[u8], at: usize, before: usize) -> CountRead
+    requires { ⌜ (at + 6 < 2 ^ 64) × (before ≤ maxCells) ⌝ }
+    ensures { λ r. ⌜ r ≡ countAs (readCount (now (table .entry)) at before) ⌝ }
+{
+    if let Checked::Refused { refusal } = checks::frame_of_kind(table, at, 2, 6) {
+        return CountRead::Refused { refusal };
+    }
+    let count = get::u16_at(table, at + 4);
+    if 0 < count {
+        if before + count <= MAX_CELLS {
+            return CountRead::Count { count };
+        }
+    }
+    CountRead::Refused {
+        refusal: Refusal::BeyondLimit { at },
+    }
+}
+
+// What reading all array records answers: how many cells they declare.
+pub enum CellsRead {
+    Refused { refusal: Refusal },
+    Cells { cells: usize },
+}
+
+// All array records: how many cells they declare.
+pub fn read_counts(table: &[u8], arrays: usize) -> CellsRead
+    requires { ⌜ arrays ≤ maxArrays ⌝ }
+    ensures { λ r. ⌜ r ≡ cellsAs (readCounts arrays (now (table .entry)) 20 []) ⌝ }
+{
+    let mut at = 20;
+    let mut left = arrays;
+    let mut cells = 0;
+    while 0 < left {
+        match read_count(table, at, cells) {
+            CountRead::Refused { refusal } => return CellsRead::Refused { refusal },
+            CountRead::Count { count } => cells += count,
+        }
+        at += 6;
+        left -= 1;
+    }
+    CellsRead::Cells { cells }
+}

@@ -1,0 +1,126 @@
+// A node's record: what it decodes to, how long it is, and what it stands for.
+ghost use Prim.Native.Nat.{_+_, _^_, _<_};
+ghost use mathlib.Core.Path.{_≡_};
+ghost use Rattle.awhile.specs.Nodes.{nodeOf, decodeAt, sizeOf, sortOf};
+use awhile::Decoded;
+use awhile::Node;
+use awhile::Sort;
+use bytes_le::get;
+
+// The node of a kind, from the record's first three 2-byte fields and its first 4-byte field.
+pub fn node_of(kind: usize, f: usize, g: usize, h: usize, w: u32) -> Decoded
+    ensures { λ r. ⌜ r ≡ nodeOf kind f g h w ⌝ }
+{
+    let node = match kind {
+        16 => Node::Number { value: w },
+        17 => Node::Variable { variable: f },
+        18 => Node::Add { left: f, right: g },
+        19 => Node::Subtract { left: f, right: g },
+        20 => Node::Multiply { left: f, right: g },
+        21 => Node::Choice {
+            condition: f,
+            yes: g,
+            no: h,
+        },
+        32 => Node::Constant { value: f },
+        33 => Node::Equal { left: f, right: g },
+        34 => Node::Less { left: f, right: g },
+        35 => Node::Not { truth: f },
+        36 => Node::And { left: f, right: g },
+        48 => Node::Skip,
+        49 => Node::Assign {
+            variable: f,
+            value: g,
+        },
+        50 => Node::Sequence {
+            first: f,
+            second: g,
+        },
+        51 => Node::If {
+            condition: f,
+            yes: g,
+            no: h,
+        },
+        52 => Node::While {
+            condition: f,
+            body: g,
+        },
+        53 => Node::Read {
+            variable: f,
+            array: g,
+            index: h,
+        },
+        54 => Node::Write {
+            array: f,
+            index: g,
+            value: h,
+        },
+        _ => return Decoded::Unknown,
+    };
+    Decoded::Known { node }
+}
+
+// What the record at an offset decodes to, whatever its length says. Offsets past the end read as zeros.
+pub fn decode_at(table: &[u8], at: usize) -> Decoded
+    requires { ⌜ at + 8 < 2 ^ 64 ⌝ }
+    ensures { λ r. ⌜ r ≡ decodeAt (now (table .entry)) at ⌝ }
+{
+    let kind = get::u16_at(table, at + 2);
+    let f = get::u16_at(table, at + 4);
+    let g = get::u16_at(table, at + 6);
+    let h = get::u16_at(table, at + 8);
+    let w = get::u32_at(table, at + 4);
+    node_of(kind, f, g, h, w)
+}
+
+// The byte length of a node's record.
+pub fn size_of(node: Node) -> usize
+    ensures { λ r. ⌜ r ≡ sizeOf node ⌝ }
+{
+    match node {
+        Node::Number { .. } => 8,
+        Node::Variable { .. } => 6,
+        Node::Add { .. } => 8,
+        Node::Subtract { .. } => 8,
+        Node::Multiply { .. } => 8,
+        Node::Choice { .. } => 10,
+        Node::Constant { .. } => 6,
+        Node::Equal { .. } => 8,
+        Node::Less { .. } => 8,
+        Node::Not { .. } => 6,
+        Node::And { .. } => 8,
+        Node::Skip => 4,
+        Node::Assign { .. } => 8,
+        Node::Sequence { .. } => 8,
+        Node::If { .. } => 10,
+        Node::While { .. } => 8,
+        Node::Read { .. } => 10,
+        Node::Write { .. } => 10,
+    }
+}
+
+// What a node stands for.
+pub fn sort_of(node: Node) -> Sort
+    ensures { λ r. ⌜ r ≡ sortOf node ⌝ }
+{
+    match node {
+        Node::Number { .. } => Sort::Numeric,
+        Node::Variable { .. } => Sort::Numeric,
+        Node::Add { .. } => Sort::Numeric,
+        Node::Subtract { .. } => Sort::Numeric,
+        Node::Multiply { .. } => Sort::Numeric,
+        Node::Choice { .. } => Sort::Numeric,
+        Node::Constant { .. } => Sort::Truth,
+        Node::Equal { .. } => Sort::Truth,
+        Node::Less { .. } => Sort::Truth,
+        Node::Not { .. } => Sort::Truth,
+        Node::And { .. } => Sort::Truth,
+        Node::Skip => Sort::Command,
+        Node::Assign { .. } => Sort::Command,
+        Node::Sequence { .. } => Sort::Command,
+        Node::If { .. } => Sort::Command,
+        Node::While { .. } => Sort::Command,
+        Node::Read { .. } => Sort::Command,
+        Node::Write { .. } => Sort::Command,
+    }
+}

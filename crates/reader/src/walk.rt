@@ -1,0 +1,185 @@
+// The node records, one after the other.
+ghost use Prim.Native.Nat.{_+_, _^_, _≤_, _<_};
+ghost use mathlib.Core.Path.{_≡_};
+ghost use mathlib.Core.List.{[], _∷_};
+ghost use lib.ListN.{length, getD};
+ghost use Rattle.awhile.specs.Refusals.{refused, got, check};
+ghost use Rattle.awhile.specs.Nodes.{sameSort};
+ghost use Rattle.awhile.specs.Tables.{maxArrays, maxNodes, framed};
+ghost use Rattle.reader.specs.Reader.{checkedAs, fieldOf, fieldsOf, SortAt, SortsChecked, NodeChecked, CountsBelow, NodesWalked};
+ghost use Rattle.awhile.specs.declared.Node.the-variants.{Skip};
+ghost use Rattle.awhile.specs.declared.Refusal.the-variants.{WrongSort};
+use crate::checks;
+use crate::checks::Checked;
+use crate::decode;
+use crate::fields;
+use crate::fields::Field;
+use crate::fields::Fields;
+use crate::reader;
+use crate::uses;
+use awhile::Decoded;
+use awhile::Node;
+use awhile::Refusal;
+use awhile::Sort;
+
+// What reading one node record answers.
+pub enum NodeRead {
+    Refused { refusal: Refusal },
+    Node { node: Node },
+}
+
+// The offset that an index has for a number; 0 past its end.
+pub fn offset_at(index: &[u16], n: usize) -> usize
+    ensures { λ r. ⌜ (r ≡ getD (now (index .entry)) n 0) × (r < 65536) ⌝ }
+{
+    if n < index.len() {
+        index[n] as usize
+    } else {
+        0
+    }
+}
+
+// The sort of the node whose record stands at an offset; of no account where none does.
+pub fn sort_at(table: &[u8], at: usize) -> Sort
+    requires { ⌜ at + 8 < 2 ^ 64 ⌝ }
+    ensures { λ r. ⌜ SortAt (now (table .entry)) at r ⌝ }
+{
+    let Decoded::Known { node } = reader::decoded_at(table, at) else {
+        return Sort::Command;
+    };
+    decode::sort_of(node)
+}
+
+// A child's sort is the wanted one; where it is not, reading stops at the parent's record.
+fn check_sort(sort: Sort, wanted: Sort, at: usize) -> Checked
+    ensures { λ r. ⌜ r ≡ checkedAs (check (sameSort sort wanted) (WrongSort at) (got tt)) ⌝ }
+{
+    match wanted {
+        Sort::Numeric => {
+            let Sort::Numeric = sort else {
+                return Checked::Refused {
+                    refusal: Refusal::WrongSort { at },
+                };
+            };
+        }
+        Sort::Truth => {
+            let Sort::Truth = sort else {
+                return Checked::Refused {
+                    refusal: Refusal::WrongSort { at },
+                };
+            };
+        }
+        Sort::Command => {
+            let Sort::Command = sort else {
+                return Checked::Refused {
+                    refusal: Refusal::WrongSort { at },
+                };
+            };
+        }
+    }
+    Checked::Passed
+}
+
+// A child that a field names is of the wanted sort.
+fn check_field(table: &[u8], index: &[u16], field: Field, at: usize) -> Checked
+    ensures { λ r. ⌜ SortsChecked (now (table .entry)) (now (index .entry)) at (fieldOf field ∷ []) r ⌝ }
+{
+    let Field::Child { sort, node } = field else {
+        return Checked::Passed;
+    };
+    check_sort(sort_at(table, offset_at(index, node)), sort, at)
+}
+
+// All children that the fields name are of the wanted sorts.
+fn check_fields(table: &[u8], index: &[u16], fields: Fields, at: usize) -> Checked
+    ensures { λ r. ⌜ SortsChecked (now (table .entry)) (now (index .entry)) at (fieldsOf fields) r ⌝ }
+{
+    let first = fields.first;
+    let second = fields.second;
+    let third = fields.third;
+    if let Checked::Refused { refusal } = check_field(table, index, first, at) {
+        return Checked::Refused { refusal };
+    }
+    if let Checked::Refused { refusal } = check_field(table, index, second, at) {
+        return Checked::Refused { refusal };
+    }
+    check_field(table, index, third, at)
+}
+
+// Why a record of no kind is refused: its head is cut, or it is the wrong record.
+fn refuse_kind(table: &[u8], at: usize) -> Refusal
+    requires { ⌜ at + 4 < 2 ^ 64 ⌝ }
+    ensures { λ r. ⌜ framed (now (table .entry)) at 0 (got Skip) ≡ refused r ⌝ }
+{
+    if table.len() < at + 4 {
+        Refusal::Cut { at }
+    } else {
+        Refusal::WrongRecord { at }
+    }
+}
+
+// The record of node n, by an index of the nodes before it: its kind and frame, its fields' ranges, its children's sorts.
+fn read_node(
+    table: &[u8],
+    index: &[u16],
+    variables: usize,
+    arrays: usize,
+    n: usize,
+    at: usize,
+) -> NodeRead
+    requires { ⌜ at + 10 < 2 ^ 64 ⌝ }
+    ensures { λ r. ⌜ NodeChecked (now (table .entry)) (now (index .entry)) variables arrays n at r ⌝ }
+{
+    let Decoded::Known { node } = reader::decoded_at(table, at) else {
+        return NodeRead::Refused {
+            refusal: refuse_kind(table, at),
+        };
+    };
+    if let Checked::Refused { refusal } = checks::frame(table, at, decode::size_of(node)) {
+        return NodeRead::Refused { refusal };
+    }
+    let fields = fields::fields_of(node);
+    if !fields::in_range(fields, variables, arrays, n) {
+        return NodeRead::Refused {
+            refusal: Refusal::OutOfRange { at },
+        };
+    }
+    if let Checked::Refused { refusal } = check_fields(table, index, fields, at) {
+        return NodeRead::Refused { refusal };
+    }
+    NodeRead::Node { node }
+}
+
+// What reading all node records answers: where the last one ends.
+pub enum NodesRead {
+    Refused { refusal: Refusal },
+    Nodes { end: usize },
+}
+
+// All node records: their offsets go into the index, and how often each is a child into the counts, which start at 0.
+pub fn read_nodes(
+    table: &[u8],
+    variables: usize,
+    arrays: usize,
+    nodes: usize,
+    index: &mut [u16],
+    uses: &mut [u16],
+) -> NodesRead
+    requires { ⌜ (arrays ≤ maxArrays) × (nodes ≤ maxNodes) × (nodes ≤ length (now index)) × (nodes ≤ length (now uses)) × CountsBelow 1 (now uses) ⌝ }
+    ensures { λ r. ⌜ NodesWalked (now (table .entry)) variables arrays nodes (now (index .exit)) (now (uses .exit)) r ⌝ }
+{
+    let mut at = 20 + 6 * arrays;
+    let mut n = 0;
+    while n < nodes {
+        match read_node(table, &*index, variables, arrays, n, at) {
+            NodeRead::Refused { refusal } => return NodesRead::Refused { refusal },
+            NodeRead::Node { node } => {
+                index[n] = at as u16;
+                uses::count_fields(&mut *uses, fields::fields_of(node));
+                at += decode::size_of(node);
+            }
+        }
+        n += 1;
+    }
+    NodesRead::Nodes { end: at }
+}
