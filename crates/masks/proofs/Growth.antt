@@ -137,10 +137,6 @@ module _ (v : ℕ) where
   index-within false i h = more-A i h
 
   module _ (arrays : ℕ) where
-    flag-within : (b : BExp) → WithinB (v + 1) b → Within (v + 1) arrays (flagIfTrue v b) × Within (v + 1) arrays (flagIfFalse v b)
-    unfolding flagIfTrue flagIfFalse
-    flag-within b h = ((omega arith, (h, omega arith, omega arith)), (omega arith, (h, omega arith, omega arith)))
-
     value-within : (x : ℕ) (mask : Bool) (c : Com Origin) → x < v → Within (v + 1) arrays c → Within (v + 1) arrays (cond mask (sequence none c (maskValueOf v x)) c)
     unfolding maskValueOf
     value-within x true c small h = (h, (omega arith, zero-within (variable x) (omega arith)))
@@ -148,18 +144,16 @@ module _ (v : ℕ) where
 
     -- a hardened program is declared with one variable more than the original
     pub hardened-within : (d : Com Decision) → Within v arrays (programFor d) → Within (v + 1) arrays (harden v d)
-    unfolding harden mapNotes
+    unfolding harden mapNotes flagIfTrue flagIfFalse
     hardened-within (skip n) h = tt
     hardened-within (assign n x e) h = (omega (arith, h .0), more-A e (h .1))
     hardened-within (sequence n c d) h = (hardened-within c (h .0), hardened-within d (h .1))
     hardened-within (if n b c d) h =
         let condition = condition-within (n .maskCondition) b (h .0) in
-        let flags = flag-within (maskedCondition v (n .maskCondition) b) condition in
-        (condition, (flags .0, hardened-within c (h .1)), (flags .1, hardened-within d (h .2)))
+        (condition, ((omega arith, (condition, omega arith, omega arith)), hardened-within c (h .1)), ((omega arith, (condition, omega arith, omega arith)), hardened-within d (h .2)))
     hardened-within (while n b c) h =
         let condition = condition-within (n .maskCondition) b (h .0) in
-        let flags = flag-within (maskedCondition v (n .maskCondition) b) condition in
-        ((condition, (flags .0, hardened-within c (h .1))), flags .1)
+        ((condition, ((omega arith, (condition, omega arith, omega arith)), hardened-within c (h .1))), (omega arith, (condition, omega arith, omega arith)))
     hardened-within (read n x a i) h =
         value-within x (n .maskValue) (read (some (n .node)) x a (maskedIndex v (n .maskIndex) i)) (h .0)
         (omega (arith, h .0), h .1, index-within (n .maskIndex) i (h .2))
