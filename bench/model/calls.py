@@ -7,7 +7,9 @@ SHEET, HARDEN, RUN, GUESS = 1, 2, 3, 4
 NAMES = {SHEET: 'sheet', HARDEN: 'harden', RUN: 'run', GUESS: 'guess'}
 calls = []
 # what a slice holds at entry that an entry only writes
-def filled(length): return [170] * length
+FILL = 170
+def filled(length): return [FILL] * length
+def given(lent): return len(bytes(lent).rstrip(bytes([FILL])))
 def answered(numbers, lent):
     out = []
     for number in numbers:
@@ -23,7 +25,7 @@ def writes(entry, make, table, room, answer, want):
     add(entry, 0, [list(table), []], [[], [], [], filled(room)], numbers, [[], [], [], out], answer, want)
     return numbers, out
 def sheet(table, room, answer=16, want=None, make=model.sheet): return writes(SHEET, make, table, room, answer, want)
-def harden(table, room, answer=16, want=None): return writes(HARDEN, model.hardened, table, room, answer, want)
+def harden(table, room, answer=16, want=None, make=model.hardened): return writes(HARDEN, make, table, room, answer, want)
 def slot(given, size):
     """bytes as they are; a list of words; a number of bytes"""
     if isinstance(given, bytes): return list(given)
@@ -61,7 +63,7 @@ def write_files(folder):
         f.write(bytes(le(4, len(calls))))
         for entry, budget, before, _, _ in calls:
             f.write(bytes(le(4, entry) + le(4, budget)))
-            for lent in before: f.write(bytes(le(4, len(lent)) + lent))
+            for lent in before: f.write(bytes(le(4, len(lent)) + le(4, given(lent)) + lent[:given(lent)]))
     with open(folder + 'stdout', 'w') as f:
         for entry, _, _, result, after in calls:
             f.write('%s %d\n' % (NAMES[entry], result))

@@ -5,9 +5,12 @@ sys.setrecursionlimit(100000); threading.stack_size(512 * 1024 * 1024)   # table
 from calls import calls, write_files, NAMES
 from sheet_cases import add_sheet_cases
 from machine_cases import add_machine_cases
+from harden_cases import add_harden_cases, add_hardened_runs
 def main():
     add_sheet_cases()
     add_machine_cases()
+    add_harden_cases()
+    add_hardened_runs()
     folder = os.path.dirname(os.path.abspath(__file__)) + '/../../crates/cases/'
     write_files(folder)
     print({name: sum(call[0] == entry for call in calls) for entry, name in NAMES.items()},

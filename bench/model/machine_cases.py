@@ -10,7 +10,7 @@ BOUNDS = flat(T['bounds'])
 CELLS = [5, 6, 7, 8] + [1000 + k for k in range(256)] + [77]
 def both(tab, variables, cells, want, directives=None, **more):
     """one run that is the same on both machines but for the directives used: by hand, one step for each shown step"""
-    guessed = STEP * 20 if directives is None else directives
+    guessed = STEP * 5 if directives is None else directives
     run(tab, variables, cells, want=want[:3] + [0] + want[4:], **more)
     guess(tab, guessed, variables, cells, want=want, **more)
 def listed(entries, nodes): return words(entries + [0] * (nodes - len(entries)))

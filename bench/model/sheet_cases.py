@@ -1,52 +1,10 @@
 # Calls of flow_sheet.
-import model
 from model import *
 from calls import sheet as case, head, labels, array as arr, node
 from programs import T, seqs, v, n, skip
+from remembered import remembering, nested
+sheet2=remembering(sheet)
 SK=node('skip')
-# the analysis with results remembered; the notes come from one walk at the settled labelling (= the model's last pass)
-def remembered(p):
-    memo={}
-    def res(t,ctx,L):
-        key=(t[0],ctx,L)
-        if key not in memo: memo[key]=res1(t,ctx,L)
-        return memo[key]
-    def settled(t,ctx,L):
-        while True:
-            c=elabel(t[2],L); M=join(L,res(t[3],ctx|c,L))
-            if M==L: return c,L
-            L=M
-    def res1(t,ctx,L):
-        k=t[1]
-        if k=='seq': return res(t[3],ctx,res(t[2],ctx,L))
-        if k=='if':
-            c=elabel(t[2],L); return join(res(t[3],ctx|c,L),res(t[4],ctx|c,L))
-        if k=='while': return settled(t,ctx,L)[1]
-        return model.analyse(t,ctx,L,{})
-    notes={}
-    def walk(t,ctx,L):
-        k=t[1]
-        if k=='seq':
-            M=res(t[2],ctx,L); notes[t[0]]=('seq',M); walk(t[2],ctx,L); walk(t[3],ctx,M)
-        elif k=='if':
-            c=elabel(t[2],L); notes[t[0]]=('if',c); walk(t[3],ctx|c,L); walk(t[4],ctx|c,L)
-        elif k=='while':
-            c,S=settled(t,ctx,L); notes[t[0]]=('while',c,S); walk(t[3],ctx|c,S)
-        else: model.analyse(t,ctx,L,notes)
-    L0=(p['vm'],p['am']); walk(p['root'],0,L0)
-    return res(p['root'],0,L0), notes
-def sheet2(p):
-    F,notes=remembered(p)
-    old=model.analyse
-    def fake(t,ctx,L,out): out.update(notes); return F
-    model.analyse=fake
-    try: return sheet(p)
-    finally: model.analyse=old
-def nest(d,i=0):
-    if i==d: return skip
-    x=i%31
-    return ('while',('const',1),('seq',('assign',x,n(0)),('seq',nest(d,i+1),('assign',x,v(31)))))
-def nested(d): return flat(table(32,1<<31,[],0,nest(d)))
 def refused():
     good=head()+labels()+SK
     # 1
@@ -100,6 +58,6 @@ def add_sheet_cases():
     case(sk,0,16,(23,0))
     # nested loops
     for d in range(1,11):
-        p=readTable(nested(d)); assert sheet2(p)==sheet(p),d
+        p=readTable(nested(d,32)); assert sheet2(p)==sheet(p),d
     for d in (10,60):
-        b=nested(d); size=14+d*(14+12+12); assert all(0<=x<256 for x in b); case(b,size,16,(0,size),sheet2)
+        b=nested(d,32); size=14+d*(14+12+12); assert all(0<=x<256 for x in b); case(b,size,16,(0,size),sheet2)

@@ -2,7 +2,7 @@
 // then a line of hexadecimal for each slice it was lent for writing, as it is at exit.
 //
 // The input is the number of calls and then the calls. A call is the entry, the budget and seven slices, in the order of `call`'s
-// parameters; a slice is its length and its bytes. Numbers take 4 bytes. An entry leaves the slices it does not take as they are.
+// parameters. A slice is its length, how many of its bytes are given, and these; the others are 170. Numbers take 4 bytes.
 use libc::STDIN_FILENO;
 use libc::STDOUT_FILENO;
 ghost use Rattle.io.specs.Counts.{Counts};
@@ -19,14 +19,13 @@ fn number() -> u32 {
     bytes_le::get::u32_at(&word, 0)
 }
 
-// The next slice of the input, put at the start of a buffer and cut where that ends. Answers its length.
+// The next slice of the input, at the start of a buffer that holds 170 in every byte, and cut where that ends. Answers its length.
 fn fill(buffer: &mut [u8]) -> usize
     ensures { λ r. ⌜ Counts r (now (buffer .exit)) ⌝ }
 {
     let length = number() as isize;
-    let n = io::count(length, buffer);
-    io::read_full(STDIN_FILENO, &mut buffer[..n]);
-    // the same count, now of the bytes that were read
+    let given = io::count(number() as isize, buffer);
+    io::read_full(STDIN_FILENO, &mut buffer[..given]);
     io::count(length, buffer)
 }
 
@@ -121,19 +120,19 @@ fn call(
 fn play() {
     let entry = number();
     let budget = number();
-    let mut table = [0u8; 65536];
+    let mut table = [170u8; 65536];
     let table_length = fill(&mut table);
-    let mut directives = [0u8; 4096];
+    let mut directives = [170u8; 4096];
     let directives_length = fill(&mut directives);
-    let mut variables = [0u8; 256];
+    let mut variables = [170u8; 256];
     let variables_length = fill(&mut variables);
-    let mut cells = [0u8; 65600];
+    let mut cells = [170u8; 65600];
     let cells_length = fill(&mut cells);
-    let mut pending = [0u8; 16448];
+    let mut pending = [170u8; 16448];
     let pending_length = fill(&mut pending);
-    let mut output = [0u8; 65536];
+    let mut output = [170u8; 65536];
     let output_length = fill(&mut output);
-    let mut answer = [0u8; 64];
+    let mut answer = [170u8; 64];
     let answer_length = fill(&mut answer);
     call(
         entry,
