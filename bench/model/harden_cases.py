@@ -9,18 +9,22 @@ def hardened(tab):
     numbers, out = model.hardenEntry(list(tab), filled(40000))
     assert numbers[0] == 0
     return out[:numbers[1]]
-def fits(tab, size, nodes, make=model.hardened):
-    """hardens into a buffer of exactly that size, and leaves two bytes beyond it alone; one byte less is 23"""
-    harden(tab, size, want=[0, size], make=make)
-    _, out = harden(tab, size + 2, want=[0, size], make=make)
-    assert un(out[8:10]) == nodes and out[size:] == filled(2)
-    harden(tab, size - 1, want=[23, 0], make=make)
+def exactly(tab, make=model.hardened):
+    """hardens into a buffer that has just the room"""
+    return harden(tab, len(flat(make(model.readTable(tab)))), make=make)
+def fits(tab, size, nodes):
+    """a buffer of exactly that size suffices, what lies beyond it is left alone, and one byte less is 23"""
+    harden(tab, size, want=[0, size])
+    _, out = harden(tab, size + 3, want=[0, size])
+    assert un(out[8:10]) == nodes and out[size:] == filled(3)
+    harden(tab, size - 1, want=[23, 0])
     return out[:size]
 def hand(tab, V, variables, counts, arrays, nodes):
     """the hardened table by hand: its nodes, one after another"""
     nodes = [node(*one) for one in nodes]
     out = head(V, len(counts), len(nodes)) + labels(variables, arrays) + [b for c in counts for b in array(c)] + [b for one in nodes for b in one]
-    assert fits(tab, len(out), len(nodes)) == out
+    assert exactly(tab) == ([0, len(out)], out)
+    return out
 # ---- document 01's cases
 def document():
     # the example of the program: V 0 becomes 1, skip stays
@@ -30,18 +34,18 @@ def document():
     harden(tab, 23, want=[23, 0]); harden(tab, 0, want=[23, 0]); harden(tab, 30, want=[0, 24])
     # if x=0 then skip else skip: the condition (f=0) and x=0 three times over, f is variable 1
     def condition(at): return [('var', 1), ('num', 0), ('eq', at, at + 1), ('var', 0), ('num', 0), ('eq', at + 3, at + 4), ('and', at + 2, at + 5)]
-    hand(flat(T['secretIf']), 2, 1, [], 0, condition(0)
+    secret = hand(flat(T['secretIf']), 2, 1, [], 0, condition(0)
          + condition(7) + [('var', 1), ('num', 1), ('choice', 13, 14, 15), ('assign', 1, 16), ('skip',), ('seq', 17, 18)]
          + condition(20) + [('num', 1), ('var', 1), ('choice', 26, 27, 28), ('assign', 1, 29), ('skip',), ('seq', 30, 31)] + [('if', 6, 19, 32)])
-    assert calls[-3][4][0][8:] == le(8, 274)
+    assert len(secret) == 274; fits(flat(T['secretIf']), 274, 34)
     plain = lambda at: [('var', 0), ('num', 0), ('eq', at, at + 1)]
-    hand(flat(T['publicIf']), 2, 0, [], 0, plain(0)
+    assert 184 == len(hand(flat(T['publicIf']), 2, 0, [], 0, plain(0)
          + plain(3) + [('var', 1), ('num', 1), ('choice', 5, 6, 7), ('assign', 1, 8), ('skip',), ('seq', 9, 10)]
-         + plain(12) + [('num', 1), ('var', 1), ('choice', 14, 15, 16), ('assign', 1, 17), ('skip',), ('seq', 18, 19)] + [('if', 2, 11, 20)])
+         + plain(12) + [('num', 1), ('var', 1), ('choice', 14, 15, 16), ('assign', 1, 17), ('skip',), ('seq', 18, 19)] + [('if', 2, 11, 20)]))
     # sizes and node counts by hand
     fits(flat(T['loop']), 322, 40); fits(BOUNDS, 362, 42); fits(flat(T['skip31']), 24, 1)
     fits(flat(T['straight']), 78, 8)
-    for name in ('branch', 'branchThen', 'chain'): harden(flat(T[name]), 1000)
+    for name in ('branch', 'branchThen', 'chain'): exactly(flat(T[name]))
 # ---- reads, writes and loops, node by node
 def by_hand():
     flagged = [('var', 2), ('num', 1), ('eq', 0, 1), ('num', 0)]
@@ -70,27 +74,27 @@ EVERY = ('seq', ('if', ('and', ('not', ('lt', v(0), n(7))), ('eq', v(1), ('mul',
 def every(variables, arrays): return flat(table(4, variables, [2, 3], arrays, EVERY))
 MARKS = ((0, 0), (1, 0), (2, 0), (8, 0), (0, 1), (0, 2), (15, 3))
 def all_kinds():
-    for variables, arrays in MARKS: harden(every(variables, arrays), 1200)
+    for variables, arrays in MARKS: exactly(every(variables, arrays))
     # what came out goes in again
-    harden(hardened(flat(T['secretIf'])), 2000); harden(hardened(BOUNDS), 3000)
+    exactly(hardened(flat(T['secretIf']))); exactly(hardened(BOUNDS))
 # ---- limits
 def skips(nodes): return flat(table(1, 0, [], 0, seqs([skip] * ((nodes - 1) // 2) + [('assign', 0, n(1)) if nodes % 2 == 0 else skip])))
 def limits():
     assert un(skips(512)[8:10]) == 512 and un(skips(513)[8:10]) == 513
-    fits(skips(512), len(skips(512)), 512)
-    for room in (0, 5000): harden(skips(513), room, want=[8, 0])
+    _, out = exactly(skips(512)); assert out == head(2, 0, 512) + skips(512)[10:]
+    for room in (0, 50): harden(skips(513), room, want=[8, 0])
     many = head(32, 0, 513) + skips(513)[10:]
-    harden(many, 5000, want=[8, 0]); harden(many + [0], 5000, want=[7, len(many)]); harden(head(1, 0, 513) + labels() + node('skip') * 513, 5000, want=[6, 20])
+    harden(many, 50, want=[8, 0]); harden(many + [0], 50, want=[7, len(many)]); harden(head(1, 0, 513) + labels() + node('skip') * 513, 50, want=[6, 20])
     for room in (0, 100): harden(flat(T['skip32']), room, want=[9, 0])
     harden(flat(T['skip32']) + [1, 2], 100, want=[7, 24]); harden(head(33) + labels() + node('skip'), 100, want=[3, 0])
     # 8 for 1: 127 loops on a secret, 4 nodes each that become 32, around a 4-node if that becomes 16
     inner = ('if', ('const', 0), skip, skip)
     for _ in range(127): inner = ('while', ('lt', v(0), n(3)), inner)
     most = flat(table(1, 1, [], 0, inner)); assert un(most[8:10]) == 512
-    _, out = harden(most, 40000); assert un(out[8:10]) == 32 * 127 + 16
+    _, out = exactly(most); assert un(out[8:10]) == 32 * 127 + 16
     # loops in loops that each take two passes
     for d in (2, 7): p = model.readTable(nested(d, 31)); assert remembering(model.hardened)(p) == model.hardened(p)
-    harden(nested(60, 31), 20000, make=remembering(model.hardened))
+    exactly(nested(60, 31), remembering(model.hardened))
 # ---- refusals of the table, and short answers
 def refused():
     two = head(2, 2, 2) + labels() + array(2) + array(3)    # nodes from 32
@@ -132,14 +136,13 @@ def small_runs():
     tab = hardened(flat(table(2, 1, [2, 3], 0, ('read', 1, 0, v(0)))))
     run(tab, [1, 7, 0], FIVE, variables_left=words([1, 11, 0])); run(tab, [2, 7, 0], FIVE, want=[0, STUCK, 0, 0, 0, 0, 6]); guess(tab, STEP, [2, 7, 0], FIVE, want=[0, STUCK, 0, 0, 0, 0, 6])
 def whole_runs():
-    scripts = (STEP * 9, FORCE + STEP * 8, STEP + FORCE + STEP * 7, FORCE + load(1, 2) + FORCE + store(0, 1) + STEP * 5, FORCE * 9, [])
     for variables, arrays in MARKS:
         tab = hardened(every(variables, arrays))
-        for state in ([0, 0, 9, 1], [7, 21, 9, 1], [9, 1, 9, 3]):
-            run(tab, state + [0], FIVE, room=80, pending=4 * un(tab[8:10]))
-    for variables, arrays in MARKS[::2]:
+        for state in ([0, 0, 9, 1], [7, 21, 9, 1]): run(tab, state + [0], FIVE, room=80, pending=4 * un(tab[8:10]))
+    for variables, arrays in ((0, 0), (15, 3)):
         tab = hardened(every(variables, arrays))
-        for script in scripts: guess(tab, script, [7, 0, 9, 4, 0], FIVE, room=80, pending=4 * un(tab[8:10]))
+        for script in (STEP * 9, FORCE + STEP * 8, STEP + FORCE + STEP * 7, FORCE + load(1, 2) + FORCE + store(0, 1) + STEP * 5, FORCE * 9, []):
+            guess(tab, script, [7, 0, 9, 4, 0], FIVE, room=80, pending=4 * un(tab[8:10]))
 def add_harden_cases():
     for group in (document, by_hand, all_kinds, limits, refused): group()
 def add_hardened_runs():
