@@ -82,7 +82,7 @@ def skips(nodes): return flat(table(1, 0, [], 0, seqs([skip] * ((nodes - 1) // 2
 def limits():
     assert un(skips(512)[8:10]) == 512 and un(skips(513)[8:10]) == 513
     _, out = exactly(skips(512)); assert out == head(2, 0, 512) + skips(512)[10:]
-    for room in (0, 50): harden(skips(513), room, want=[8, 0])
+    harden(skips(513), 0, want=[8, 0])
     many = head(32, 0, 513) + skips(513)[10:]
     harden(many, 50, want=[8, 0]); harden(many + [0], 50, want=[7, len(many)]); harden(head(1, 0, 513) + labels() + node('skip') * 513, 50, want=[6, 20])
     for room in (0, 100): harden(flat(T['skip32']), room, want=[9, 0])
@@ -106,8 +106,8 @@ def refused():
     for size in (0, 7, 8, 9, 15, 16, 17, 24, 64): harden(good, 110, answer=size, want=[0, 110]); harden(good + [9], 110, answer=size, want=[7, 48])
 # ---- hardened tables run
 def bounds_check():
-    tab = hardened(BOUNDS); f = 3
-    # in bounds and out of bounds without a guess: as the original, with 6 steps more (2 sequences and an assign for f, 2 and 2 at the reads), and f stays 0
+    tab = hardened(BOUNDS)
+    # in bounds and out of bounds without a guess: as the original, with a sequence and an assign more on the side taken and at each read, and f stays 0
     for entry in (lambda *a, **k: run(*a, **k), lambda t, s, c, **k: guess(t, STEP * 3, s, c, **k)):
         ran = lambda used: used if calls[-1][0] == GUESS else 0
         numbers, _ = entry(tab, [3, 0, 0, 0], CELLS, variables_left=words([3, 8, 1008, 0]), shown=branch(1) + shown_read(0, 3) + shown_read(1, 8) + [170])
@@ -138,11 +138,11 @@ def small_runs():
 def whole_runs():
     for variables, arrays in MARKS:
         tab = hardened(every(variables, arrays))
-        for state in ([0, 0, 9, 1], [7, 21, 9, 1]): run(tab, state + [0], FIVE, room=80, pending=4 * un(tab[8:10]))
-    for variables, arrays in ((0, 0), (15, 3)):
-        tab = hardened(every(variables, arrays))
-        for script in (STEP * 9, FORCE + STEP * 8, STEP + FORCE + STEP * 7, FORCE + load(1, 2) + FORCE + store(0, 1) + STEP * 5, FORCE * 9, []):
-            guess(tab, script, [7, 0, 9, 4, 0], FIVE, room=80, pending=4 * un(tab[8:10]))
+        run(tab, [0, 0, 9, 1, 0], FIVE, room=80, pending=4 * un(tab[8:10]))
+    tab = hardened(every(15, 3))
+    run(tab, [7, 21, 9, 1, 0], FIVE, room=80)
+    for script in (STEP * 9, FORCE + STEP * 8, STEP + FORCE + STEP * 7, FORCE + load(1, 2) + FORCE + store(0, 1) + STEP * 5, FORCE * 9, []):
+        guess(tab, script, [7, 0, 9, 4, 0], FIVE, room=80)
 def add_harden_cases():
     for group in (document, by_hand, all_kinds, limits, refused): group()
 def add_hardened_runs():

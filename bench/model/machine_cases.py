@@ -8,6 +8,9 @@ MOST = 4294967295
 BOUNDS = flat(T['bounds'])
 # a0 holds 5 to 8, a1[k] is 1000 + k, a2 holds 77
 CELLS = [5, 6, 7, 8] + [1000 + k for k in range(256)] + [77]
+# the same with 8 cells in a1, and 7 in a2
+SMALL = head(3, 3, 10) + BOUNDS[10:20] + array(4) + array(8) + array(1) + BOUNDS[38:]
+FEW = CELLS[:12] + [7]
 def both(tab, variables, cells, want, directives=None, **more):
     """one run that is the same on both machines but for the directives used: by hand, one step for each shown step"""
     guessed = STEP * 5 if directives is None else directives
@@ -29,14 +32,14 @@ def bounds_check():
     pending = {0: [9], 1: [7], 2: [6, 4], 3: [6], 4: []}
     used = {0: (0, 0, 0), 1: (1, 6, 1), 2: (1, 6, 1), 3: (2, 16, 1), 4: (3, 26, 1)}
     for budget in range(5):
-        guess(BOUNDS, wrong_way, [4, 0, 0], CELLS, budget=budget, pending=43,
+        guess(SMALL, wrong_way, [4, 0, 0], FEW, budget=budget, pending=43,
               want=[0, FINISHED if budget == 4 else SPENT, budget, *used[budget], pending[budget][-1] if budget < 4 else 0],
               pending_left=listed(pending[budget], 10) + [170] * 3)
     # an observation that fits exactly is written; one byte less and the run is full, with the directive not used
     for room, end, steps, directives, shown, flag, at in ((26, FINISHED, 4, 3, 26, 1, 0), (25, FULL, 3, 2, 16, 1, 6), (16, FULL, 3, 2, 16, 1, 6),
             (15, FULL, 2, 1, 6, 1, 4), (6, FULL, 2, 1, 6, 1, 4), (5, FULL, 0, 0, 0, 0, 9), (0, FULL, 0, 0, 0, 0, 9)):
-        guess(BOUNDS, wrong_way, [4, 0, 0], CELLS, room=room, want=[0, end, steps, directives, shown, flag, at])
-# ---- the ends, and their order: nodes 0 to 2 are v0, read, and for `spin` the loop
+        guess(SMALL, wrong_way, [4, 0, 0], FEW, room=room, want=[0, end, steps, directives, shown, flag, at])
+# ---- the ends, and their order
 READ = flat(table(2, 0, [2, 3], 0, ('read', 1, 1, v(0))))               # v1 := a1[v0]
 WRITE = flat(table(2, 0, [2, 3], 0, ('write', 0, v(0), v(1))))          # a0[v0] := v1
 FORCED = flat(table(2, 0, [2, 3], 0, ('if', ('const', 1), skip, ('read', 1, 1, v(0)))))    # nodes: 1, skip, v0, read, if
@@ -98,7 +101,7 @@ def loops():
     both(COUNT, [0], [], [0, FINISHED, 7, 4, 24, 0, 0], variables_left=words([3]), shown=whole + [170])
     # the largest budget, on runs that end
     both(COUNT, [0], [], [0, FINISHED, 7, 4, 24, 0, 0], budget=MOST, variables_left=words([3]), shown=whole + [170])
-    guess(BOUNDS, FORCE + load(2, 0) + STEP, [4, 0, 0], CELLS, budget=MOST, want=[0, FINISHED, 4, 3, 26, 1, 0])
+    guess(SMALL, FORCE + load(2, 0) + STEP, [4, 0, 0], FEW, budget=MOST, want=[0, FINISHED, 4, 3, 26, 1, 0])
     # a budget of exactly the steps, and one less: the list then holds the loop
     both(COUNT, [0], [], [0, FINISHED, 7, 4, 24, 0, 0], budget=7)
     both(COUNT, [0], [], [0, SPENT, 6, 3, 18, 0, 7], budget=6, pending=32, variables_left=words([3]))
@@ -109,8 +112,8 @@ def loops():
           variables_left=words([5]), shown=branch(1) * 3 + branch(0) * 3 + [170])
     guess(COUNT, FORCE * 3, [3], [], want=[0, OUT_OF_DIRECTIVES, 6, 3, 18, 1, 7], variables_left=words([6]))
     # a loop without an end: spent, full, out of directives
-    for budget in (0, 1, 2, 1000): run(SPIN, [], [], budget=budget, room=6000,
-                                       want=[0, SPENT, budget, 0, 6 * ((budget + 1) // 2), 0, 1 if budget == 1 else 2])
+    for budget in (0, 1, 2, 100):
+        run(SPIN, [], [], budget=budget, room=6 * 50, want=[0, SPENT, budget, 0, 6 * ((budget + 1) // 2), 0, 1 if budget == 1 else 2])
     both(SPIN, [], [], [0, FULL, 4, 2, 12, 0, 2], room=17, budget=MOST, shown=branch(1) * 2 + [170] * 5)
     guess(SPIN, STEP * 3, [], [], budget=MOST, want=[0, OUT_OF_DIRECTIVES, 6, 3, 18, 0, 2])
 # ---- values

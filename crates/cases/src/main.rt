@@ -10,6 +10,8 @@ ghost use Rattle.io.specs.Counts.{Counts};
 // The entries' numbers; any other is flow_guess.
 const SHEET: u32 = 1;
 
+const HARDEN: u32 = 2;
+
 const RUN: u32 = 3;
 
 // The next number of the input.
@@ -66,6 +68,7 @@ fn enter(
 ) {
     match entry {
         SHEET => print_result(b"sheet ", flow::sheet::flow_sheet(table, output, answer)),
+        HARDEN => print_result(b"harden ", flow::harden::flow_harden(table, output, answer)),
         RUN => print_result(
             b"run ",
             flow::machines::flow_run(table, variables, cells, pending, output, budget, answer),
