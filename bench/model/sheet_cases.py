@@ -1,74 +1,10 @@
-# Writes crates/cases/stdin and stdout: calls of flow_sheet, and what document 01 says that they leave, by model.py.
-import sys, threading
-sys.path.insert(0, __import__('os').path.dirname(__import__('os').path.abspath(__file__)))
-sys.setrecursionlimit(100000); threading.stack_size(512*1024*1024)
+# Calls of flow_sheet.
 from model import *
-import model
+from calls import sheet as case, head, labels, array as arr, node
 from programs import T, seqs, v, n, skip
-OUT=__import__('os').path.dirname(__import__('os').path.abspath(__file__))+'/../../crates/cases/'
-def head(V=0,A=0,N=1,version=1): return le(2,10)+le(2,1)+le(2,version)+[V,A]+le(2,N)
-def labels(vm=0,am=0): return le(2,10)+le(2,3)+le(4,vm)+le(2,am)
-def arr(c): return le(2,6)+le(2,2)+le(2,c)
-def node(k,*fs):
-    b=[]
-    for l,f in zip(LAY[k],fs): b+=le(4 if l=='n' else 2,f)
-    return le(2,4+len(b))+le(2,KIND[k])+b
+from remembered import remembering, nested
+sheet2=remembering(sheet)
 SK=node('skip')
-# the analysis with results remembered; the notes come from one walk at the settled labelling (= the model's last pass)
-def remembered(p):
-    memo={}
-    def res(t,ctx,L):
-        key=(t[0],ctx,L)
-        if key not in memo: memo[key]=res1(t,ctx,L)
-        return memo[key]
-    def settled(t,ctx,L):
-        while True:
-            c=elabel(t[2],L); M=join(L,res(t[3],ctx|c,L))
-            if M==L: return c,L
-            L=M
-    def res1(t,ctx,L):
-        k=t[1]
-        if k=='seq': return res(t[3],ctx,res(t[2],ctx,L))
-        if k=='if':
-            c=elabel(t[2],L); return join(res(t[3],ctx|c,L),res(t[4],ctx|c,L))
-        if k=='while': return settled(t,ctx,L)[1]
-        return model.analyse(t,ctx,L,{})
-    notes={}
-    def walk(t,ctx,L):
-        k=t[1]
-        if k=='seq':
-            M=res(t[2],ctx,L); notes[t[0]]=('seq',M); walk(t[2],ctx,L); walk(t[3],ctx,M)
-        elif k=='if':
-            c=elabel(t[2],L); notes[t[0]]=('if',c); walk(t[3],ctx|c,L); walk(t[4],ctx|c,L)
-        elif k=='while':
-            c,S=settled(t,ctx,L); notes[t[0]]=('while',c,S); walk(t[3],ctx|c,S)
-        else: model.analyse(t,ctx,L,notes)
-    L0=(p['vm'],p['am']); walk(p['root'],0,L0)
-    return res(p['root'],0,L0), notes
-def sheet2(p):
-    F,notes=remembered(p)
-    old=model.analyse
-    def fake(t,ctx,L,out): out.update(notes); return F
-    model.analyse=fake
-    try: return sheet(p)
-    finally: model.analyse=old
-def nest(d,i=0):
-    if i==d: return skip
-    x=i%31
-    return ('while',('const',1),('seq',('assign',x,n(0)),('seq',nest(d,i+1),('assign',x,v(31)))))
-def nested(d): return flat(table(32,1<<31,[],0,nest(d)))
-def answered(ns,sl):
-    o=[]
-    for k in ns:
-        if len(sl)<8: break
-        o+=le(8,k); sl=sl[8:]
-    return o+sl
-calls=[]
-def case(tab,buf,ans=16,want=None,make=sheet):
-    tab=list(tab); b=[170]*buf
-    a,o=writeEntry(make,tab,b)
-    if want is not None: assert a==list(want),(len(calls),a,want)
-    calls.append((tab,buf,ans,a[0],answered(a,[170]*ans),o))
 def refused():
     good=head()+labels()+SK
     # 1
@@ -102,13 +38,12 @@ def refused():
     case(good,0,16,(23,0)); case(good,13,16,(23,0)); case(good,14,16,(0,14)); case(good,17,16,(0,14))
     # answer slices of other lengths
     for k in (0,7,8,15,20): case(good,14,k,(0,14)); case([],2,k,(1,0))
-def main():
+def add_sheet_cases():
     refused()
     for k in ('loop','straight','branch','branchThen','secretIf','publicIf','bounds','skip31','skip32','chain'):
         b=flat(T[k]); size=len(flat(sheet(readTable(b)))); assert sheet2(readTable(b))==sheet(readTable(b))
         case(b,size+2,16,(0,size))
         case(b,size-1,16,(23,0))
-        print(k,size,sheet(readTable(b))[0][8:])
     # all kinds, with secrets in index, condition and array
     al=('seq',('if',('and',('not',('lt',v(0),n(7))),('eq',v(1),('mul',n(3),v(0)))),('read',2,0,('sub',v(3),n(1))),('write',1,v(3),v(0))),
         ('while',('const',0),('seq',('write',0,v(0),('choice',('const',1),v(1),n(4294967295))),('seq',('read',1,1,('add',v(0),v(0))),skip))))
@@ -123,13 +58,6 @@ def main():
     case(sk,0,16,(23,0))
     # nested loops
     for d in range(1,11):
-        p=readTable(nested(d)); assert sheet2(p)==sheet(p),d
+        p=readTable(nested(d,32)); assert sheet2(p)==sheet(p),d
     for d in (10,60):
-        b=nested(d); size=14+d*(14+12+12); assert all(0<=x<256 for x in b); case(b,size,16,(0,size),sheet2)
-    with open(OUT+'stdin','wb') as f:
-        for t,b,a,_,_,_ in calls: f.write(bytes(le(4,len(t))+le(4,b)+le(4,a)+t))
-    with open(OUT+'stdout','w') as f:
-        for _,_,_,r,a,o in calls: f.write('sheet %d\n%s\n%s\n'%(r,bytes(a).hex(),bytes(o).hex()))
-    print(len(calls),'calls', sum(len(c[0])+12 for c in calls),'bytes in')
-    print(bytes(calls[-1][5]).hex()[:28], 'final; all settled masks:', {tuple(x) for x in [calls[-1][5][8:14]]})
-t=threading.Thread(target=main); t.start(); t.join()
+        b=nested(d,32); size=14+d*(14+12+12); assert all(0<=x<256 for x in b); case(b,size,16,(0,size),sheet2)

@@ -1,8 +1,35 @@
-// Plays calls of `flow_sheet` that stand on standard input, and prints what each leaves: a line with the entry's name and the result,
-// then a line of hexadecimal for the answer slice at exit, and one for the buffer. A call is three 4-byte numbers (the lengths of the
-// table, of the buffer and of the answer slice) and the table's bytes. Buffer and answer slice hold 170 in every byte at entry.
-ghost use Prim.Native.Nat.{_≤_, _<_};
+// Plays calls of Flow's entries that stand on standard input, and prints what each leaves: a line with the entry's name and the result,
+// then a line of hexadecimal for each slice it was lent for writing, as it is at exit.
+//
+// The input is the number of calls and then the calls. A call is the entry, the budget and seven slices, in the order of `call`'s
+// parameters. A slice is its length, how many of its bytes are given, and these; the others are 170. Numbers take 4 bytes.
+use libc::STDIN_FILENO;
 use libc::STDOUT_FILENO;
+ghost use Rattle.io.specs.Counts.{Counts};
+
+// The entries' numbers; any other is flow_guess.
+const SHEET: u32 = 1;
+
+const HARDEN: u32 = 2;
+
+const RUN: u32 = 3;
+
+// The next number of the input.
+fn number() -> u32 {
+    let mut word = [0u8; 4];
+    io::read_full(STDIN_FILENO, &mut word);
+    bytes_le::get::u32_at(&word, 0)
+}
+
+// The next slice of the input, at the start of a buffer that holds 170 in every byte, and cut where that ends. Answers its length.
+fn fill(buffer: &mut [u8]) -> usize
+    ensures { λ r. ⌜ Counts r (now (buffer .exit)) ⌝ }
+{
+    let length = number() as isize;
+    let given = io::count(number() as isize, buffer);
+    io::read_full(STDIN_FILENO, &mut buffer[..given]);
+    io::count(length, buffer)
+}
 
 // Ends a line of the output.
 fn end_line() {
@@ -27,59 +54,106 @@ fn print_result(name: &[u8], result: u64) {
     end_line();
 }
 
-// The smaller of two numbers, as far as `part` and `call` need it.
-fn least(a: usize, b: usize) -> usize
-    ensures { λ r. ⌜ (r ≤ a) × (r ≤ b) ⌝ }
-{
-    if a < b { a } else { b }
-}
-
-// A part of the input, cut where the input ends.
-fn part(input: &[u8], at: usize, length: usize) -> &[u8] {
-    let from = least(at, input.len());
-    let to = from + least(length, input.len() - from);
-    &input[from..to]
-}
-
-// A call on the first bytes of a buffer and of an answer slice, and what it leaves in them.
-fn call(table: &[u8], buffer: &mut [u8], length: usize, answer: &mut [u8], answers: usize) {
-    let n = least(length, buffer.len());
-    let m = least(answers, answer.len());
-    let result = flow::sheet::flow_sheet(table, &mut buffer[..n], &mut answer[..m]);
-    print_result(b"sheet ", result);
-    print_bytes(part(answer, 0, m));
-    print_bytes(part(buffer, 0, n));
-}
-
-// A call with a buffer and an answer slice of the lengths asked for, at most 65,536 and 64.
-fn play(table: &[u8], length: usize, answers: usize) {
-    let mut buffer = [170u8; 65536];
-    let mut answer = [170u8; 64];
-    call(table, &mut buffer, length, &mut answer, answers);
-}
-
-// The call at an offset of the input, and the offset behind it.
-fn play_at(input: &[u8], at: usize) -> usize
-    requires { do ⌜ at < (← ⟦input.len()⟧) ⌝ }
-    ensures { λ r. ⌜ at < r ⌝ }
-{
-    let size = bytes_le::get::u32_at(input, at) as usize;
-    let length = bytes_le::get::u32_at(input, at + 4) as usize;
-    let answers = bytes_le::get::u32_at(input, at + 8) as usize;
-    play(part(input, at + 12, size), length, answers);
-    at + 12 + size
-}
-
-// Every call of the input, in turn.
-fn play_all(input: &[u8]) {
-    let mut at = 0;
-    while at < input.len() {
-        at = play_at(input, at);
+// Calls an entry, and prints its name and its result.
+fn enter(
+    entry: u32,
+    budget: u32,
+    table: &[u8],
+    directives: &[u8],
+    variables: &mut [u8],
+    cells: &mut [u8],
+    pending: &mut [u8],
+    output: &mut [u8],
+    answer: &mut [u8],
+) {
+    match entry {
+        SHEET => print_result(b"sheet ", flow::sheet::flow_sheet(table, output, answer)),
+        HARDEN => print_result(b"harden ", flow::harden::flow_harden(table, output, answer)),
+        RUN => print_result(
+            b"run ",
+            flow::machines::flow_run(table, variables, cells, pending, output, budget, answer),
+        ),
+        _ => print_result(
+            b"guess ",
+            flow::machines::flow_guess(
+                table,
+                directives,
+                variables,
+                cells,
+                pending,
+                output,
+                budget,
+                answer,
+            ),
+        ),
     }
 }
 
+// A call, and what it leaves in each slice.
+fn call(
+    entry: u32,
+    budget: u32,
+    table: &[u8],
+    directives: &[u8],
+    variables: &mut [u8],
+    cells: &mut [u8],
+    pending: &mut [u8],
+    output: &mut [u8],
+    answer: &mut [u8],
+) {
+    enter(
+        entry,
+        budget,
+        table,
+        directives,
+        &mut *variables,
+        &mut *cells,
+        &mut *pending,
+        &mut *output,
+        &mut *answer,
+    );
+    print_bytes(answer);
+    print_bytes(variables);
+    print_bytes(cells);
+    print_bytes(pending);
+    print_bytes(output);
+}
+
+// The next call of the input.
+fn play() {
+    let entry = number();
+    let budget = number();
+    let mut table = [170u8; 65536];
+    let table_length = fill(&mut table);
+    let mut directives = [170u8; 4096];
+    let directives_length = fill(&mut directives);
+    let mut variables = [170u8; 256];
+    let variables_length = fill(&mut variables);
+    let mut cells = [170u8; 65600];
+    let cells_length = fill(&mut cells);
+    let mut pending = [170u8; 16448];
+    let pending_length = fill(&mut pending);
+    let mut output = [170u8; 65536];
+    let output_length = fill(&mut output);
+    let mut answer = [170u8; 64];
+    let answer_length = fill(&mut answer);
+    call(
+        entry,
+        budget,
+        &table[..table_length],
+        &directives[..directives_length],
+        &mut variables[..variables_length],
+        &mut cells[..cells_length],
+        &mut pending[..pending_length],
+        &mut output[..output_length],
+        &mut answer[..answer_length],
+    );
+}
+
 fn main() {
-    let mut input = [0u8; 262144];
-    let n = io::read_full(0, &mut input);
-    play_all(part(&input, 0, n));
+    let mut left = number();
+    while 0 < left {
+        play();
+        left -= 1;
+    }
 }

@@ -15,11 +15,11 @@ use Rattle.awhile.specs.Encoding.{tableBytes}
 use Rattle.awhile.specs.declared.Refusal.{Refusal}
 use Rattle.awhile.specs.declared.Refusal.the-variants.{NotATree, TooManyNodes, NoFreeVariable, ShortBuffer}
 use Rattle.machine.specs.Memory.{writtenOver}
-use Rattle.masks.specs.Hardening.{hardenedProgram, hardenedTable}
+use Rattle.masks.specs.Hardening.{hardenedProgram, hardenedTable, maxHardened}
 use Rattle.masks.specs.Demands.{Demands}
 use Rattle.masks.proofs.Demands.{demands-met}
 use Rattle.flow.specs.Answers.{tableIn}
-use Rattle.flow.specs.Writing.{notWritten, writtenAll, writing, maxHardened, hardenedIn, hardenEntry}
+use Rattle.flow.specs.Writing.{notWritten, writtenAll, writing, hardenedIn, hardenEntry}
 use Rattle.flow.specs.Security.{CallsShowTheSame}
 use Rattle.flow.specs.Hardened.{HardenedInto}
 use Rattle.flow.proofs.Accepted.{refusal-not-zero, check-got}

@@ -6,4 +6,5 @@ pub mod Hardened
 pub mod Answers
 pub mod Program
 pub mod Reading
+pub mod HardenedCalls
 pub mod Runs

@@ -11,7 +11,7 @@ use Rattle.awhile.specs.declared.Refusal.{Refusal}
 use Rattle.awhile.specs.declared.Refusal.the-variants.{TooManyNodes, NoFreeVariable, ShortBuffer}
 use Rattle.labels.specs.Sheet.{sheetBytes}
 use Rattle.machine.specs.Memory.{writtenOver}
-use Rattle.masks.specs.Hardening.{hardenedTable}
+use Rattle.masks.specs.Hardening.{hardenedTable, maxHardened}
 use Rattle.flow.specs.Answers.{answered, refusalNumbers, tableIn}
 
 -- the result (the answer's first number), the buffer and the answer slice at exit
@@ -40,9 +40,6 @@ unfoldable pub sheetEntry : (placeOf6 : ℕ) → (table sheet answer : List ℕ)
 sheetEntry place table sheet answer = writing (andThen (tableIn table place) (λ t. got (sheetBytes t))) sheet answer
 
 -- 8: hardening with N above 512; 9: hardening with V = 32
-abbrev pub maxHardened : ℕ
-maxHardened = 512
-
 unfoldable pub hardenedIn : Table → Answer (List ℕ)
 hardenedIn t =
     check (leb (length (t .nodes)) maxHardened) TooManyNodes

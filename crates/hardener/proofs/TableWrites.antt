@@ -29,7 +29,7 @@ use Rattle.awhile.proofs.Counts.{count-at}
 use Rattle.masks.specs.Decisions.{decide}
 use Rattle.masks.specs.Hardening.{harden, hardenedProgram, tableOfHardened, hardenedTable}
 use Rattle.hardener.specs.InMemory.{annotatedIn, hardenedIn, Hardenable}
-use Rattle.hardener.specs.Output.{Measurable, Writable, WroteTable}
+use Rattle.hardener.specs.Output.{Measurable, Measured, Writable, WroteTable}
 use Rattle.hardener.specs.Sizes.{bytesOf, Sized}
 use Rattle.hardener.specs.Written.{Room, Wrote}
 use Rattle.hardener.specs.declared.Size.{Size}
@@ -281,7 +281,7 @@ module _ {table index vs arrs : List ℕ} {a root : ℕ} (bytes : Below 256 tabl
       )
 
   pub measured-sized : {s : Size} → Sized (nodesOf (hardenedIn table vs arrs 0 root)) (bytesOf (hardenedIn table vs arrs 0 root)) s
-      → Sized (nodesOf (hardenedProgram (tableOf table))) (length (tableBytes (hardenedTable (tableOf table)))) (sizeIs (s .nodes) (20 + 6 * a + s .bytes))
+      → Measured table (sizeIs (s .nodes) (20 + 6 * a + s .bytes))
   unfolding hardenedIn hardenedProgram
   measured-sized s =
       let same = any-flag 0 (tableOf table .variables) (decide (annotated (tableOf table))) in
@@ -290,6 +290,7 @@ module _ {table index vs arrs : List ℕ} {a root : ℕ} (bytes : Below 256 tabl
       record {
         nodesCounted = omega (arith, s .nodesCounted, same .nodesSame);
         bytesCounted = omega (arith, s .bytesCounted, same .bytesSame, table-length (tableOf table), m .isArrays);
+        few = omega (arith, s .nodesCounted, measured-few);
       }
 
   pub measured-arrays : a ≤ maxArrays

@@ -9,7 +9,8 @@ use Rattle.reader.specs.Index.{tableOf, nodesIn}
 use Rattle.awhile.specs.Tables.{maxNodes}
 use Rattle.awhile.specs.declared.Labelling.{Labelling}
 use Rattle.analysis.specs.Conditions.{Sheetable}
-use Rattle.masks.specs.Hardening.{hardenedProgram, hardenedTable}
+use Rattle.masks.specs.Hardening.{hardenedProgram, hardenedTable, maxHardened}
+use Rattle.hardener.specs.declared.Size.{Size}
 
 -- the numbers of a table that was read
 pub record Numbers (table : List ℕ) (variables arrays root : ℕ) (labels : Labelling) : Type 0 where
@@ -31,13 +32,15 @@ pub record WroteTable (table before after : List ℕ) (answer : ℕ) : Type 0 wh
   pub stored : after ≡ sets before 0 (tableBytes (hardenedTable (tableOf table)))
   pub counted : answer ≡ length (tableBytes (hardenedTable (tableOf table)))
 
--- "hardening with N above 512" is refused, so that what comes out fits a table
-abbrev pub maxHardenedNodes : ℕ
-maxHardenedNodes = 512
-
 -- what measuring requires
 pub record Measurable (table index vs arrs : List ℕ) (arrays root : ℕ) : Type 0 where
   pub noted : Sheetable table index vs arrs
   pub isArrays : arrays ≡ length (tableOf table .counts)
   pub isRoot : root + 1 ≡ nodesIn table
-  pub few : nodesIn table ≤ maxHardenedNodes
+  pub few : nodesIn table ≤ maxHardened
+
+-- what measuring answers: how many nodes and bytes the hardened table has, of nodes no more than a table may have
+pub record Measured (table : List ℕ) (answer : Size) : Type 0 where
+  pub nodesCounted : answer .nodes ≡ nodesOf (hardenedProgram (tableOf table))
+  pub bytesCounted : answer .bytes ≡ length (tableBytes (hardenedTable (tableOf table)))
+  pub few : answer .nodes ≤ maxNodes

@@ -12,12 +12,10 @@ ghost use mathlib.Core.List.{flatMap};
 ghost use mathlib.Core.Path.{_≡_};
 ghost use lib.ListN.{length};
 ghost use lib.Seq.{sets};
-ghost use Rattle.awhile.specs.Encoding.{headerBytes, labelsBytes, countBytes, nodesOf, tableBytes};
+ghost use Rattle.awhile.specs.Encoding.{headerBytes, labelsBytes, countBytes};
 ghost use Rattle.reader.specs.Index.{tableOf};
 ghost use Rattle.awhile.specs.Tables.{accepted, readTable, maxArrays};
-ghost use Rattle.hardener.specs.Output.{Measurable, Writable, WroteTable};
-ghost use Rattle.masks.specs.Hardening.{hardenedProgram, hardenedTable};
-ghost use Rattle.hardener.specs.Sizes.{Sized};
+ghost use Rattle.hardener.specs.Output.{Measurable, Measured, Writable, WroteTable};
 
 // The header record.
 fn put_header(variables: usize, arrays: usize, nodes: usize, out: &mut [u8])
@@ -74,8 +72,7 @@ pub fn measure_hardened(
     root: usize,
 ) -> Size
     requires { ⌜ Measurable (now table) (now index) (now variables) (now arrays) count root ⌝ }
-    ensures { λ r. ⌜
-        Sized (nodesOf (hardenedProgram (tableOf (now (table .entry))))) (length (tableBytes (hardenedTable (tableOf (now (table .entry)))))) r ⌝ }
+    ensures { λ r. ⌜ Measured (now (table .entry)) r ⌝ }
 {
     let size = harden_size(table, index, variables, arrays, root);
     Size {

@@ -67,3 +67,7 @@ tableOfHardened t c = record { variables = t .variables + 1; labels = t .labels;
 
 unfoldable pub hardenedTable : Table → Table
 hardenedTable t = tableOfHardened t (hardenedProgram t)
+
+-- "hardening with N above 512" is refused, so that what comes out, at most 8 nodes per node put in, fits a table
+abbrev pub maxHardened : ℕ
+maxHardened = 512

@@ -1,0 +1,70 @@
+# The calls that crates/cases plays, and what document 01 says that each leaves, by model.py.
+# `sheet`, `harden`, `run` and `guess` add a call and answer what the model gave. Worked out by hand, where given: `want`, the answer's
+# numbers, and `variables_left`, `cells_left`, `pending_left` and `shown`, with which those slices begin at exit.
+import model
+from model import le, over, words
+SHEET, HARDEN, RUN, GUESS = 1, 2, 3, 4
+NAMES = {SHEET: 'sheet', HARDEN: 'harden', RUN: 'run', GUESS: 'guess'}
+calls = []
+# what a slice holds at entry that an entry only writes
+FILL = 170
+def filled(length): return [FILL] * length
+def given(lent): return len(bytes(lent).rstrip(bytes([FILL])))
+def answered(numbers, lent):
+    out = []
+    for number in numbers:
+        if len(lent) < len(out) + 8: break
+        out += le(8, number)
+    return over(lent, out)
+def add(entry, budget, taken, lent, numbers, left, answer, want):
+    """taken: table, directives; lent and left: variables, cells, pending, output, before and after"""
+    if want is not None: assert numbers == list(want), ('call', len(calls), 'gives', numbers, 'wanted', want)
+    calls.append((entry, budget, taken + lent + [filled(answer)], numbers[0], [answered(numbers, filled(answer))] + left))
+def writes(entry, make, table, room, answer, want):
+    numbers, out = model.writeEntry(make, list(table), filled(room), entry == HARDEN)
+    add(entry, 0, [list(table), []], [[], [], [], filled(room)], numbers, [[], [], [], out], answer, want)
+    return numbers, out
+def sheet(table, room, answer=16, want=None, make=model.sheet): return writes(SHEET, make, table, room, answer, want)
+def harden(table, room, answer=16, want=None, make=model.hardened): return writes(HARDEN, make, table, room, answer, want)
+def slot(given, size):
+    """bytes as they are; a list of words; a number of bytes"""
+    if isinstance(given, bytes): return list(given)
+    if isinstance(given, list): return words(given)
+    return filled(size if given is None else given)
+def runs(entry, table, directives, variables, cells, budget, room, pending, answer, want, leaves):
+    nodes = model.un(table[8:10])
+    lent = [slot(variables, 0), slot(cells, 0), slot(pending, 4 * nodes + 5), filled(room)]
+    numbers, *left = model.runEntry(list(table), *lent, budget, None if entry == RUN else list(directives))
+    add(entry, budget, [list(table), list(directives)], lent, numbers, left, answer, want)
+    for name, hand in leaves.items():
+        at = ('variables_left', 'cells_left', 'pending_left', 'shown').index(name)
+        assert left[at][:len(hand)] == hand, ('call', len(calls) - 1, name, left[at], hand)
+    return numbers, left
+def run(table, variables, cells, budget=100, room=40, pending=None, answer=56, want=None, **leaves):
+    return runs(RUN, table, [], variables, cells, budget, room, pending, answer, want, leaves)
+def guess(table, directives, variables, cells, budget=100, room=40, pending=None, answer=56, want=None, **leaves):
+    return runs(GUESS, table, directives, variables, cells, budget, room, pending, answer, want, leaves)
+# records: directives, and observations as they are expected
+STEP, FORCE = le(2, 4) + le(2, 72), le(2, 4) + le(2, 73)
+def load(array, index): return le(2, 10) + le(2, 74) + le(2, array) + le(4, index)
+def store(array, index): return le(2, 10) + le(2, 75) + le(2, array) + le(4, index)
+def branch(value): return le(2, 6) + le(2, 64) + le(2, value)
+def shown_read(array, index): return le(2, 10) + le(2, 65) + le(2, array) + le(4, index)
+def shown_write(array, index): return le(2, 10) + le(2, 66) + le(2, array) + le(4, index)
+# records of a table put together by hand
+def head(V=0, A=0, N=1, version=1): return le(2, 10) + le(2, 1) + le(2, version) + [V, A] + le(2, N)
+def labels(variables=0, arrays=0): return le(2, 10) + le(2, 3) + le(4, variables) + le(2, arrays)
+def array(count): return le(2, 6) + le(2, 2) + le(2, count)
+def node(kind, *fields):
+    body = [b for letter, field in zip(model.LAY[kind], fields) for b in le(4 if letter == 'n' else 2, field)]
+    return le(2, 4 + len(body)) + le(2, model.KIND[kind]) + body
+def write_files(folder):
+    with open(folder + 'stdin', 'wb') as f:
+        f.write(bytes(le(4, len(calls))))
+        for entry, budget, before, _, _ in calls:
+            f.write(bytes(le(4, entry) + le(4, budget)))
+            for lent in before: f.write(bytes(le(4, len(lent)) + le(4, given(lent)) + lent[:given(lent)]))
+    with open(folder + 'stdout', 'w') as f:
+        for entry, _, _, result, after in calls:
+            f.write('%s %d\n' % (NAMES[entry], result))
+            for left in after: f.write(bytes(left).hex() + '\n')

@@ -1,0 +1,113 @@
+-- `write_masked` labels the program on notes that are all zero, measures what comes out, and writes it where it fits.
+use native.Mathlib.Omega.{arith}
+use denote.Ref.{now}
+use mathlib.Core.List.{[], _∷_}
+use mathlib.Core.Path.{ap, _∙_}
+use Prim.Native.Nat.{_-_}
+use Rattle.bytes_le.proofs.Numbers.{slice-bytes}
+use Rattle.awhile.specs.Encoding.{tableBytes}
+use Rattle.reader.specs.Index.{tableOf}
+use Rattle.reader.proofs.Index.{indexed-few, indexed-some}
+use Rattle.analysis.proofs.WholeProgram.{fresh-zeros}
+use Rattle.masks.specs.Hardening.{hardenedTable}
+use Rattle.hardener.specs.Output.{Measurable}
+use Rattle.flow.specs.Answers.{answered}
+use Rattle.flow.proofs.HardenedCalls.{measurable, writable}
+use Rattle.flow.proofs.Reading.{writes-all, writes-nothing}
+use borrow.Author.Needs.{needs}
+use Rattle.flow.proofs.harden.write_masked.Statement.{statement}
+use Rattle.flow.proofs.harden.write_masked.Tie as tie
+
+slice-aggregate-label-program : tie.Need-slice-aggregate-label-program
+slice-aggregate-label-program c = search needs
+
+slice-aggregate-label-program-2 : tie.Need-slice-aggregate-label-program-2
+slice-aggregate-label-program-2 c = search needs
+
+label-program-requires : tie.Need-label-program-requires
+label-program-requires c κs =
+    let start = c .before .before .before .before .before .before in
+    let table = now (start .args .table) in
+    let ready = start .pre .0 in
+    (fresh-zeros 4096 (ready .indexed) (indexed-few table (now (start .args .index)) (slice-bytes table (c .before .before .before .before .before .shared-slice-known .given)) (ready .indexed)), ready .isNodes, ready .isLabels)
+
+sub-root : tie.Need-sub-root
+sub-root c =
+    let start = c .before .before .before .before .before .before .before .before .before in
+    let table = now (start .args .table) in
+    omega (arith, indexed-some table (now (start .args .index)) (slice-bytes table (c .before .before .before .before .before .before .before .before .shared-slice-known .given)) (start .pre .0 .indexed), start .pre .0 .isNodes)
+
+-- the labelled program can be measured
+labelled : (d : tie.After-label-program) → Measurable (now (d .before .before .before .before .before .before .before .args .table)) (now (d .before .before .before .before .before .before .before .args .index)) (d .label-program .last .1 .1 .0) (d .label-program .last .1 .1 .1 .0) (d .before .before .before .before .before .before .before .args .arrays) (d .before .before .before .before .before .before .before .args .nodes - 1)
+labelled d =
+    let start = d .before .before .before .before .before .before .before in
+    measurable (start .pre .0) (slice-bytes (now (start .args .table)) (d .before .before .before .before .before .before .shared-slice-known .given)) (d .label-program .ensures .1) (start .pre .1)
+
+slice-aggregate-measure-hardened : tie.Need-slice-aggregate-measure-hardened
+slice-aggregate-measure-hardened c = search needs
+
+slice-aggregate-measure-hardened-2 : tie.Need-slice-aggregate-measure-hardened-2
+slice-aggregate-measure-hardened-2 c = search needs
+
+measure-hardened-requires : tie.Need-measure-hardened-requires
+measure-hardened-requires c κs = labelled (c .before .before .before .before)
+
+answer-refusal-requires : tie.Need-answer-refusal-requires
+answer-refusal-requires c κs = search needs
+
+same-length : tie.Need-same-length
+same-length c = search needs
+
+returns : tie.Need-returns
+returns c =
+    let start = c .before .before .before .before .before .before .before .before .before .before .before .before .before .before .before .before .before .before in
+    writes-nothing (tableBytes (hardenedTable (tableOf (now (start .args .table))))) (now (start .args .out)) (now (start .args .answer)) (omega (arith, c .before .before .before .before .if1 .taken, c .before .before .before .before .before .before .measure-hardened .ensures .bytesCounted))
+    (c .before .before .answer-refusal .ensures .0) (c .before .before .answer-refusal .ensures .1)
+
+slice-aggregate-write-hardened : tie.Need-slice-aggregate-write-hardened
+slice-aggregate-write-hardened c = search needs
+
+slice-aggregate-write-hardened-2 : tie.Need-slice-aggregate-write-hardened-2
+slice-aggregate-write-hardened-2 c = search needs
+
+write-hardened-requires : tie.Need-write-hardened-requires
+write-hardened-requires c κs =
+    writable (c .before .before .before .before .before .before .before .before .before .before .before .before .before .before .before .before .before .pre .0) (labelled (c .before .before .before .before .before .before .before .before .before .before)) (c .before .before .before .before .before .measure-hardened .ensures) (omega (arith, c .before .before .before .if1 .left))
+
+answer-two-requires : tie.Need-answer-two-requires
+answer-two-requires c κs = search needs
+
+same-length-2 : tie.Need-same-length-2
+same-length-2 c = search needs
+
+same-length-3 : tie.Need-same-length-3
+same-length-3 c = search needs
+
+returns-2 : tie.Need-returns-2
+returns-2 c =
+    let start = c .before .before .before .before .before .before .before .before .before .before .before .before .before .before .before .before .before .before .before .before .before .before .before .before in
+    let size = c .before .before .before .before .before .before .before .before .before .before .before .before .measure-hardened .ensures .bytesCounted in
+    writes-all (tableBytes (hardenedTable (tableOf (now (start .args .table))))) (now (start .args .out)) (now (start .args .answer)) (omega (arith, c .before .before .before .before .before .before .before .before .before .before .if1 .left, size)) (c .before .before .before .before .before .before .write-hardened .ensures .stored)
+    (c .before .before .answer-two .ensures ∙ ap (λ k. answered (0 ∷ k ∷ []) (now (start .args .answer))) size)
+
+pub write-masked-spec : {M : Type 1} → statement M
+write-masked-spec =
+    tie.close
+    (tie.spec
+    slice-aggregate-label-program
+    slice-aggregate-label-program-2
+    label-program-requires
+    sub-root
+    slice-aggregate-measure-hardened
+    slice-aggregate-measure-hardened-2
+    measure-hardened-requires
+    answer-refusal-requires
+    same-length
+    returns
+    slice-aggregate-write-hardened
+    slice-aggregate-write-hardened-2
+    write-hardened-requires
+    answer-two-requires
+    same-length-2
+    same-length-3
+    returns-2)

@@ -1,0 +1,130 @@
+// The hardened form of a table.
+use crate::answer::answer_refusal;
+use crate::answer::answer_two;
+use analysis::program::label_program;
+use awhile::Labelling;
+use awhile::MAX_NODES;
+use awhile::MAX_VARIABLES;
+use awhile::Refusal;
+use hardener::tables::measure_hardened;
+use hardener::tables::write_hardened;
+use reader::Read;
+use reader::tables::read;
+ghost use Rattle.awhile.specs.Encoding.{tableBytes};
+ghost use Rattle.reader.specs.Index.{tableOf};
+ghost use Rattle.awhile.specs.Refusals.{got};
+ghost use Rattle.masks.specs.Hardening.{hardenedTable};
+ghost use Rattle.flow.specs.Hardened.{HardenReady, HasHardened, Hardens};
+ghost use Rattle.flow.specs.Promises.{Writes};
+ghost use Rattle.flow.specs.Writing.{writing, hardenedIn};
+
+// The most nodes that are hardened: eight come out per node at most, and a table has no more than MAX_NODES.
+const MAX_HARDENED: usize = 512;
+
+// Labels a table that was read, and writes its hardened form, if there is room for it.
+fn write_masked(
+    table: &[u8],
+    index: &[u16],
+    variables: usize,
+    arrays: usize,
+    nodes: usize,
+    labels: Labelling,
+    out: &mut [u8],
+    answer: &mut [u8],
+) -> u64
+    requires { ⌜ HardenReady (now table) (now index) variables arrays nodes labels × HasHardened (now table) ⌝ }
+    ensures { λ r. ⌜ Writes (writing (got (tableBytes (hardenedTable (tableOf (now (table .entry)))))) (now (out .entry)) (now (answer .entry)))
+        r (now (out .exit)) (now (answer .exit)) ⌝ }
+{
+    let mut variable_notes = [0u64; MAX_NODES];
+    let mut array_notes = [0u32; MAX_NODES];
+    label_program(
+        table,
+        index,
+        &mut variable_notes,
+        &mut array_notes,
+        nodes,
+        labels,
+    );
+    let root = nodes - 1;
+    let size = measure_hardened(table, index, &variable_notes, &array_notes, arrays, root);
+    if out.len() < size.bytes {
+        return answer_refusal(&mut *answer, Refusal::ShortBuffer);
+    }
+    write_hardened(
+        table,
+        index,
+        &variable_notes,
+        &array_notes,
+        variables,
+        arrays,
+        labels,
+        root,
+        size.nodes,
+        &mut *out,
+    );
+    answer_two(&mut *answer, 0, size.bytes as u64);
+    0
+}
+
+// The answer for a table that was read: too many nodes come first, then no free variable number, then the buffer.
+fn answer_hardened(
+    table: &[u8],
+    index: &[u16],
+    variables: usize,
+    arrays: usize,
+    nodes: usize,
+    labels: Labelling,
+    out: &mut [u8],
+    answer: &mut [u8],
+) -> u64
+    requires { ⌜ HardenReady (now table) (now index) variables arrays nodes labels ⌝ }
+    ensures { λ r. ⌜ Writes (writing (hardenedIn (tableOf (now (table .entry)))) (now (out .entry)) (now (answer .entry)))
+        r (now (out .exit)) (now (answer .exit)) ⌝ }
+{
+    if MAX_HARDENED < nodes {
+        return answer_refusal(&mut *answer, Refusal::TooManyNodes);
+    }
+    if MAX_VARIABLES <= variables {
+        return answer_refusal(&mut *answer, Refusal::NoFreeVariable);
+    }
+    write_masked(
+        table,
+        index,
+        variables,
+        arrays,
+        nodes,
+        labels,
+        &mut *out,
+        &mut *answer,
+    )
+}
+
+// Writes the hardened form of a table into a lent buffer.
+#[no_mangle]
+pub extern "C" fn flow_harden(table: &[u8], out: &mut [u8], answer: &mut [u8]) -> u64
+    ensures { λ r. ⌜ Hardens (now (table .entry)) (now (out .entry)) (now (answer .entry)) r (now (out .exit)) (now (answer .exit)) ⌝ }
+{
+    let mut index = [0u16; MAX_NODES];
+    let found = read(table, &mut index);
+    match found {
+        Read::Refused { refusal } => answer_refusal(&mut *answer, refusal),
+        Read::Accepted {
+            variables,
+            arrays,
+            nodes,
+            cells: _,
+            labels,
+            end: _,
+        } => answer_hardened(
+            table,
+            &index,
+            variables,
+            arrays,
+            nodes,
+            labels,
+            &mut *out,
+            &mut *answer,
+        ),
+    }
+}
