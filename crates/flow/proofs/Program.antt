@@ -1,8 +1,9 @@
 -- Input of any length: what follows the longest table does not matter.
 use Prim.Native.Nat.{ℕ, _≤_, _<_}
 use mathlib.Core.List.{List}
-use mathlib.Core.Path.{_≡_, ap, subst, _∙_}
+use mathlib.Core.Path.{_≡_, sym, ap, subst, _∙_}
 use lib.ListN.{length, take}
+use lib.Seq.{length-take-le}
 use Rattle.bytes_le.proofs.Numbers.{Below}
 use Rattle.awhile.specs.Refusals.{Answer, refused, got, andThen}
 use Rattle.awhile.specs.Tables.{Table, Reading, rejected, notATree, accepted, longestTable}
@@ -38,6 +39,7 @@ pub answers-read : {s buffer : List ℕ} {size : ℕ} → size ≤ length buffer
 answers-read {s} {buffer} {size} fits own =
     record {
       fits = fits;
+      counted = sym (length-take-le size buffer fits);
       own = own;
       whole = λ input bytes k more e. answers-long input bytes k more (subst (λ (x : List ℕ). AnswersInput x (take size buffer)) e own);
     }

@@ -37,5 +37,6 @@ pub record AnswersInput (input written : List ℕ) : Type 0 where
 -- and for every input that they are the first bytes of, if they are all of it or more than the longest table has.
 pub record AnswersRead (bytes buffer : List ℕ) (size : ℕ) : Type 0 where
   pub fits : size ≤ length buffer
+  pub counted : size ≡ length (take size buffer)
   pub own : AnswersInput bytes (take size buffer)
   pub whole : (input : List ℕ) → Below 256 input → (k : ℕ) → longestTable < k → bytes ≡ take k input → AnswersInput input (take size buffer)
