@@ -69,7 +69,7 @@ hardened-short s t bytes reads small free =
 
 data Leaves (place : ℕ) (s out answer : List ℕ) : Type 0 where
   refuses : (r : Refusal) → hardenedInput place s ≡ refusalRecord r → hardenEntry place s out answer ≡ notWritten r out answer → Leaves place s out answer
-  hardens : length (hardenedInput place s) ≤ longestTable → hardenEntry place s out answer ≡ writtenAll (hardenedInput place s) out answer → Leaves place s out answer
+  writes-hardened : length (hardenedInput place s) ≤ longestTable → hardenEntry place s out answer ≡ writtenAll (hardenedInput place s) out answer → Leaves place s out answer
 
 module _ (place : ℕ) (s out answer : List ℕ) where
   input-is : (a : Answer (List ℕ)) → andThen (tableIn s place) hardenedIn ≡ a
@@ -90,7 +90,7 @@ module _ (place : ℕ) (s out answer : List ℕ) where
   hardens-all bytes short room e =
       let is : hardenedInput place s ≡ bytes = input-is (got bytes) e in
       let fits : writing (got bytes) out answer ≡ writtenAll bytes out answer = rw (le-leb (length bytes) (length out) (omega arith)) in
-      hardens (rw is short) (rw is (entry-is (got bytes) e ∙ fits))
+      writes-hardened (rw is short) (rw is (entry-is (got bytes) e ∙ fits))
 
   leaves : Below 256 s → longestTable ≤ length out → Leaves place s out answer
   unfolding hardenedIn
@@ -117,7 +117,7 @@ module _ {s out out′ answer′ : List ℕ} {n : ℕ} (below : Below 256 s) (ro
     where
       go : Leaves (w .place) s out (replicate 16 0) → AnswersRead s out′ size
       go (refuses r i x) = absurd (refusal-not-zero r (sym (w .results ∙ ap (λ (v : Written). v .result) x) ∙ zero))
-      go (hardens short x) =
+      go (writes-hardened short x) =
           let bytes : List ℕ = hardenedInput (w .place) s in
           let wrote : out′ ≡ bytes ++ drop (length bytes) out = w .buffers ∙ ap (λ (v : Written). v .buffer) x in
           let said : answer′ ≡ answered (0 ∷ length bytes ∷ []) (replicate 16 0) = w .answers ∙ ap (λ (v : Written). v .answer) x in
@@ -142,4 +142,4 @@ module _ {s out out′ answer′ : List ℕ} {n : ℕ} (below : Below 256 s) (ro
           e ∙ ap₂ (λ (l b : List ℕ). sets l 0 b) kept record-is ∙ written-front (refusalRecord r) out (omega arith) in
           answers-read (omega (arith, ap length wrote, length-append (refusalRecord r) (drop (length (refusalRecord r)) out)))
           (record { place = w .place; placed = w .placed; answers = ap (take 10) wrote ∙ take-at (refusalRecord r) (drop (length (refusalRecord r)) out) 10 ten ∙ sym i })
-      go (hardens short x) = absurd (some (w .results ∙ ap (λ (v : Written). v .result) x))
+      go (writes-hardened short x) = absurd (some (w .results ∙ ap (λ (v : Written). v .result) x))
