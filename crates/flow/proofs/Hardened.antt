@@ -67,7 +67,7 @@ writing-zero Q (got out) buffer answer zero next = go (leb (length out) (length 
     go false e = absurd (refusal-not-zero ShortBuffer (rw e at zero))
 
 -- its table was accepted
-table-got : {A : Type 0} (Q : Type 0) (place : ℕ) (s : List ℕ) (f : Table → Answer A) (x : A) → andThen (tableIn s place) f ≡ got x
+pub table-got : {A : Type 0} (Q : Type 0) (place : ℕ) (s : List ℕ) (f : Table → Answer A) (x : A) → andThen (tableIn s place) f ≡ got x
     → ((t : Table) → readTable s ≡ accepted t → f t ≡ got x → Q) → Q
 unfolding tableIn andThen
 table-got {A} Q place s f x e next = go (readTable s) refl

@@ -97,8 +97,8 @@ hardened-writes {s} has out answer h =
 
 -- ---- the promise
 -- an entry that writes as it is defined to meets the demands where it answers 0
-pub hardens : {s out answer out′ answer′ : List ℕ} {k : ℕ} → Below 256 s → WritesAs hardenEntry s out answer k out′ answer′ → Hardens s out answer k out′ answer′
-hardens {s} {out} {answer} {out′} {answer′} {k} bytes w =
+pub entry-hardens : {s out answer out′ answer′ : List ℕ} {k : ℕ} → Below 256 s → WritesAs hardenEntry s out answer k out′ answer′ → Hardens s out answer k out′ answer′
+entry-hardens {s} {out} {answer} {out′} {answer′} {k} bytes w =
     record {
       writes = w;
       demands = λ e.

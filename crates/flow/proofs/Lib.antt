@@ -7,4 +7,5 @@ pub mod Answers
 pub mod Program
 pub mod Reading
 pub mod HardenedCalls
+pub mod ProgramAnswers
 pub mod Runs

@@ -23,7 +23,7 @@ use Rattle.flow.proofs.Hardened.{table-in}
 
 -- ---- a buffer and what is to be written
 -- bytes stored at the front are written over what was there
-written-front : (out buffer : List ℕ) → length out ≤ length buffer → sets buffer 0 out ≡ writtenOver out buffer
+pub written-front : (out buffer : List ℕ) → length out ≤ length buffer → sets buffer 0 out ≡ writtenOver out buffer
 unfolding writtenOver
 written-front out buffer h = sets-eq out buffer 0 (omega arith) ∙ rw zero-add
 

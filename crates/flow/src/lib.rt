@@ -1,5 +1,6 @@
-// The exported entries, and nothing else.
+// The exported entries, and what the program does with standard input.
 mod answer;
 pub mod harden;
+pub mod input;
 pub mod machines;
 pub mod sheet;

@@ -7,7 +7,7 @@ use Rattle.awhile.specs.declared.Labelling.{Labelling}
 use Rattle.reader.specs.declared.Read.the-variants.{Accepted}
 use Rattle.flow.specs.Hardened.{HardenReady}
 use Rattle.flow.specs.Writing.{hardenedIn, hardenEntry}
-use Rattle.flow.proofs.HardenedCalls.{reader-ready, hardens}
+use Rattle.flow.proofs.HardenedCalls.{reader-ready, entry-hardens}
 use Rattle.flow.proofs.Reading.{read-refused, read-accepted}
 use borrow.Author.Needs.{needs}
 use Rattle.flow.proofs.harden.flow_harden.Statement.{statement}
@@ -47,7 +47,7 @@ unfolding hardenEntry
 returns c =
     let start = c .before .before .before .before .before .before .before .before .before .before .before .before .before in
     let table = now (start .args .table) in
-    hardens (slice-bytes table (c .before .before .before .before .before .before .before .before .before .before .before .before .shared-slice-known .given))
+    entry-hardens (slice-bytes table (c .before .before .before .before .before .before .before .before .before .before .before .before .shared-slice-known .given))
     (read-refused hardenedIn table (now (start .args .out)) (now (start .args .answer)) (c .before .before .before .before .before .before .before .before .read .last .1 .0) (c .before .before .before .before .before .before .before .before .read .result) _ (c .before .before .before .before .before .before .before .before .read .ensures) (c .before .before .before .before .before .found .given .1)
     (c .before .before .answer-refusal .ensures .0) (c .before .before .answer-refusal .ensures .1))
 
@@ -62,7 +62,7 @@ unfolding hardenEntry
 returns-2 c =
     let start = c .before .before .before .before .before .before .before .before .before .before .before .before .before .before .before .before .before in
     let table = now (start .args .table) in
-    hardens (slice-bytes table (c .before .before .before .before .before .before .before .before .before .before .before .before .before .before .before .before .shared-slice-known .given))
+    entry-hardens (slice-bytes table (c .before .before .before .before .before .before .before .before .before .before .before .before .before .before .before .before .shared-slice-known .given))
     (read-accepted hardenedIn table (now (start .args .out)) (now (start .args .answer)) (c .before .before .before .before .before .before .before .before .before .before .before .before .read .last .1 .0) (ready (c .before .before .before .before .before .before .before .before .before .before .before .before) _ _ _ _ _ _ (c .before .before .before .before .before .before .before .before .before .found2 .given .1) .indexed) (c .before .before .before .before .answer-hardened .ensures))
 
 pub flow-harden-spec : {M : Type 1} → statement M

@@ -1,0 +1,31 @@
+-- `put_refusal` stores four numbers one behind the other.
+use denote.Ref.{now}
+use Rattle.flow.proofs.ProgramAnswers.{refusal-stored}
+use borrow.Author.Needs.{needs}
+use Rattle.flow.proofs.input.put_refusal.Statement.{statement}
+use Rattle.flow.proofs.input.put_refusal.Tie as tie
+
+put16-requires : tie.Need-put16-requires
+put16-requires c κs = search needs
+
+put16-requires-2 : tie.Need-put16-requires-2
+put16-requires-2 c κs = search needs
+
+put16-requires-3 : tie.Need-put16-requires-3
+put16-requires-3 c κs = search needs
+
+put32-requires : tie.Need-put32-requires
+put32-requires c κs = search needs
+
+same-length : tie.Need-same-length
+same-length c = search needs
+
+returns : tie.Need-returns
+returns c =
+    let start = c .before .before .before .before .before .before .before .before .before .before .before .before .before .before .before .before .before in
+    refusal-stored (now (start .args .out)) (start .args .refusal) (start .args .place) (c .before .before .before .before .before .before .before .before .before .before .before .before .before .before .put16 .ensures) (c .before .before .before .before .before .before .before .before .before .before .put162 .ensures) (c .before .before .before .before .before .before .put163 .ensures) (c .before .before .put32 .ensures)
+
+pub put-refusal-spec : {M : Type 1} → statement M
+put-refusal-spec =
+    tie.close
+    (tie.spec put16-requires put16-requires-2 put16-requires-3 put32-requires same-length returns)

@@ -1,0 +1,13 @@
+// Reads a table on standard input, and writes the hardened one, or the record of its refusal, on standard output.
+use flow::input::INPUT_BYTES;
+use flow::input::OUTPUT_BYTES;
+use flow::input::harden_input;
+use libc::STDOUT_FILENO;
+
+fn main() {
+    let mut input = [0u8; INPUT_BYTES];
+    let mut output = [0u8; OUTPUT_BYTES];
+    let n = io::read_full(0, &mut input);
+    let size = harden_input(&input[..n], &mut output);
+    io::write_all(STDOUT_FILENO, &output[..size]);
+}
