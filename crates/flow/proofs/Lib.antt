@@ -4,8 +4,6 @@ pub mod Accepted
 pub mod Security
 pub mod Hardened
 pub mod Answers
-pub mod Program
 pub mod Reading
 pub mod HardenedCalls
-pub mod ProgramAnswers
 pub mod Runs

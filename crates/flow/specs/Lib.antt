@@ -5,5 +5,4 @@ pub mod Running
 pub mod Security
 pub mod Promises
 pub mod Hardened
-pub mod Program
 pub mod Runs

@@ -1,6 +1,5 @@
-// The exported entries, and what the program does with standard input.
+// The exported entries, and nothing else.
 mod answer;
 pub mod harden;
-pub mod input;
 pub mod machines;
 pub mod sheet;

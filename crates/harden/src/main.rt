@@ -1,7 +1,7 @@
 // Reads a table on standard input, and writes the hardened one, or the record of its refusal, on standard output.
-use flow::input::INPUT_BYTES;
-use flow::input::OUTPUT_BYTES;
-use flow::input::harden_input;
+use program::input::INPUT_BYTES;
+use program::input::OUTPUT_BYTES;
+use program::input::harden_input;
 use libc::STDOUT_FILENO;
 
 fn main() {

@@ -1,9 +1,9 @@
 -- `put_refusal` stores four numbers one behind the other.
 use denote.Ref.{now}
-use Rattle.flow.proofs.ProgramAnswers.{refusal-stored}
+use Rattle.program.proofs.ProgramAnswers.{refusal-stored}
 use borrow.Author.Needs.{needs}
-use Rattle.flow.proofs.input.put_refusal.Statement.{statement}
-use Rattle.flow.proofs.input.put_refusal.Tie as tie
+use Rattle.program.proofs.input.put_refusal.Statement.{statement}
+use Rattle.program.proofs.input.put_refusal.Tie as tie
 
 put16-requires : tie.Need-put16-requires
 put16-requires c κs = search needs

@@ -18,14 +18,14 @@ use Rattle.awhile.proofs.Accepted.{accepted-well-formed}
 use Rattle.machine.specs.Memory.{writtenOver}
 use Rattle.masks.specs.Hardening.{hardenedTable, maxHardened}
 use Rattle.masks.proofs.Demands.{demands-met}
 use Rattle.flow.specs.Answers.{answered, refusalNumbers, tableIn}
 use Rattle.flow.specs.Promises.{WritesAs}
 use Rattle.flow.specs.Writing.{Written, notWritten, writtenAll, writing, hardenedIn, hardenEntry}
-use Rattle.flow.specs.Program.{refusalBytes, refusalRecord, hardenedInput, AnswersRead}
+use Rattle.program.specs.Program.{refusalBytes, refusalRecord, hardenedInput, AnswersRead}
 use Rattle.flow.proofs.Accepted.{refusal-not-zero, check-got}
 use Rattle.flow.proofs.Hardened.{table-got}
-use Rattle.flow.proofs.Program.{answers-read}
+use Rattle.program.proofs.Program.{answers-read}
 use Rattle.flow.proofs.Reading.{written-front}
 
 -- ---- the second number of an answer, read again
 -- its four lower bytes

@@ -1,5 +1,5 @@
 // What the program does: from the bytes of standard input to those of standard output.
-use crate::harden::flow_harden;
+use flow::harden::flow_harden;
 use bytes_le::get;
 use bytes_le::put;
 ghost use Prim.Native.Nat.{_≤_};
@@ -7,7 +7,7 @@ ghost use mathlib.Core.Path.{_≡_};
 ghost use lib.ListN.{length};
 ghost use lib.Seq.{sets};
 ghost use Rattle.awhile.specs.Tables.{longestTable};
-ghost use Rattle.flow.specs.Program.{refusalBytes, AnswersRead};
+ghost use Rattle.program.specs.Program.{refusalBytes, AnswersRead};
 
 // The longest table has 41,076 bytes. One byte more of the input settles its answer, whatever follows.
 pub const INPUT_BYTES: usize = 41077;

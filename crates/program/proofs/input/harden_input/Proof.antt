@@ -1,10 +1,10 @@
 -- `harden_input` makes the output of what the entry leaves.
 use denote.Ref.{now}
 use Rattle.bytes_le.proofs.Numbers.{slice-bytes}
-use Rattle.flow.proofs.ProgramAnswers.{hardened-answered, refused-answered}
+use Rattle.program.proofs.ProgramAnswers.{hardened-answered, refused-answered}
 use borrow.Author.Needs.{needs}
-use Rattle.flow.proofs.input.harden_input.Statement.{statement}
-use Rattle.flow.proofs.input.harden_input.Tie as tie
+use Rattle.program.proofs.input.harden_input.Statement.{statement}
+use Rattle.program.proofs.input.harden_input.Tie as tie
 
 slice-aggregate-flow-harden : tie.Need-slice-aggregate-flow-harden
 slice-aggregate-flow-harden c = search needs

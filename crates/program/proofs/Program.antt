@@ -9,9 +9,9 @@ use Rattle.awhile.specs.Refusals.{Answer, refused, got, andThen}
 use Rattle.awhile.specs.Tables.{Table, Reading, rejected, notATree, accepted, longestTable}
 use Rattle.awhile.specs.declared.Refusal.the-variants.{NotATree}
 use Rattle.awhile.proofs.LongInput.{long-input}
 use Rattle.flow.specs.Answers.{tableIn}
 use Rattle.flow.specs.Writing.{hardenedIn}
-use Rattle.flow.specs.Program.{refusalRecord, hardenedInput, AnswersInput, AnswersRead}
+use Rattle.program.specs.Program.{refusalRecord, hardenedInput, AnswersInput, AnswersRead}
 
 -- an input is read as its first bytes are, if these are more than the longest table has
 pub table-long : (s : List ℕ) → Below 256 s → (k place : ℕ) → longestTable < k → tableIn (take k s) place ≡ tableIn s place

@@ -1,0 +1,2 @@
+-- What the program writes for an input.
+pub mod Program
