@@ -21,7 +21,7 @@ use Rattle.masks.proofs.Demands.{demands-met}
 use Rattle.flow.specs.Answers.{tableIn}
 use Rattle.flow.specs.Writing.{notWritten, writtenAll, writing, hardenedIn, hardenEntry}
 use Rattle.flow.specs.Security.{CallsShowTheSame}
-use Rattle.flow.specs.Hardened.{HardenedInto}
+use Rattle.flow.specs.Promises.{HardenedInto}
 use Rattle.flow.proofs.Accepted.{refusal-not-zero, check-got}
 use Rattle.flow.proofs.Security.{calls-related}
 

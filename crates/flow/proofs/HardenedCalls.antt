@@ -21,8 +21,10 @@ use Rattle.masks.specs.Hardening.{hardenedTable, maxHardened}
 use Rattle.hardener.specs.Output.{Measurable, Measured, Writable}
 use Rattle.hardener.specs.declared.Size.{Size}
 use Rattle.flow.specs.Answers.{answered, refusalNumbers}
-use Rattle.flow.specs.Hardened.{HardenReady, HasHardened, HardenedInto, Hardens}
-use Rattle.flow.specs.Promises.{Writes, WritesAs}
+use Rattle.flow.specs.Writes.{HardenReady, HasHardened}
+use Rattle.flow.specs.Promises.{HardenedInto, Hardens}
+use Rattle.flow.specs.Writes.{Writes}
+use Rattle.flow.specs.Promises.{WritesAs}
 use Rattle.flow.specs.Writing.{notWritten, writing, hardenedIn, hardenEntry}
 use Rattle.flow.proofs.Hardened.{hardened-into}
 

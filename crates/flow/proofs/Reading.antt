@@ -18,7 +18,8 @@ use Rattle.awhile.specs.declared.Refusal.the-variants.{NotATree, ShortBuffer}
 use Rattle.machine.specs.Memory.{writtenOver}
 use Rattle.flow.specs.Answers.{answered, refusalNumbers, tableIn}
 use Rattle.flow.specs.Writing.{Written, notWritten, writtenAll, writing}
-use Rattle.flow.specs.Promises.{Placed, WritesAs, Writes}
+use Rattle.flow.specs.Promises.{Placed, WritesAs}
+use Rattle.flow.specs.Writes.{Writes}
 use Rattle.flow.proofs.Hardened.{table-in}
 
 -- ---- a buffer and what is to be written

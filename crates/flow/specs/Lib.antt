@@ -4,5 +4,6 @@ pub mod Writing
 pub mod Running
 pub mod Security
 pub mod Promises
-pub mod Hardened
+-- what the code inside the entries asks and answers
+pub mod Writes
 pub mod Runs

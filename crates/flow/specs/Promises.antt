@@ -1,19 +1,16 @@
--- The answer slice as code writes it, and what the exported entries promise: each lent slice at exit and the result, by equations.
-use Prim.Native.Nat.{ℕ, _+_}
-use mathlib.Core.Bool.{cond}
+-- WHAT THE FOUR ENTRIES PROMISE, on any bytes: each lent slice at exit, the result and the answer slice, by equations with the entry's
+-- definition; and of a table that was hardened, the demands.
+use Prim.Native.Nat.{ℕ}
 use mathlib.Core.List.{List, [], _∷_}
 use mathlib.Core.Path.{_≡_}
-use lib.ListN.{length}
-use lib.Seq.{sets}
-use lib.Dec.{leb}
-use Rattle.bytes_le.specs.Numbers.{le}
-use Rattle.awhile.specs.Tables.{Table, notATree, readTable, BreaksRule}
-use Rattle.flow.specs.Writing.{Written, sheetEntry, hardenEntry}
+use lib.ListN.{take}
+use Rattle.awhile.specs.Tables.{Table, accepted, notATree, readTable, BreaksRule}
+use Rattle.masks.specs.Hardening.{hardenedProgram}
+use Rattle.masks.specs.Demands.{Demands}
+use Rattle.flow.specs.Answers.{answered}
+use Rattle.flow.specs.Writing.{Written, hardenEntry}
 use Rattle.flow.specs.Running.{Lent, Ran, runEntry, guessEntry}
-
--- one 8-byte number at an offset, if it fits whole
-unfoldable pub numberPut : List ℕ → (at number : ℕ) → List ℕ
-numberPut slice at n = cond (leb (at + 8) (length slice)) (sets slice at (le 8 n)) slice
+use Rattle.flow.specs.Security.{CallsShowTheSame}
 
 -- "Free is the place of 6 alone; it is the record of a node that breaks that rule."
 pub record Placed (table : List ℕ) (place : ℕ) : Type 0 where
@@ -27,8 +24,42 @@ pub record WritesAs (entry : ℕ → (table buffer answer : List ℕ) → Writte
   pub buffers : buffer′ ≡ entry place table buffer answer .buffer
   pub answers : answer′ ≡ entry place table buffer answer .answer
 
--- a result, a buffer and an answer slice at exit are those of what was written
-pub record Writes (w : Written) (result : ℕ) (buffer′ answer′ : List ℕ) : Type 0 where
-  pub results : result ≡ w .result
-  pub buffers : buffer′ ≡ w .buffer
-  pub answers : answer′ ≡ w .answer
+-- the lent slices of a run
+abbrev pub lentAt : (variables cells pending observations : List ℕ) → Lent
+lentAt vs cs ps os = record { variables = vs; cells = cs; pending = ps; observations = os }
+
+-- the two entries as definitions of all memory at exit
+abbrev pub runCall : (table : List ℕ) → (budget placeOf6 : ℕ) → Lent → (answer : List ℕ) → Ran
+runCall table budget place lent answer = runEntry place table lent budget answer
+
+abbrev pub guessCall : (table directives : List ℕ) → (budget placeOf6 : ℕ) → Lent → (answer : List ℕ) → Ran
+guessCall table list budget place lent answer = guessEntry place table list lent budget answer
+
+-- an entry that runs a table: the result, every lent slice and the answer slice at exit
+pub record RunsAs (table : List ℕ) (entry : ℕ → Lent → (answer : List ℕ) → Ran) (lent : Lent) (answer : List ℕ) (result : ℕ) (lent′ : Lent) (answer′ : List ℕ) : Type 0 where
+  pub place : ℕ
+  pub placed : Placed table place
+  pub results : result ≡ entry place lent answer .result
+  pub variables : lent′ .variables ≡ entry place lent answer .lent .variables
+  pub cells : lent′ .cells ≡ entry place lent answer .lent .cells
+  pub pending : lent′ .pending ≡ entry place lent answer .lent .pending
+  pub observations : lent′ .observations ≡ entry place lent answer .lent .observations
+  pub answers : answer′ ≡ entry place lent answer .answer
+
+-- What a caller of the hardening entry has where it answers 0, from the table's bytes and the answer slice at entry and what stands at exit
+pub record HardenedInto (table answer : List ℕ) (exit : Written) : Type 0 where
+  -- the table that was accepted
+  pub original : Table
+  pub reads : readTable table ≡ accepted original
+  -- how many bytes were written, as the answer says
+  pub size : ℕ
+  pub answers : exit .answer ≡ answered (0 ∷ size ∷ []) answer
+  -- so many bytes of the buffer at exit are a table of the hardened program, which runs as the original does and meets demand 3
+  pub demands : Demands original (hardenedProgram original) (take size (exit .buffer))
+  -- and demand 3 holds of calls of the guessing entry on them
+  pub calls : CallsShowTheSame original (take size (exit .buffer))
+
+-- THE PROMISE of the hardening entry: result, buffer and answer slice at exit, by equations; and where it answers 0, the demands
+pub record Hardens (table out answer : List ℕ) (result : ℕ) (out′ answer′ : List ℕ) : Type 0 where
+  pub writes : WritesAs hardenEntry table out answer result out′ answer′
+  pub demands : result ≡ 0 → HardenedInto table answer (record { result = result; buffer = out′; answer = answer′ })

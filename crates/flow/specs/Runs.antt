@@ -1,4 +1,4 @@
--- What the inner functions of the running entries answer and leave, and what the entries promise.
+-- What the inner functions of the running entries answer and leave.
 use Prim.Native.Nat.{ℕ, _*_}
 use mathlib.Core.Bool.{Bool, cond}
 use mathlib.Core.List.{List, [], _∷_}
@@ -21,10 +21,6 @@ use Rattle.flow.specs.Running.{Lent, Ran, lentFor, runIn, ranAll, runEnt
 use Rattle.flow.specs.Promises.{Placed}
 use Rattle.flow.specs.declared.machines.Done.{Done}
 use Rattle.flow.specs.declared.machines.Done.the-variants.{Refused, Ended}
-
--- the lent slices of a run
-abbrev pub lentAt : (variables cells pending observations : List ℕ) → Lent
-lentAt vs cs ps os = record { variables = vs; cells = cs; pending = ps; observations = os }
 
 -- the answer's numbers of a run's report: "this end, steps, directives used, observation bytes, flag, and the next node"
 unfoldable pub reportNumbers : Report → List ℕ
@@ -66,21 +62,3 @@ pub record ReadDone (table list : List ℕ) (guessing : Bool) (budget : ℕ) (le
   pub place : ℕ
   pub placed : Placed table place
   pub came : CameTo (andThen (tableIn table place) (runnable list lent)) list guessing budget lent lent′ done
-
--- the two entries as definitions of all memory at exit
-abbrev pub runCall : (table : List ℕ) → (budget placeOf6 : ℕ) → Lent → (answer : List ℕ) → Ran
-runCall table budget place lent answer = runEntry place table lent budget answer
-
-abbrev pub guessCall : (table directives : List ℕ) → (budget placeOf6 : ℕ) → Lent → (answer : List ℕ) → Ran
-guessCall table list budget place lent answer = guessEntry place table list lent budget answer
-
--- an entry that runs a table: the result, every lent slice and the answer slice at exit
-pub record RunsAs (table : List ℕ) (entry : ℕ → Lent → (answer : List ℕ) → Ran) (lent : Lent) (answer : List ℕ) (result : ℕ) (lent′ : Lent) (answer′ : List ℕ) : Type 0 where
-  pub place : ℕ
-  pub placed : Placed table place
-  pub results : result ≡ entry place lent answer .result
-  pub variables : lent′ .variables ≡ entry place lent answer .lent .variables
-  pub cells : lent′ .cells ≡ entry place lent answer .lent .cells
-  pub pending : lent′ .pending ≡ entry place lent answer .lent .pending
-  pub observations : lent′ .observations ≡ entry place lent answer .lent .observations
-  pub answers : answer′ ≡ entry place lent answer .answer

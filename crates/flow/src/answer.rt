@@ -4,7 +4,7 @@ ghost use mathlib.Core.Path.{_≡_};
 ghost use mathlib.Core.List.{[], _∷_};
 ghost use Rattle.awhile.specs.Refusals.{refusalNumber, refusalPlace};
 ghost use Rattle.flow.specs.Answers.{answered, refusalNumbers};
-ghost use Rattle.flow.specs.Promises.{numberPut};
+ghost use Rattle.flow.specs.Writes.{numberPut};
 use awhile::Refusal;
 
 // One number at an offset, if it fits whole.

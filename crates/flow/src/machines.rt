@@ -15,7 +15,8 @@ ghost use mathlib.Core.Path.{_≡_};
 ghost use lib.ListN.{length};
 ghost use Rattle.machine.specs.Runs.{endNumber};
 ghost use Rattle.flow.specs.Answers.{answered};
-ghost use Rattle.flow.specs.Runs.{resultOf, numbersOf, RunReady, DoneAs, ReadDone, lentAt, RunsAs, runCall, guessCall};
+ghost use Rattle.flow.specs.Runs.{resultOf, numbersOf, RunReady, DoneAs, ReadDone};
+ghost use Rattle.flow.specs.Promises.{lentAt, RunsAs, runCall, guessCall};
 
 // What a call that runs came to.
 pub enum Done {

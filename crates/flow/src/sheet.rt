@@ -15,7 +15,8 @@ ghost use lib.ListN.{length};
 ghost use lib.Seq.{sets};
 ghost use Rattle.reader.specs.Index.{Indexed, tableOf, nodesIn};
 ghost use Rattle.labels.specs.Sheet.{sheetBytes};
-ghost use Rattle.flow.specs.Promises.{WritesAs, Writes};
+ghost use Rattle.flow.specs.Promises.{WritesAs};
+ghost use Rattle.flow.specs.Writes.{Writes};
 ghost use Rattle.awhile.specs.Refusals.{got};
 ghost use Rattle.flow.specs.Writing.{writing, sheetEntry};
 

@@ -1,7 +1,7 @@
 // What the program does: from the bytes of standard input to those of standard output.
-use flow::harden::flow_harden;
 use bytes_le::get;
 use bytes_le::put;
+use flow::harden::flow_harden;
 ghost use Prim.Native.Nat.{_≤_};
 ghost use mathlib.Core.Path.{_≡_};
 ghost use lib.ListN.{length};
