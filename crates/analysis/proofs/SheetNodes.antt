@@ -29,7 +29,7 @@ use Rattle.analysis.specs.Notes.{noteIn, Noted}
 use Rattle.labels.specs.Sheet.{sheetRecord, recordLength, recordOf, entryOf, masksBytes, labelBytes, annotated}
 use Rattle.analysis.specs.Warm.{standing}
 use Rattle.analysis.proofs.Nodes.{command-kinds}
-use Rattle.labels.proofs.Notes.{note-mapped}
+use Rattle.awhile.proofs.Notes.{note-mapped}
 use Rattle.analysis.proofs.Standing.{root-standing}
 use Rattle.analysis.proofs.SheetRecords.{copies, Located, annotated-by-notes, recordAt, records-copied, lengths-copied}
 

@@ -14,7 +14,7 @@ use Rattle.labels.specs.Annotation.{Entry}
 use Rattle.labels.specs.Labellings.{labelOfA, labelOfB}
 use Rattle.analysis.specs.Notes.{noteIn}
 use Rattle.labels.specs.Sheet.{entryOf}
-use Rattle.machine.proofs.Notes.{noteOf-mapped}
+use Rattle.awhile.proofs.Notes.{note-mapped}
 use Rattle.masks.specs.Decisions.{decision, decide}
 use Rattle.masks.specs.Hardening.{Origin, maskedCondition, maskedIndex, harden}
 use Rattle.hardener.specs.InMemory.{annotatedIn, hardenedIn, flagUpdate, testIn, sideIn, ifIn, loopIn, whileIn}
@@ -45,7 +45,7 @@ module _ (table vs arrs : List ℕ) (f n : ℕ) where
       → mask ≡ labelOfB (noteIn vs arrs c .labelling) (truthIn table b) → hardenedIn table vs arrs f n ≡ whileIn table vs arrs f b mask (some n) c
   unfolding hardenedIn annotatedIn harden decide mapNotes noteIn whileIn loopIn sideIn testIn flagUpdate entryOf
   in-while b c p noted e =
-      let entry : noteOf (mapNotes (noteIn vs arrs) (commandIn table c)) ≡ noteIn vs arrs c = noteOf-mapped (noteIn vs arrs) (commandIn table c) ∙ ap (noteIn vs arrs) noted in
+      let entry : noteOf (mapNotes (noteIn vs arrs) (commandIn table c)) ≡ noteIn vs arrs c = note-mapped (noteIn vs arrs) (commandIn table c) ∙ ap (noteIn vs arrs) noted in
       let label = e ∙ ap (λ x. labelOfB (x .labelling) (truthIn table b)) (sym entry) in
       rw (p, label)
 

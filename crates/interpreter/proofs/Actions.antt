@@ -1,6 +1,5 @@
 -- What the command of a node does, by the node's kind.
 use Prim.Native.Nat.{ℕ}
-use mathlib.Core.Bool.{Bool}
 use mathlib.Core.Path.{_≡_}
 use mathlib.Core.List.{List, _∷_}
 use Rattle.awhile.specs.Language.{Com}
@@ -14,6 +13,7 @@ use Rattle.interpreter.specs.Actions.{backOn, quietLook, shownLook, look
 use Rattle.interpreter.specs.declared.action.Back.the-variants.{Nothing, One, Two}
 use Rattle.interpreter.specs.declared.action.Change.the-variants.{PutBack, Assign}
 use Rattle.interpreter.specs.declared.action.Shown.the-variants.{Fork, Get, Put}
+use Rattle.interpreter.specs.declared.action.Action.{Action}
 use Rattle.interpreter.specs.declared.action.Action.the-variants.{Quiet, Show}
 
 module _ (table variables : List ℕ) (n : ℕ) where
@@ -21,35 +21,35 @@ module _ (table variables : List ℕ) (n : ℕ) where
   child-command : (k : ℕ) → Child table Command n k → CommandAt table k
   child-command k child = record { inside = child .inside; isCommand = child .isSort }
 
-  pub looked-skip : Parts table n Skip → Looked table variables n (Quiet (PutBack Nothing))
+  pub looked-skip : (r : Action) → r ≡ Quiet (PutBack Nothing) → Parts table n Skip → Looked table variables n r
   unfolding look lookOf quietLook backOn
-  looked-skip parts = record { isLook = λ rest. rw (parts, look); fits = tt }
+  looked-skip r is parts = rw is (record { isLook = λ rest. rw (parts, look); fits = tt })
 
-  pub looked-assign : (x e v : ℕ) → Parts table n (AssignNode x e) → v ≡ valueIn table variables e → Looked table variables n (Quiet (Assign x v))
+  pub looked-assign : (x e : ℕ) (r : Action) → r ≡ Quiet (Assign x (valueIn table variables e)) → Parts table n (AssignNode x e) → Looked table variables n r
   unfolding look lookOf quietLook valueIn
-  looked-assign x e v parts is = record { isLook = λ rest. rw (parts .2, look, is); fits = parts .0 }
+  looked-assign x e r is parts = rw is (record { isLook = λ rest. rw (parts .2, look); fits = parts .0 })
 
-  pub looked-sequence : (c d : ℕ) → Parts table n (Sequence c d) → Looked table variables n (Quiet (PutBack (Two d c)))
+  pub looked-sequence : (c d : ℕ) (r : Action) → r ≡ Quiet (PutBack (Two d c)) → Parts table n (Sequence c d) → Looked table variables n r
   unfolding look lookOf quietLook backOn
-  looked-sequence c d parts =
-      record { isLook = λ rest. rw (parts .2, look); fits = (child-command d (parts .1), child-command c (parts .0)) }
+  looked-sequence c d r is parts =
+      rw is (record { isLook = λ rest. rw (parts .2, look); fits = (child-command d (parts .1), child-command c (parts .0)) })
 
-  pub looked-if : (b c d : ℕ) (v : Bool) → Parts table n (If b c d) → v ≡ truthIn table variables b → Looked table variables n (Show (Fork v (One c) (One d)))
+  pub looked-if : (b c d : ℕ) (r : Action) → r ≡ Show (Fork (truthIn table variables b) (One c) (One d)) → Parts table n (If b c d) → Looked table variables n r
   unfolding look lookOf shownLook backOn truthIn
-  looked-if b c d v parts is =
-      record { isLook = λ rest. rw (parts .3, look, is); fits = (child-command c (parts .1), child-command d (parts .2)) }
+  looked-if b c d r is parts =
+      rw is (record { isLook = λ rest. rw (parts .3, look); fits = (child-command c (parts .1), child-command d (parts .2)) })
 
-  pub looked-while : (b c : ℕ) (v : Bool) → CommandAt table n → Parts table n (While b c) → v ≡ truthIn table variables b
-      → Looked table variables n (Show (Fork v (Two n c) Nothing))
+  pub looked-while : (b c : ℕ) (r : Action) → r ≡ Show (Fork (truthIn table variables b) (Two n c) Nothing) → CommandAt table n → Parts table n (While b c)
+      → Looked table variables n r
   unfolding look lookOf shownLook backOn truthIn
-  looked-while b c v self parts is =
-      record { isLook = λ rest. rw (parts .2, look, is); fits = ((self, child-command c (parts .1)), tt) }
+  looked-while b c r is self parts =
+      rw is (record { isLook = λ rest. rw (parts .2, look); fits = ((self, child-command c (parts .1)), tt) })
 
-  pub looked-read : (x a e i : ℕ) → Parts table n (Read x a e) → i ≡ valueIn table variables e → Looked table variables n (Show (Get x a i))
+  pub looked-read : (x a e : ℕ) (r : Action) → r ≡ Show (Get x a (valueIn table variables e)) → Parts table n (Read x a e) → Looked table variables n r
   unfolding look lookOf shownLook valueIn
-  looked-read x a e i parts is = record { isLook = λ rest. rw (parts .3, look, is); fits = parts .0 }
+  looked-read x a e r is parts = rw is (record { isLook = λ rest. rw (parts .3, look); fits = parts .0 })
 
-  pub looked-write : (a e f i v : ℕ) → Parts table n (Write a e f) → i ≡ valueIn table variables e → v ≡ valueIn table variables f
-      → Looked table variables n (Show (Put a i v))
+  pub looked-write : (a e f : ℕ) (r : Action) → r ≡ Show (Put a (valueIn table variables e) (valueIn table variables f)) → Parts table n (Write a e f)
+      → Looked table variables n r
   unfolding look lookOf shownLook valueIn
-  looked-write a e f i v parts isIndex isValue = record { isLook = λ rest. rw (parts .3, look, isIndex, isValue); fits = tt }
+  looked-write a e f r is parts = rw is (record { isLook = λ rest. rw (parts .3, look); fits = tt })

@@ -11,6 +11,7 @@ use Rattle.bytes_le.proofs.Numbers.{length-le}
 use Rattle.bytes_le.proofs.Stores.{sets-append}
 use Rattle.interpreter.specs.Effects.{pushed, variablesAfter, cellsAfter, pendingBytes, Performed}
 use Rattle.interpreter.specs.declared.action.Back.{Back}
+use Rattle.interpreter.specs.declared.action.Back.the-variants.{Two}
 use Rattle.interpreter.specs.declared.action.Change.{Change}
 use Rattle.interpreter.specs.declared.action.Change.the-variants.{PutBack, Assign, Store}
 
@@ -33,6 +34,14 @@ pub stored-access : (kind array index at : ℕ) (l m n o p : List ℕ) → m ≡
 stored-access kind array index at l m n o p first second third fourth =
     let e : at + 4 + 2 ≡ at + 6 = omega arith in
     stored-record 10 kind at (le 2 array ++ le 4 index) l m n p first second (fourth ∙ stored-then 2 array (le 4 index) n o (at + 4) (at + 6) e third)
+
+-- two entries put back, one above the other
+pub pushed-two : (b : Back) (rest m n : ℕ) (ps qs rs : List ℕ) → b ≡ Two m n → qs ≡ sets ps (4 * rest) (le 4 m) → rs ≡ sets qs (4 * (rest + 1)) (le 4 n)
+    → rs ≡ pushed b rest ps
+unfolding pushed
+pushed-two b rest m n ps qs rs is first second =
+    let above : 4 * (rest + 1) ≡ 4 * rest + 4 = omega arith in
+    rw (is, pushed, ← first, ← above) second
 
 module _ (change : Change) (rest : ℕ) (vs cs ps : List ℕ) where
   pub performed-back : (b : Back) (ps′ : List ℕ) → change ≡ PutBack b → ps′ ≡ pushed b rest ps → Performed change rest vs cs ps vs cs ps′

@@ -5,7 +5,7 @@ use crate::action::Shown;
 use crate::step::Seen;
 use bytes_le::put::put16;
 use bytes_le::put::put32;
-ghost use Prim.Native.Nat.{_+_, _≤_};
+ghost use Prim.Native.Nat.{_+_, _*_, _^_, _≤_, _<_};
 ghost use mathlib.Core.Bool.{cond};
 ghost use mathlib.Core.Path.{_≡_};
 ghost use mathlib.Core.List.{_++_};
@@ -16,7 +16,15 @@ ghost use Rattle.machine.specs.Observations.{observationBytes};
 ghost use Rattle.interpreter.specs.Actions.{observationOf};
 ghost use Rattle.interpreter.specs.Effects.{PushFits, pushed, PerformFits, Performed, seenBytes};
 
-// Puts commands on the pending list, above so many others. The last one is next.
+// Puts a command on the pending list, above so many others.
+fn put_entry(pending: &mut [u8], rest: usize, n: usize)
+    requires { ⌜ (n < 2 ^ 32) × (4 * rest + 4 ≤ length (now pending)) ⌝ }
+    ensures { λ _. ⌜ now (pending .exit) ≡ sets (now (pending .entry)) (4 * rest) (le 4 n) ⌝ }
+{
+    put32(&mut *pending, 4 * rest, n as u32);
+}
+
+// Puts back what a step puts back. The last one is next.
 fn push(pending: &mut [u8], rest: usize, back: Back)
     requires { ⌜ PushFits back rest (length (now pending)) ⌝ }
     ensures { λ _. ⌜ now (pending .exit) ≡ pushed back rest (now (pending .entry)) ⌝ }
@@ -24,11 +32,11 @@ fn push(pending: &mut [u8], rest: usize, back: Back)
     match back {
         Back::Nothing => {}
         Back::One { next } => {
-            put32(&mut *pending, 4 * rest, next as u32);
+            put_entry(&mut *pending, rest, next);
         }
         Back::Two { below, next } => {
-            put32(&mut *pending, 4 * rest, below as u32);
-            put32(&mut *pending, 4 * rest + 4, next as u32);
+            put_entry(&mut *pending, rest, below);
+            put_entry(&mut *pending, rest + 1, next);
         }
     }
 }

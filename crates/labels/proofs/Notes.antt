@@ -3,7 +3,7 @@ use mathlib.Core.Bool.{Bool, _||_}
 use mathlib.Core.List.{List, _++_}
 use mathlib.Core.Path.{_≡_, refl, ap, ap₂, fun-ext, _∙_}
 use lib.ListN.{length}
-use Rattle.awhile.specs.Language.{Com, skip, assign, sequence, if, while, read, write, noteOf, mapNotes}
+use Rattle.awhile.specs.Language.{Com, skip, assign, sequence, if, while, read, write, mapNotes}
 use Rattle.awhile.specs.declared.Labelling.{Labelling}
 use Rattle.labels.specs.Labellings.{Mark, labelOfB, join}
 use Rattle.labels.specs.Analysis.{targets, settle, analyse}
@@ -30,14 +30,3 @@ module _ {A B : Type 0} (f : A → B) where
       (fun-ext (λ m. analyse-notes c (labelOfB m b || x) m))
   analyse-notes (read n v a i) x l = refl
   analyse-notes (write n a i e) x l = refl
-
-  -- the note of a command with other notes
-  pub note-mapped : (c : Com A) → noteOf (mapNotes f c) ≡ f (noteOf c)
-  unfolding noteOf mapNotes
-  note-mapped (skip n) = refl
-  note-mapped (assign n v e) = refl
-  note-mapped (sequence n c d) = refl
-  note-mapped (if n b c d) = refl
-  note-mapped (while n b c) = refl
-  note-mapped (read n v a i) = refl
-  note-mapped (write n a i e) = refl

@@ -5,7 +5,7 @@ use mathlib.Core.Bool.{Bool, true, false, cond}
 use mathlib.Core.Option.{Option, none, some, Option·map}
 use mathlib.Core.List.{List, [], _∷_, map}
 use lib.ListN.{length}
-use Rattle.awhile.specs.Language.{Com, skip, assign, sequence, if, while, read, write, noteOf, mapNotes}
+use Rattle.awhile.specs.Language.{Com, skip, assign, sequence, if, while, read, write, mapNotes}
 use Rattle.machine.specs.Observations.{Observation, branch, readAt, writeAt, observationBytes, shownBytes}
 use Rattle.machine.specs.Look.{Look, quiet, fork, get, put, look}
 use Rattle.machine.specs.Steps.{State, onlyIf, quietly, turned, loaded, stored, redirected, atFork, atGet, atPut}
@@ -39,17 +39,6 @@ module _ {A B : Type 0} (f : A → B) where
 
   unfoldable pub mapOutcome : Outcome A → Outcome B
   mapOutcome o = record { end = o .end; machine = mapMachine (o .machine) }
-
-  -- a command's note, changed
-  pub noteOf-mapped : (c : Com A) → noteOf (mapNotes f c) ≡ f (noteOf c)
-  unfolding noteOf mapNotes
-  noteOf-mapped (skip n) = refl
-  noteOf-mapped (assign n x e) = refl
-  noteOf-mapped (sequence n c d) = refl
-  noteOf-mapped (if n b c d) = refl
-  noteOf-mapped (while n b c) = refl
-  noteOf-mapped (read n x a i) = refl
-  noteOf-mapped (write n a i e) = refl
 
   -- what a command does next does not depend on its note
   pub look-mapped : (c : Com A) (rest : List (Com A)) (vs : List ℕ) → look (mapNotes f c) (mapPending rest) vs ≡ mapLook (look c rest vs)

@@ -18,7 +18,8 @@ use Rattle.machine.specs.declared.End.{End}
 use Rattle.machine.specs.declared.End.the-variants.{Finished, Spent, Stuck}
 use Rattle.machine.proofs.Prefixes.{begins-equal}
 use Rattle.machine.proofs.Runs.{ends-once, ends-differ}
-use Rattle.machine.proofs.Notes.{noteOf-mapped, mapPending, mapState, mapMachine, mapOutcome, run-mapped, started-mapped}
+use Rattle.awhile.proofs.Notes.{note-mapped}
+use Rattle.machine.proofs.Notes.{mapPending, mapState, mapMachine, mapOutcome, run-mapped, started-mapped}
 use Rattle.masks.specs.Decisions.{Decision, decide}
 use Rattle.masks.specs.Hardening.{Origin, harden, hardenedProgram}
 use Rattle.masks.specs.SameRun.{AssignsBelow, plainRun, nextNote, AtSome, SameResult, NextIsCopy, SameRun}
@@ -114,7 +115,7 @@ module _ {Note : Type 0} (f : ℕ) (origin : Note → Origin) (o : ℕ → Outco
   next-renoted : (cs : List (Com ℕ)) (hs : List (Com Note)) → NextIsCopy itself cs (mapPending origin hs) → NextIsCopy origin cs hs
   unfolding mapPending nextNote
   next-renoted cs [] n = record { node = n .node; next = n .next; copy = n .copy }
-  next-renoted cs (h ∷ hs) n = record { node = n .node; next = n .next; copy = sym (ap some (noteOf-mapped origin h)) ∙ n .copy }
+  next-renoted cs (h ∷ hs) n = record { node = n .node; next = n .next; copy = sym (ap some (note-mapped origin h)) ∙ n .copy }
 
   result-renoted : (m n : ℕ) → SameResult (o m) (mapOutcome origin (h n)) → SameResult (o m) (h n)
   unfolding mapOutcome mapMachine mapState

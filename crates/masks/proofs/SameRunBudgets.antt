@@ -14,7 +14,8 @@ use Rattle.machine.specs.Runs.{moved, shownIf, shownStep, stepOf, nextOf, next,
 use Rattle.machine.specs.declared.End.{End}
 use Rattle.machine.specs.declared.End.the-variants.{Finished, Spent, Stuck}
 use Rattle.machine.proofs.Runs.{run-over, run-goes, ends-differ}
-use Rattle.machine.proofs.Notes.{noteOf-mapped, mapPending, mapState, mapMachine, mapOutcome}
+use Rattle.awhile.proofs.Notes.{note-mapped}
+use Rattle.machine.proofs.Notes.{mapPending, mapState, mapMachine, mapOutcome}
 use Rattle.masks.specs.Decisions.{Decision}
 use Rattle.masks.specs.Hardening.{Origin}
 use Rattle.masks.specs.SameRun.{nextNote, AtSome, SameResult, NextIsCopy}
@@ -60,7 +61,7 @@ next-is-copy :
     (c : Com Decision) (cs : List (Com Decision)) (h : Com Origin) (hs : List (Com Origin)) → noteOf h ≡ some (noteOf c .node)
     → NextIsCopy itself (numbers (c ∷ cs)) (h ∷ hs)
 unfolding numbers mapPending nextNote
-next-is-copy c cs h hs note = record { node = noteOf c .node; next = ap some (noteOf-mapped (λ n. n .node) c); copy = ap some note }
+next-is-copy c cs h hs note = record { node = noteOf c .node; next = ap some (note-mapped (λ n. n .node) c); copy = ap some note }
 
 -- a read or write happens in both, or both stick
 shown-copied :

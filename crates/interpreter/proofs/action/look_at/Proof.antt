@@ -40,65 +40,73 @@ node-at-requires c κs = search needs
 enum-known-node : tie.Need-enum-known-node
 enum-known-node c = search needs
 
-value-requires : tie.Need-value-requires
-value-requires c κs = child (c .before .before .before) Numeric _ (parts (c .before .before .before) _ (c .before .node .given .1) .1)
+assign-requires : tie.Need-assign-requires
+assign-requires c κs = child (c .before .before .before) Numeric _ (parts (c .before .before .before) _ (c .before .node .given .1) .1)
 
 enum-known-node-2 : tie.Need-enum-known-node-2
 enum-known-node-2 c = search needs
 
+put-back-requires : tie.Need-put-back-requires
+put-back-requires c κs = search needs
+
 enum-known-node-3 : tie.Need-enum-known-node-3
 enum-known-node-3 c = search needs
 
-truth-requires : tie.Need-truth-requires
-truth-requires c κs = child (c .before .before .before) Truth _ (parts (c .before .before .before) _ (c .before .node3 .given .1) .0)
+fork-if-requires : tie.Need-fork-if-requires
+fork-if-requires c κs = child (c .before .before .before) Truth _ (parts (c .before .before .before) _ (c .before .node3 .given .1) .0)
 
 enum-known-node-4 : tie.Need-enum-known-node-4
 enum-known-node-4 c = search needs
 
-truth-requires-2 : tie.Need-truth-requires-2
-truth-requires-2 c κs = child (c .before .before .before) Truth _ (parts (c .before .before .before) _ (c .before .node4 .given .1) .0)
+fork-while-requires : tie.Need-fork-while-requires
+fork-while-requires c κs = child (c .before .before .before) Truth _ (parts (c .before .before .before) _ (c .before .node4 .given .1) .0)
 
 enum-known-node-5 : tie.Need-enum-known-node-5
 enum-known-node-5 c = search needs
 
-value-requires-2 : tie.Need-value-requires-2
-value-requires-2 c κs = child (c .before .before .before) Numeric _ (parts (c .before .before .before) _ (c .before .node5 .given .1) .2)
+get-requires : tie.Need-get-requires
+get-requires c κs = child (c .before .before .before) Numeric _ (parts (c .before .before .before) _ (c .before .node5 .given .1) .2)
 
 enum-known-node-6 : tie.Need-enum-known-node-6
 enum-known-node-6 c = search needs
 
-value-requires-3 : tie.Need-value-requires-3
-value-requires-3 c κs = child (c .before .before .before) Numeric _ (parts (c .before .before .before) _ (c .before .node6 .given .1) .1)
-
-value-requires-4 : tie.Need-value-requires-4
-value-requires-4 c κs = child (c .before .before .before .before) Numeric _ (parts (c .before .before .before .before) _ (c .before .before .node6 .given .1) .2)
+put-requires : tie.Need-put-requires
+put-requires c κs =
+    let p = parts (c .before .before .before) _ (c .before .node6 .given .1) in
+    (child (c .before .before .before) Numeric _ (p .1), child (c .before .before .before) Numeric _ (p .2))
 
 enum-told : tie.Need-enum-told
 enum-told c = search needs
 
+put-back-requires-2 : tie.Need-put-back-requires-2
+put-back-requires-2 c κs = search needs
+
+put-back-requires-3 : tie.Need-put-back-requires-3
+put-back-requires-3 c κs = search needs
+
 returns : tie.Need-returns
-returns c = looked-assign _ _ _ _ _ _ (parts (c .before .before .before .before) _ (c .before .before .node .given .1)) (c .value .ensures)
+returns c = looked-assign _ _ _ _ _ _ (c .assign .ensures) (parts (c .before .before .before .before) _ (c .before .before .node .given .1))
 
 returns-2 : tie.Need-returns-2
-returns-2 c = looked-sequence _ _ _ _ _ (parts (c .before .before .before) _ (c .before .node2 .given .1))
+returns-2 c = looked-sequence _ _ _ _ _ _ (c .put-back .ensures) (parts (c .before .before .before .before) _ (c .before .before .node2 .given .1))
 
 returns-3 : tie.Need-returns-3
-returns-3 c = looked-if _ _ _ _ _ _ _ (parts (c .before .before .before .before) _ (c .before .before .node3 .given .1)) (c .truth .ensures)
+returns-3 c = looked-if _ _ _ _ _ _ _ (c .fork-if .ensures) (parts (c .before .before .before .before) _ (c .before .before .node3 .given .1))
 
 returns-4 : tie.Need-returns-4
-returns-4 c = looked-while _ _ _ _ _ _ (self (c .before .before .before .before)) (parts (c .before .before .before .before) _ (c .before .before .node4 .given .1)) (c .truth2 .ensures)
+returns-4 c = looked-while _ _ _ _ _ _ (c .fork-while .ensures) (self (c .before .before .before .before)) (parts (c .before .before .before .before) _ (c .before .before .node4 .given .1))
 
 returns-5 : tie.Need-returns-5
-returns-5 c = looked-read _ _ _ _ _ _ _ (parts (c .before .before .before .before) _ (c .before .before .node5 .given .1)) (c .value2 .ensures)
+returns-5 c = looked-read _ _ _ _ _ _ _ (c .get .ensures) (parts (c .before .before .before .before) _ (c .before .before .node5 .given .1))
 
 returns-6 : tie.Need-returns-6
-returns-6 c = looked-write _ _ _ _ _ _ _ _ (parts (c .before .before .before .before .before) _ (c .before .before .before .node6 .given .1)) (c .before .value3 .ensures) (c .value4 .ensures)
+returns-6 c = looked-write _ _ _ _ _ _ _ (c .put .ensures) (parts (c .before .before .before .before) _ (c .before .before .node6 .given .1))
 
 returns-7 : tie.Need-returns-7
-returns-7 c = looked-skip _ _ _ (parts (c .before .before) _ (c .enum-told .given .1))
+returns-7 c = looked-skip _ _ _ _ (c .put-back2 .ensures) (parts (c .before .before .before) _ (c .before .enum-told .given .1))
 
 returns-8 : tie.Need-returns-8
-returns-8 c = absurd (unnamed-command (c .before .node-at .result) (c .match .keys8) (ap sortOf (c .before .node-at .ensures) ∙ c .before .before .before .before .before .pre .isSort))
+returns-8 c = absurd (unnamed-command (c .before .before .node-at .result) (c .before .match .keys8) (ap sortOf (c .before .before .node-at .ensures) ∙ c .before .before .before .before .before .before .pre .isSort))
 
 pub look-at-spec : {M : Type 1} → statement M
 look-at-spec =
@@ -106,18 +114,20 @@ look-at-spec =
     (tie.spec
     node-at-requires
     enum-known-node
-    value-requires
+    assign-requires
     enum-known-node-2
+    put-back-requires
     enum-known-node-3
-    truth-requires
+    fork-if-requires
     enum-known-node-4
-    truth-requires-2
+    fork-while-requires
     enum-known-node-5
-    value-requires-2
+    get-requires
     enum-known-node-6
-    value-requires-3
-    value-requires-4
+    put-requires
     enum-told
+    put-back-requires-2
+    put-back-requires-3
     returns
     returns-2
     returns-3

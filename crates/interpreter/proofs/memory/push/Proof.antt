@@ -1,7 +1,8 @@
 -- `machine::memory::push` meets its contract.
-use Rattle.interpreter.specs.Effects.{pushed}
 use native.Mathlib.Omega.{arith}
 use borrow.Author.Needs.{needs}
+use Rattle.interpreter.specs.Effects.{pushed}
+use Rattle.interpreter.proofs.Effects.{pushed-two}
 use Rattle.interpreter.proofs.memory.push.Statement.{statement}
 use Rattle.interpreter.proofs.memory.push.Tie as tie
 
@@ -11,58 +12,26 @@ enum-told c = search needs
 enum-known-back : tie.Need-enum-known-back
 enum-known-back c = search needs
 
-mul-put32 : tie.Need-mul-put32
-mul-put32 c =
-    let fits = rw (c .before .before .back .given .1) at (c .before .before .before .before .before .pre) in
-    omega (arith, fits .1, c .before .before .before .before .before .good .0 .0)
-
-cast-put32 : tie.Need-cast-put32
-cast-put32 c =
-    let fits = rw (c .before .before .back .given .1) at (c .before .before .before .before .before .pre) in
-    omega (arith, fits .0)
-
-put32-requires : tie.Need-put32-requires
-put32-requires c κs =
-    let fits = rw (c .before .before .back .given .1) at (c .before .before .before .before .before .pre) in
-    fits .1
+put-entry-requires : tie.Need-put-entry-requires
+put-entry-requires c κs = rw (c .before .before .back .given .1) at (c .before .before .before .before .before .pre)
 
 enum-known-back-2 : tie.Need-enum-known-back-2
 enum-known-back-2 c = search needs
 
-mul-put32-2 : tie.Need-mul-put32-2
-mul-put32-2 c =
+put-entry-requires-2 : tie.Need-put-entry-requires-2
+put-entry-requires-2 c κs =
     let fits = rw (c .before .before .back2 .given .1) at (c .before .before .before .before .before .pre) in
-    omega (arith, fits .2, c .before .before .before .before .before .good .0 .0)
+    (fits .0, omega (arith, fits .2))
 
-cast-put32-2 : tie.Need-cast-put32-2
-cast-put32-2 c =
-    let fits = rw (c .before .before .back2 .given .1) at (c .before .before .before .before .before .pre) in
-    omega (arith, fits .0)
-
-put32-requires-2 : tie.Need-put32-requires-2
-put32-requires-2 c κs =
-    let fits = rw (c .before .before .back2 .given .1) at (c .before .before .before .before .before .pre) in
-    omega (arith, fits .2)
-
-mul-put32-3 : tie.Need-mul-put32-3
-mul-put32-3 c =
+add-put-entry : tie.Need-add-put-entry
+add-put-entry c =
     let fits = rw (c .before .before .before .before .before .before .back2 .given .1) at (c .before .before .before .before .before .before .before .before .before .pre) in
     omega (arith, fits .2, c .before .before .before .before .before .before .before .before .before .good .0 .0)
 
-add-put32 : tie.Need-add-put32
-add-put32 c =
+put-entry-requires-3 : tie.Need-put-entry-requires-3
+put-entry-requires-3 c κs =
     let fits = rw (c .before .before .before .before .before .before .back2 .given .1) at (c .before .before .before .before .before .before .before .before .before .pre) in
-    omega (arith, fits .2, c .before .before .before .before .before .before .before .before .before .good .0 .0)
-
-cast-put32-3 : tie.Need-cast-put32-3
-cast-put32-3 c =
-    let fits = rw (c .before .before .before .before .before .before .back2 .given .1) at (c .before .before .before .before .before .before .before .before .before .pre) in
-    omega (arith, fits .1)
-
-put32-requires-3 : tie.Need-put32-requires-3
-put32-requires-3 c κs =
-    let fits = rw (c .before .before .before .before .before .before .back2 .given .1) at (c .before .before .before .before .before .before .before .before .before .pre) in
-    omega (arith, fits .2, c .before .before .before .put322 .kept .0)
+    (fits .1, omega (arith, fits .2, c .before .before .before .put-entry2 .kept .0))
 
 returns : tie.Need-returns
 unfolding pushed
@@ -73,14 +42,13 @@ same-length c = search needs
 
 returns-2 : tie.Need-returns-2
 unfolding pushed
-returns-2 c = rw (c .before .before .before .before .before .back .given .1, pushed) (c .before .before .put32 .ensures)
+returns-2 c = rw (c .before .before .before .before .before .back .given .1, pushed) (c .before .before .put-entry .ensures)
 
 same-length-2 : tie.Need-same-length-2
 same-length-2 c = search needs
 
 returns-3 : tie.Need-returns-3
-unfolding pushed
-returns-3 c = rw (c .before .before .before .before .before .before .before .before .before .back2 .given .1, pushed, ← c .before .before .before .before .before .before .put322 .ensures) (c .before .before .put323 .ensures)
+returns-3 c = pushed-two _ _ _ _ _ _ _ (c .before .before .before .before .before .before .before .before .before .back2 .given .1) (c .before .before .before .before .before .before .put-entry2 .ensures) (c .before .before .put-entry3 .ensures)
 
 pub push-spec : {M : Type 1} → statement M
 push-spec =
@@ -88,17 +56,11 @@ push-spec =
     (tie.spec
     enum-told
     enum-known-back
-    mul-put32
-    cast-put32
-    put32-requires
+    put-entry-requires
     enum-known-back-2
-    mul-put32-2
-    cast-put32-2
-    put32-requires-2
-    mul-put32-3
-    add-put32
-    cast-put32-3
-    put32-requires-3
+    put-entry-requires-2
+    add-put-entry
+    put-entry-requires-3
     returns
     same-length
     returns-2
