@@ -33,7 +33,7 @@ use Rattle.awhile.proofs.Notes.{note-mapped}
 use Rattle.analysis.proofs.Standing.{root-standing}
 use Rattle.analysis.proofs.SheetRecords.{copies, Located, annotated-by-notes, recordAt, records-copied, lengths-copied}
 
--- the kinds of nodes that `record_size` and `put_record` do not name
+-- the kinds of nodes that `command_size` and `put_command` do not name
 abbrev pub unnamedRecord : List ℕ
 unnamedRecord = 0 ∷ 1 ∷ 2 ∷ 3 ∷ 4 ∷ 5 ∷ 6 ∷ 7 ∷ 8 ∷ 9 ∷ 10 ∷ 11 ∷ 12 ∷ []
 
@@ -90,7 +90,7 @@ module _ (table index : List ℕ) (bytes : Below 256 table) (indexed : Indexed t
       go Command e = one-mul (recordLength (commandIn table n))
 
   -- ---- nodes without a record
-  no-command : (n : ℕ) → n < nodesIn table → (s : Sort) → sortOf (nodeIn table n) ≡ s → sameSort s Command ≡ false → 0 ≡ recordLength (commandIn table n)
+  pub no-command : (n : ℕ) → n < nodesIn table → (s : Sort) → sortOf (nodeIn table n) ≡ s → sameSort s Command ≡ false → 0 ≡ recordLength (commandIn table n)
   unfolding sameSort recordLength asCommand
   no-command n inside Numeric e f = rw (indexed-numeric table index bytes indexed n inside e)
   no-command n inside Truth e f = rw (indexed-truth table index bytes indexed n inside e)

@@ -12,7 +12,7 @@ use crate::noting::note;
 use crate::noting::noted_labelling;
 use awhile::Labelling;
 use awhile::Node;
-use reader::lookup::node_at;
+use reader::lookup::command_at;
 ghost use Prim.Native.Nat.{_<_};
 ghost use mathlib.Core.Bool.{_||_};
 ghost use mathlib.Core.Path.{_≡_};
@@ -284,7 +284,7 @@ pub fn analyse(
     ensures { λ r. ⌜ Analysed (commandIn (now (table .entry)) n) context labels
         (now (variables .entry)) (now (arrays .entry)) (now (variables .exit)) (now (arrays .exit)) r ⌝ }
 {
-    let node = node_at(table, index, n);
+    let node = command_at(table, index, n);
     match node {
         Node::Sequence { first, second } => {
             analyse_sequence(

@@ -2,7 +2,8 @@
 use crate::labelling::variable_label;
 use awhile::Labelling;
 use awhile::Node;
-use reader::lookup::node_at;
+use reader::lookup::numeric_at;
+use reader::lookup::truth_at;
 ghost use mathlib.Core.Bool.{_||_};
 ghost use mathlib.Core.Path.{_≡_};
 ghost use Rattle.reader.specs.Index.{numericIn, truthIn};
@@ -15,7 +16,7 @@ pub fn numeric_label(table: &[u8], index: &[u16], labels: Labelling, n: usize) -
     requires { ⌜ OfSort (now table) (now index) Numeric n ⌝ }
     ensures { λ r. ⌜ r ≡ labelOfA labels (numericIn (now (table .entry)) n) ⌝ }
 {
-    let node = node_at(table, index, n);
+    let node = numeric_at(table, index, n);
     match node {
         Node::Variable { variable } => variable_label(labels, variable),
         Node::Add { left, right } => either_secret(table, index, labels, left, right),
@@ -38,7 +39,7 @@ pub fn truth_label(table: &[u8], index: &[u16], labels: Labelling, n: usize) -> 
     requires { ⌜ OfSort (now table) (now index) Truth n ⌝ }
     ensures { λ r. ⌜ r ≡ labelOfB labels (truthIn (now (table .entry)) n) ⌝ }
 {
-    let node = node_at(table, index, n);
+    let node = truth_at(table, index, n);
     match node {
         Node::Equal { left, right } => either_secret(table, index, labels, left, right),
         Node::Less { left, right } => either_secret(table, index, labels, left, right),

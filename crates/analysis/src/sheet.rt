@@ -8,14 +8,17 @@ use awhile::Labelling;
 use awhile::Node;
 use bytes_le::put::put16;
 use bytes_le::put::put32;
-use reader::lookup::node_at;
+use reader::lookup::command_at;
+use reader::lookup::is_command;
 ghost use Prim.Native.Nat.{_+_, _≤_, _<_};
 ghost use mathlib.Core.List.{_++_};
 ghost use mathlib.Core.Path.{_≡_};
 ghost use lib.ListN.{length};
 ghost use lib.Seq.{sets};
 ghost use Rattle.bytes_le.specs.Numbers.{le};
-ghost use Rattle.reader.specs.Index.{Indexed, tableOf, nodesIn, commandIn};
+ghost use Rattle.awhile.specs.Nodes.{sortOf};
+ghost use Rattle.awhile.specs.declared.Sort.the-variants.{Command};
+ghost use Rattle.reader.specs.Index.{Indexed, tableOf, nodesIn, nodeIn, commandIn};
 ghost use Rattle.analysis.specs.Conditions.{Sheetable, finalLabels};
 ghost use Rattle.labels.specs.Sheet.{masksBytes, labelBytes, recordLength, recordOf, annotated, sheetBytes};
 
@@ -86,12 +89,12 @@ fn put_read(out: &mut [u8], at: usize, n: usize, variable: bool, index: bool) ->
     10
 }
 
-// How many bytes node n's record has: none for expressions, skips and assignments.
-fn record_size(table: &[u8], index: &[u16], n: usize) -> usize
-    requires { ⌜ Indexed (now table) (now index) × (n < nodesIn (now table)) ⌝ }
+// How many bytes the record of a command of node n has: none for skips and assignments.
+fn command_size(table: &[u8], index: &[u16], n: usize) -> usize
+    requires { ⌜ Indexed (now table) (now index) × (n < nodesIn (now table)) × (sortOf (nodeIn (now table) n) ≡ Command) ⌝ }
     ensures { λ r. ⌜ (r ≡ recordLength (commandIn (now (table .entry)) n)) × (r ≤ 14) ⌝ }
 {
-    let node = node_at(table, index, n);
+    let node = command_at(table, index, n);
     match node {
         Node::Sequence {
             first: _,
@@ -120,6 +123,17 @@ fn record_size(table: &[u8], index: &[u16], n: usize) -> usize
     }
 }
 
+// How many bytes node n's record has: none for expressions.
+fn record_size(table: &[u8], index: &[u16], n: usize) -> usize
+    requires { ⌜ Indexed (now table) (now index) × (n < nodesIn (now table)) ⌝ }
+    ensures { λ r. ⌜ (r ≡ recordLength (commandIn (now (table .entry)) n)) × (r ≤ 14) ⌝ }
+{
+    if is_command(table, index, n) {
+        return command_size(table, index, n);
+    }
+    0
+}
+
 // How many bytes the sheet of a table with so many nodes has.
 pub fn sheet_size(table: &[u8], index: &[u16], count: usize) -> usize
     requires { ⌜ Indexed (now table) (now index) × (count ≡ nodesIn (now table)) ⌝ }
@@ -134,8 +148,8 @@ pub fn sheet_size(table: &[u8], index: &[u16], count: usize) -> usize
     size
 }
 
-// Writes node n's record at an offset, and answers how many bytes it has.
-fn put_record(
+// Writes the record of a command of node n at an offset, and answers how many bytes it has.
+fn put_command(
     table: &[u8],
     index: &[u16],
     variables: &[u64],
@@ -145,11 +159,11 @@ fn put_record(
     at: usize,
 ) -> usize
     requires { ⌜ Sheetable (now table) (now index) (now variables) (now arrays) × (n < nodesIn (now table))
-        × (at + length (recordOf (annotated (tableOf (now table))) n) ≤ length (now out)) ⌝ }
+        × (at + length (recordOf (annotated (tableOf (now table))) n) ≤ length (now out)) × (sortOf (nodeIn (now table) n) ≡ Command) ⌝ }
     ensures { λ r. ⌜ (now (out .exit) ≡ sets (now (out .entry)) at (recordOf (annotated (tableOf (now (table .entry)))) n))
         × (r ≡ length (recordOf (annotated (tableOf (now (table .entry)))) n)) ⌝ }
 {
-    let node = node_at(table, index, n);
+    let node = command_at(table, index, n);
     match node {
         Node::Sequence { first: _, second } => {
             let masks = noted_labelling(variables, arrays, second);
@@ -192,9 +206,30 @@ fn put_record(
             put_labelled(&mut *out, at, 8, 133, n, secret);
             8
         }
-        // expressions, skips and assignments have no record
+        // skips and assignments have no record
         _ => 0,
     }
+}
+
+// Writes node n's record at an offset, and answers how many bytes it has; expressions have none.
+fn put_record(
+    table: &[u8],
+    index: &[u16],
+    variables: &[u64],
+    arrays: &[u32],
+    n: usize,
+    out: &mut [u8],
+    at: usize,
+) -> usize
+    requires { ⌜ Sheetable (now table) (now index) (now variables) (now arrays) × (n < nodesIn (now table))
+        × (at + length (recordOf (annotated (tableOf (now table))) n) ≤ length (now out)) ⌝ }
+    ensures { λ r. ⌜ (now (out .exit) ≡ sets (now (out .entry)) at (recordOf (annotated (tableOf (now (table .entry)))) n))
+        × (r ≡ length (recordOf (annotated (tableOf (now (table .entry)))) n)) ⌝ }
+{
+    if is_command(table, index, n) {
+        return put_command(table, index, variables, arrays, n, &mut *out, at);
+    }
+    0
 }
 
 // Writes the sheet's first record: so many nodes and the final masks.

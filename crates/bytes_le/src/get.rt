@@ -1,5 +1,6 @@
-// Numbers read from bytes. Every function is total: bytes past the end count as 0.
-ghost use Prim.Native.Nat.{_+_, _-_, _*_, _<_};
+// Numbers read from bytes. `byte_at`, `u16_at` and `u32_at` are total: bytes past the end count as 0. `whole_u16` and `whole_u32` test nothing,
+// for callers that know that the number is there.
+ghost use Prim.Native.Nat.{_+_, _-_, _*_, _<_, _≤_};
 ghost use mathlib.Core.Path.{_≡_};
 ghost use lib.ListN.{length};
 ghost use Rattle.bytes_le.specs.Numbers.{leAt};
@@ -33,12 +34,28 @@ pub fn byte_at(s: &[u8], at: usize) -> usize
     if at < s.len() { s[at] as usize } else { 0 }
 }
 
+// The 2-byte number at an offset where both bytes stand.
+pub fn whole_u16(s: &[u8], at: usize) -> usize
+    requires { ⌜ at + 2 ≤ length (now s) ⌝ }
+    ensures { λ r. ⌜ (r ≡ leAt 2 (now (s .entry)) at) × (r < 65536) ⌝ }
+{
+    pair(s[at], s[at + 1])
+}
+
+// The 4-byte number at an offset where all four bytes stand.
+pub fn whole_u32(s: &[u8], at: usize) -> u32
+    requires { ⌜ at + 4 ≤ length (now s) ⌝ }
+    ensures { λ r. ⌜ r ≡ leAt 4 (now (s .entry)) at ⌝ }
+{
+    quad(s[at], s[at + 1], s[at + 2], s[at + 3])
+}
+
 // The 2-byte number at an offset.
 pub fn u16_at(s: &[u8], at: usize) -> usize
     ensures { λ r. ⌜ (r ≡ leAt 2 (now (s .entry)) at) × (r < 65536) ⌝ }
 {
     if 2 <= bytes_from(s, at) {
-        return pair(s[at], s[at + 1]);
+        return whole_u16(s, at);
     }
     // at most the lower byte is there
     byte_at(s, at)
@@ -50,7 +67,7 @@ pub fn u32_at(s: &[u8], at: usize) -> u32
 {
     let n = bytes_from(s, at);
     if 4 <= n {
-        return quad(s[at], s[at + 1], s[at + 2], s[at + 3]);
+        return whole_u32(s, at);
     }
     if 3 <= n {
         return quad(s[at], s[at + 1], s[at + 2], 0);

@@ -37,8 +37,8 @@ fn write_masked(
     ensures { λ r. ⌜ Writes (writing (got (tableBytes (hardenedTable (tableOf (now (table .entry)))))) (now (out .entry)) (now (answer .entry)))
         r (now (out .exit)) (now (answer .exit)) ⌝ }
 {
-    let mut variable_notes = [0u64; MAX_NODES];
-    let mut array_notes = [0u32; MAX_NODES];
+    let mut variable_notes = [0u64; MAX_HARDENED];
+    let mut array_notes = [0u32; MAX_HARDENED];
     label_program(
         table,
         index,

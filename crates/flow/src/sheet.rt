@@ -15,10 +15,78 @@ ghost use lib.ListN.{length};
 ghost use lib.Seq.{sets};
 ghost use Rattle.reader.specs.Index.{Indexed, tableOf, nodesIn};
 ghost use Rattle.labels.specs.Sheet.{sheetBytes};
+ghost use Rattle.analysis.specs.Conditions.{Fresh};
 ghost use Rattle.flow.specs.Promises.{WritesAs};
 ghost use Rattle.flow.specs.Writes.{Writes};
 ghost use Rattle.awhile.specs.Refusals.{got};
 ghost use Rattle.flow.specs.Writing.{writing, sheetEntry};
+
+// A table with no more nodes is small.
+const FEW_NODES: usize = 512;
+
+// Labels a table that was read, on notes that are all zero, and writes its sheet, for which there is room.
+fn write_noted(
+    table: &[u8],
+    index: &[u16],
+    variables: &mut [u64],
+    arrays: &mut [u32],
+    nodes: usize,
+    labels: Labelling,
+    sheet: &mut [u8],
+)
+    requires { ⌜ Fresh (now table) (now index) (now variables) (now arrays) × (nodes ≡ nodesIn (now table)) × (labels ≡ tableOf (now table) .labels)
+        × (length (sheetBytes (tableOf (now table))) ≤ length (now sheet)) ⌝ }
+    ensures { λ _. ⌜ now (sheet .exit) ≡ sets (now (sheet .entry)) 0 (sheetBytes (tableOf (now (table .entry)))) ⌝ }
+{
+    let masks = label_program(table, index, &mut *variables, &mut *arrays, nodes, labels);
+    write_sheet(
+        table,
+        index,
+        &*variables,
+        &*arrays,
+        nodes,
+        masks,
+        &mut *sheet,
+    );
+}
+
+// The same with notes for few nodes. To clear the notes for all nodes that a table can have takes longer than to label a small table.
+fn write_few(table: &[u8], index: &[u16], nodes: usize, labels: Labelling, sheet: &mut [u8])
+    requires { ⌜ Indexed (now table) (now index) × (nodes ≡ nodesIn (now table)) × (labels ≡ tableOf (now table) .labels)
+        × (length (sheetBytes (tableOf (now table))) ≤ length (now sheet)) × (nodes ≤ 512) ⌝ }
+    ensures { λ _. ⌜ now (sheet .exit) ≡ sets (now (sheet .entry)) 0 (sheetBytes (tableOf (now (table .entry)))) ⌝ }
+{
+    let mut variables = [0u64; FEW_NODES];
+    let mut arrays = [0u32; FEW_NODES];
+    write_noted(
+        table,
+        index,
+        &mut variables,
+        &mut arrays,
+        nodes,
+        labels,
+        &mut *sheet,
+    );
+}
+
+// The same with notes for all nodes that a table can have.
+fn write_many(table: &[u8], index: &[u16], nodes: usize, labels: Labelling, sheet: &mut [u8])
+    requires { ⌜ Indexed (now table) (now index) × (nodes ≡ nodesIn (now table)) × (labels ≡ tableOf (now table) .labels)
+        × (length (sheetBytes (tableOf (now table))) ≤ length (now sheet)) ⌝ }
+    ensures { λ _. ⌜ now (sheet .exit) ≡ sets (now (sheet .entry)) 0 (sheetBytes (tableOf (now (table .entry)))) ⌝ }
+{
+    let mut variables = [0u64; MAX_NODES];
+    let mut arrays = [0u32; MAX_NODES];
+    write_noted(
+        table,
+        index,
+        &mut variables,
+        &mut arrays,
+        nodes,
+        labels,
+        &mut *sheet,
+    );
+}
 
 // Labels a table that was read, and writes its sheet, for which there is room.
 fn write_labels(table: &[u8], index: &[u16], nodes: usize, labels: Labelling, sheet: &mut [u8])
@@ -26,10 +94,11 @@ fn write_labels(table: &[u8], index: &[u16], nodes: usize, labels: Labelling, sh
         × (length (sheetBytes (tableOf (now table))) ≤ length (now sheet)) ⌝ }
     ensures { λ _. ⌜ now (sheet .exit) ≡ sets (now (sheet .entry)) 0 (sheetBytes (tableOf (now (table .entry)))) ⌝ }
 {
-    let mut variables = [0u64; MAX_NODES];
-    let mut arrays = [0u32; MAX_NODES];
-    let masks = label_program(table, index, &mut variables, &mut arrays, nodes, labels);
-    write_sheet(table, index, &variables, &arrays, nodes, masks, &mut *sheet);
+    if nodes <= FEW_NODES {
+        write_few(table, index, nodes, labels, &mut *sheet);
+    } else {
+        write_many(table, index, nodes, labels, &mut *sheet);
+    }
 }
 
 // The answer for a table that was read: its sheet, if there is room for it.

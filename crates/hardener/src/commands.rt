@@ -14,7 +14,7 @@ use crate::masked::copy_condition;
 use crate::masked::put_flag_update;
 use crate::records::append;
 use awhile::Node;
-use reader::lookup::node_at;
+use reader::lookup::command_at;
 ghost use Prim.Native.Nat.{_+_};
 ghost use mathlib.Core.Bool.{true, false};
 ghost use mathlib.Core.Option.{none};
@@ -45,7 +45,7 @@ pub fn harden_command(
     ensures { λ r. ⌜
         Wrote (writeC from (hardenedIn (now (table .entry)) (now (variables .entry)) (now (arrays .entry)) flag n)) (now (out .entry)) (now (out .exit)) r ⌝ }
 {
-    let node = node_at(table, index, n);
+    let node = command_at(table, index, n);
     match node {
         Node::Skip => append(out, 0, 0, node),
         Node::Assign { variable, value } => {

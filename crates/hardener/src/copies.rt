@@ -3,7 +3,8 @@ use crate::Pair;
 use crate::Size;
 use crate::records::append;
 use awhile::Node;
-use reader::lookup::node_at;
+use reader::lookup::numeric_at;
+use reader::lookup::truth_at;
 ghost use Prim.Native.Nat.{_+_, _-_, _≤_, _<_};
 ghost use mathlib.Core.Path.{_≡_};
 ghost use Rattle.awhile.specs.Encoding.{nodesOfA, nodesOfB, writeA, writeB};
@@ -42,7 +43,7 @@ pub fn copy_numeric(table: &[u8], index: &[u16], n: usize, from: usize, out: &mu
     requires { ⌜ Room from (nodesOfA (numericIn (now table) n)) (bytesOfA (numericIn (now table) n)) (now out) ⌝ }
     ensures { λ r. ⌜ Wrote (writeA from (numericIn (now (table .entry)) n)) (now (out .entry)) (now (out .exit)) r ⌝ }
 {
-    let node = node_at(table, index, n);
+    let node = numeric_at(table, index, n);
     match node {
         Node::Number { .. } => append(out, 0, 0, node),
         Node::Variable { .. } => append(out, 0, 0, node),
@@ -108,7 +109,7 @@ pub fn copy_truth(table: &[u8], index: &[u16], n: usize, from: usize, out: &mut 
     requires { ⌜ Room from (nodesOfB (truthIn (now table) n)) (bytesOfB (truthIn (now table) n)) (now out) ⌝ }
     ensures { λ r. ⌜ Wrote (writeB from (truthIn (now (table .entry)) n)) (now (out .entry)) (now (out .exit)) r ⌝ }
 {
-    let node = node_at(table, index, n);
+    let node = truth_at(table, index, n);
     match node {
         Node::Constant { .. } => append(out, 0, 0, node),
         Node::Equal { left, right } => {

@@ -1,7 +1,8 @@
 // How much copies of expressions take: so many nodes, in so many bytes.
 use crate::Size;
 use awhile::Node;
-use reader::lookup::node_at;
+use reader::lookup::numeric_at;
+use reader::lookup::truth_at;
 ghost use Prim.Native.Nat.{_+_, _≤_};
 ghost use Rattle.awhile.specs.Encoding.{nodesOfA, nodesOfB};
 ghost use Rattle.reader.specs.Index.{numericIn, truthIn};
@@ -47,7 +48,7 @@ pub fn numeric_size(table: &[u8], index: &[u16], n: usize) -> Size
     requires { ⌜ nodesOfA (numericIn (now table) n) ≤ maxNodes ⌝ }
     ensures { λ r. ⌜ Sized (nodesOfA (numericIn (now (table .entry)) n)) (bytesOfA (numericIn (now (table .entry)) n)) r ⌝ }
 {
-    let node = node_at(table, index, n);
+    let node = numeric_at(table, index, n);
     match node {
         Node::Number { .. } => Size { nodes: 1, bytes: 8 },
         Node::Variable { .. } => Size { nodes: 1, bytes: 6 },
@@ -71,7 +72,7 @@ pub fn truth_size(table: &[u8], index: &[u16], n: usize) -> Size
     requires { ⌜ nodesOfB (truthIn (now table) n) ≤ maxNodes ⌝ }
     ensures { λ r. ⌜ Sized (nodesOfB (truthIn (now (table .entry)) n)) (bytesOfB (truthIn (now (table .entry)) n)) r ⌝ }
 {
-    let node = node_at(table, index, n);
+    let node = truth_at(table, index, n);
     match node {
         Node::Constant { .. } => Size { nodes: 1, bytes: 6 },
         Node::Equal { left, right } => pair_size(table, index, left, right),

@@ -8,7 +8,7 @@ use crate::sizes::over_one;
 use crate::sizes::over_two;
 use crate::sizes::truth_size;
 use awhile::Node;
-use reader::lookup::node_at;
+use reader::lookup::command_at;
 ghost use Prim.Native.Nat.{_+_, _*_, _≤_};
 ghost use mathlib.Core.Bool.{cond};
 ghost use Rattle.awhile.specs.Encoding.{nodesOf};
@@ -94,7 +94,7 @@ pub fn harden_size(table: &[u8], index: &[u16], variables: &[u64], arrays: &[u32
         Sized (nodesOf (hardenedIn (now (table .entry)) (now (variables .entry)) (now (arrays .entry)) 0 n))
         (bytesOf (hardenedIn (now (table .entry)) (now (variables .entry)) (now (arrays .entry)) 0 n)) r ⌝ }
 {
-    let node = node_at(table, index, n);
+    let node = command_at(table, index, n);
     match node {
         Node::Skip => Size { nodes: 1, bytes: 4 },
         Node::Assign { value, .. } => {

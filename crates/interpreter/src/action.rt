@@ -2,7 +2,7 @@
 use crate::evaluate::truth;
 use crate::evaluate::value;
 use awhile::Node;
-use reader::lookup::node_at;
+use reader::lookup::command_at;
 ghost use Prim.Native.Nat.{_<_};
 ghost use mathlib.Core.Path.{_≡_};
 ghost use Rattle.awhile.specs.declared.Sort.the-variants.{Numeric, Truth, Command};
@@ -187,7 +187,7 @@ pub fn look_at(table: &[u8], index: &[u16], variables: &[u8], n: usize) -> Actio
     requires { ⌜ NodeOf Command (now table) (now index) (now variables) n ⌝ }
     ensures { λ r. ⌜ Looked (now (table .entry)) (now (variables .entry)) n r ⌝ }
 {
-    let node = node_at(table, index, n);
+    let node = command_at(table, index, n);
     match node {
         Node::Assign {
             variable,

@@ -1,7 +1,8 @@
 // Values of expressions, straight from the table: numbers and truths call each other, and a child's node number is lower.
 use awhile::Node;
 use bytes_le::get::u32_at;
-use reader::lookup::node_at;
+use reader::lookup::numeric_at;
+use reader::lookup::truth_at;
 use std::num::wrapping_add_u32;
 use std::num::wrapping_sub_u32;
 ghost use Prim.Native.Nat.{_+_, _-_, _*_, _%_, _^_};
@@ -28,7 +29,7 @@ pub fn value(table: &[u8], index: &[u16], variables: &[u8], n: usize) -> u32
     requires { ⌜ NodeOf Numeric (now table) (now index) (now variables) n ⌝ }
     ensures { λ r. ⌜ r ≡ valueIn (now (table .entry)) (now (variables .entry)) n ⌝ }
 {
-    let node = node_at(table, index, n);
+    let node = numeric_at(table, index, n);
     match node {
         Node::Number { value } => value,
         Node::Variable { variable } => u32_at(variables, 4 * variable),
@@ -64,7 +65,7 @@ pub fn truth(table: &[u8], index: &[u16], variables: &[u8], n: usize) -> bool
     requires { ⌜ NodeOf Truth (now table) (now index) (now variables) n ⌝ }
     ensures { λ r. ⌜ r ≡ truthIn (now (table .entry)) (now (variables .entry)) n ⌝ }
 {
-    let node = node_at(table, index, n);
+    let node = truth_at(table, index, n);
     match node {
         Node::Constant { value } => value == 1,
         Node::Equal { left, right } => {

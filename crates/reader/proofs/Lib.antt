@@ -7,3 +7,4 @@ pub mod Tally
 pub mod Walking
 pub mod Searching
 pub mod Answering
+pub mod RecordKinds

@@ -1,10 +1,9 @@
-// A node's record: what it decodes to, how long it is, and what it stands for.
+// A node's record: what it decodes to and how long it is.
 ghost use Prim.Native.Nat.{_+_, _^_, _<_};
 ghost use mathlib.Core.Path.{_≡_};
-ghost use Rattle.awhile.specs.Nodes.{nodeOf, decodeAt, sizeOf, sortOf};
+ghost use Rattle.awhile.specs.Nodes.{nodeOf, decodeAt, sizeOf};
 use awhile::Decoded;
 use awhile::Node;
-use awhile::Sort;
 use bytes_le::get;
 
 // The node of a kind, from the record's first three 2-byte fields and its first 4-byte field.
@@ -96,31 +95,5 @@ pub fn size_of(node: Node) -> usize
         Node::While { .. } => 8,
         Node::Read { .. } => 10,
         Node::Write { .. } => 10,
-    }
-}
-
-// What a node stands for.
-pub fn sort_of(node: Node) -> Sort
-    ensures { λ r. ⌜ r ≡ sortOf node ⌝ }
-{
-    match node {
-        Node::Number { .. } => Sort::Numeric,
-        Node::Variable { .. } => Sort::Numeric,
-        Node::Add { .. } => Sort::Numeric,
-        Node::Subtract { .. } => Sort::Numeric,
-        Node::Multiply { .. } => Sort::Numeric,
-        Node::Choice { .. } => Sort::Numeric,
-        Node::Constant { .. } => Sort::Truth,
-        Node::Equal { .. } => Sort::Truth,
-        Node::Less { .. } => Sort::Truth,
-        Node::Not { .. } => Sort::Truth,
-        Node::And { .. } => Sort::Truth,
-        Node::Skip => Sort::Command,
-        Node::Assign { .. } => Sort::Command,
-        Node::Sequence { .. } => Sort::Command,
-        Node::If { .. } => Sort::Command,
-        Node::While { .. } => Sort::Command,
-        Node::Read { .. } => Sort::Command,
-        Node::Write { .. } => Sort::Command,
     }
 }

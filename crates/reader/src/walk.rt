@@ -21,6 +21,7 @@ use awhile::Decoded;
 use awhile::Node;
 use awhile::Refusal;
 use awhile::Sort;
+use bytes_le::get;
 
 // What reading one node record answers.
 pub enum NodeRead {
@@ -39,15 +40,19 @@ pub fn offset_at(index: &[u16], n: usize) -> usize
     }
 }
 
-// The sort of the node whose record stands at an offset; of no account where none does.
+// The sort of the node whose record stands at an offset, by its kind alone; of no account where no node stands.
 pub fn sort_at(table: &[u8], at: usize) -> Sort
     requires { ⌜ at + 8 < 2 ^ 64 ⌝ }
     ensures { λ r. ⌜ SortAt (now (table .entry)) at r ⌝ }
 {
-    let Decoded::Known { node } = reader::decoded_at(table, at) else {
-        return Sort::Command;
-    };
-    decode::sort_of(node)
+    let kind = get::u16_at(table, at + 2);
+    if kind < 32 {
+        return Sort::Numeric;
+    }
+    if kind < 48 {
+        return Sort::Truth;
+    }
+    Sort::Command
 }
 
 // A child's sort is the wanted one; where it is not, reading stops at the parent's record.

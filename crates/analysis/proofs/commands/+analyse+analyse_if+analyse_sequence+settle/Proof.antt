@@ -36,7 +36,7 @@ use Rattle.analysis.proofs.commands.+analyse+analyse_if+analyse_sequenc
 use Rattle.analysis.proofs.commands.settle.Reads as settle
 use Rattle.analysis.proofs.commands.settle.Kinds as settle-kinds
 use Rattle.analysis.proofs.commands.+analyse+analyse_if+analyse_sequence+settle.Lts-settle as settle-lts
-use Rattle.reader.proofs.lookup.node_at.Reads as node-at-reads
+use Rattle.reader.proofs.lookup.command_at.Reads as command-at-reads
 use Rattle.analysis.proofs.commands.analyse_single.Reads as analyse-single-reads
 use Rattle.analysis.proofs.commands.guarded.Reads as guarded-reads
 use Rattle.analysis.proofs.labelling.join.Reads as join-reads
@@ -104,21 +104,21 @@ abbrev analyse-if-calls : ℕ → analyse-if-lts.Claims
 analyse-if-calls t = (note-reads.Asked, note-reads.Learnt, guarded-reads.Asked, guarded-reads.Learnt, analyse-below t, analyse.Post, join-reads.Asked, join-reads.Learnt)
 
 abbrev analyse-calls : ℕ → analyse-lts.Claims
-analyse-calls t = (node-at-reads.Asked, node-at-reads.Learnt, analyse-sequence-below t, analyse-sequence.Post, analyse-if-below t, analyse-if.Post, note-reads.Asked, note-reads.Learnt, settle-below t, settle.Post, analyse-single-reads.Asked, analyse-single-reads.Learnt)
+analyse-calls t = (command-at-reads.Asked, command-at-reads.Learnt, analyse-sequence-below t, analyse-sequence.Post, analyse-if-below t, analyse-if.Post, note-reads.Asked, note-reads.Learnt, settle-below t, settle.Post, analyse-single-reads.Asked, analyse-single-reads.Learnt)
 
 -- ---- by the kind of a node
-module _ (t : ℕ) (d : analyse-lts.After-node-at (analyse-calls t) (analyse-at t) analyse.Post) where
+module _ (t : ℕ) (d : analyse-lts.After-command-at (analyse-calls t) (analyse-at t) analyse.Post) where
   abbrev analyse-start : analyse-lts.Start (analyse-calls t) (analyse-at t) analyse.Post
   analyse-start = d .before .before .before .before .before
 
-  analyse-parts : (m : Node) → d .node-at .result ≡ m → Parts (now (analyse-start .args .table)) (analyse-start .args .n) m
+  analyse-parts : (m : Node) → d .command-at .result ≡ m → Parts (now (analyse-start .args .table)) (analyse-start .args .n) m
   analyse-parts =
       node-parts (slice-bytes (now (analyse-start .args .table)) (d .before .before .before .before .shared-slice-known .given)) (analyse-start .pre .1 .node .indexed) (analyse-start .pre .1 .node .inside)
-      (d .node-at .ensures)
+      (d .command-at .ensures)
 
-analyse-node-at-requires : (t : ℕ) → analyse-lts.Need-node-at-requires (analyse-calls t) (analyse-at t) analyse.Post
-analyse-node-at-requires t c κs =
-    let pre = c .before .before .before .before .pre .1 in (pre .node .indexed, pre .node .inside)
+analyse-command-at-requires : (t : ℕ) → analyse-lts.Need-command-at-requires (analyse-calls t) (analyse-at t) analyse.Post
+analyse-command-at-requires t c κs =
+    let pre = c .before .before .before .before .pre .1 in (pre .node .indexed, pre .node .inside, pre .node .isSort)
 
 analyse-enum-known-node : (t : ℕ) → analyse-lts.Need-enum-known-node (analyse-calls t) (analyse-at t) analyse.Post
 analyse-enum-known-node t c = search needs
@@ -126,7 +126,7 @@ analyse-enum-known-node t c = search needs
 analyse-analyse-sequence-requires : (t : ℕ) → analyse-lts.Need-analyse-sequence-requires (analyse-calls t) (analyse-at t) analyse.Post
 analyse-analyse-sequence-requires t c κs =
     let start = c .before .before .before .before .before .before .before .before .before .before in
-    (subst (λ m. 2 * start .args .n + 1 < m) (start .pre .0) (omega arith), (start .pre .1, sym (c .before .before .before .before .before .node-at .ensures) ∙ c .before .before .before .node .given .1))
+    (subst (λ m. 2 * start .args .n + 1 < m) (start .pre .0) (omega arith), (start .pre .1, sym (c .before .before .before .before .before .command-at .ensures) ∙ c .before .before .before .node .given .1))
 
 analyse-enum-known-node-2 : (t : ℕ) → analyse-lts.Need-enum-known-node-2 (analyse-calls t) (analyse-at t) analyse.Post
 analyse-enum-known-node-2 t c = search needs
@@ -134,7 +134,7 @@ analyse-enum-known-node-2 t c = search needs
 analyse-analyse-if-requires : (t : ℕ) → analyse-lts.Need-analyse-if-requires (analyse-calls t) (analyse-at t) analyse.Post
 analyse-analyse-if-requires t c κs =
     let start = c .before .before .before .before .before .before .before .before .before .before in
-    (subst (λ m. 2 * start .args .n + 1 < m) (start .pre .0) (omega arith), (start .pre .1, sym (c .before .before .before .before .before .node-at .ensures) ∙ c .before .before .before .node2 .given .1))
+    (subst (λ m. 2 * start .args .n + 1 < m) (start .pre .0) (omega arith), (start .pre .1, sym (c .before .before .before .before .before .command-at .ensures) ∙ c .before .before .before .node2 .given .1))
 
 analyse-enum-known-node-3 : (t : ℕ) → analyse-lts.Need-enum-known-node-3 (analyse-calls t) (analyse-at t) analyse.Post
 analyse-enum-known-node-3 t c = search needs
@@ -153,7 +153,7 @@ analyse-settle-requires t c κs =
 
 analyse-analyse-single-requires : (t : ℕ) → analyse-lts.Need-analyse-single-requires (analyse-calls t) (analyse-at t) analyse.Post
 analyse-analyse-single-requires t c κs =
-    (c .before .before .before .before .before .before .before .before .pre .1, c .before .before .before .node-at .ensures, unnamed-single (c .before .before .before .node-at .result) (c .before .before .match .keys4))
+    (c .before .before .before .before .before .before .before .before .pre .1, c .before .before .before .command-at .ensures, unnamed-single (c .before .before .before .command-at .result) (c .before .before .match .keys4))
 
 analyse-same-length : (t : ℕ) → analyse-lts.Need-same-length (analyse-calls t) (analyse-at t) analyse.Post
 analyse-same-length t c =
@@ -399,7 +399,7 @@ pub +analyse+analyse-if+analyse-sequence+settle-spec : {M : Type 1} → statemen
     close μ-analyse μ-analyse-if μ-analyse-sequence μ-settle (λ t. analyse-lts.spec (analyse-calls t)
     (analyse-at t)
     analyse.Post
-    (analyse-node-at-requires t)
+    (analyse-command-at-requires t)
     (analyse-enum-known-node t)
     (analyse-analyse-sequence-requires t)
     (analyse-enum-known-node-2 t)

@@ -23,7 +23,8 @@ use Rattle.analysis.proofs.expressions.+either_secret+numeric_label+tru
 use Rattle.analysis.proofs.expressions.truth_label.Reads as truth-label
 use Rattle.analysis.proofs.expressions.truth_label.Kinds as truth-label-kinds
 use Rattle.analysis.proofs.expressions.+either_secret+numeric_label+truth_label.Lts-truth_label as truth-label-lts
-use Rattle.reader.proofs.lookup.node_at.Reads as node-at-reads
+use Rattle.reader.proofs.lookup.numeric_at.Reads as numeric-at-reads
+use Rattle.reader.proofs.lookup.truth_at.Reads as truth-at-reads
 use Rattle.analysis.proofs.labelling.variable_label.Reads as variable-label-reads
 use Rattle.analysis.proofs.expressions.+either_secret+numeric_label+truth_label.{statement}
 use Rattle.analysis.proofs.expressions.+either_secret+numeric_label+truth_label.Tie.{close}
@@ -70,10 +71,10 @@ truth-label-below t =
     and 2 truth-label-kinds.ps (falls 2 truth-label-kinds.ps _<_ μ-truth-label t) truth-label.Pre
 
 abbrev truth-label-calls : ℕ → truth-label-lts.Claims
-truth-label-calls t = (node-at-reads.Asked, node-at-reads.Learnt, either-secret-below t, either-secret.Post, truth-label-below t, truth-label.Post)
+truth-label-calls t = (truth-at-reads.Asked, truth-at-reads.Learnt, either-secret-below t, either-secret.Post, truth-label-below t, truth-label.Post)
 
 abbrev numeric-label-calls : ℕ → numeric-label-lts.Claims
-numeric-label-calls t = (node-at-reads.Asked, node-at-reads.Learnt, variable-label-reads.Asked, variable-label-reads.Learnt, either-secret-below t, either-secret.Post, truth-label-below t, truth-label.Post)
+numeric-label-calls t = (numeric-at-reads.Asked, numeric-at-reads.Learnt, variable-label-reads.Asked, variable-label-reads.Learnt, either-secret-below t, either-secret.Post, truth-label-below t, truth-label.Post)
 
 abbrev either-secret-calls : ℕ → either-secret-lts.Claims
 either-secret-calls t = (numeric-label-below t, numeric-label.Post)
@@ -98,21 +99,21 @@ either-secret-returns-2 t c =
     second-label (labelOfA (args .labels) (numericIn (now (args .table)) (args .left))) (labelOfA (args .labels) (numericIn (now (args .table)) (args .right)))
     (c .numeric-label2 .result) (sym (c .before .before .numeric-label .ensures) ∙ c .before .if1 .left) (c .numeric-label2 .ensures)
 
-module _ (t : ℕ) (d : numeric-label-lts.After-node-at (numeric-label-calls t) (numeric-label-at t) numeric-label.Post) where
-  numeric-parts : (m : Node) → d .node-at .result ≡ m → Parts (now (d .before .before .before .args .table)) (d .before .before .before .args .n) m
+module _ (t : ℕ) (d : numeric-label-lts.After-numeric-at (numeric-label-calls t) (numeric-label-at t) numeric-label.Post) where
+  numeric-parts : (m : Node) → d .numeric-at .result ≡ m → Parts (now (d .before .before .before .args .table)) (d .before .before .before .args .n) m
   numeric-parts =
       let start = d .before .before .before in
-      node-parts (slice-bytes (now (start .args .table)) (d .before .before .shared-slice-known .given)) (start .pre .1 .indexed) (start .pre .1 .inside) (d .node-at .ensures)
+      node-parts (slice-bytes (now (start .args .table)) (d .before .before .shared-slice-known .given)) (start .pre .1 .indexed) (start .pre .1 .inside) (d .numeric-at .ensures)
 
-module _ (t : ℕ) (d : truth-label-lts.After-node-at (truth-label-calls t) (truth-label-at t) truth-label.Post) where
-  truth-parts : (m : Node) → d .node-at .result ≡ m → Parts (now (d .before .before .before .args .table)) (d .before .before .before .args .n) m
+module _ (t : ℕ) (d : truth-label-lts.After-truth-at (truth-label-calls t) (truth-label-at t) truth-label.Post) where
+  truth-parts : (m : Node) → d .truth-at .result ≡ m → Parts (now (d .before .before .before .args .table)) (d .before .before .before .args .n) m
   truth-parts =
       let start = d .before .before .before in
-      node-parts (slice-bytes (now (start .args .table)) (d .before .before .shared-slice-known .given)) (start .pre .1 .indexed) (start .pre .1 .inside) (d .node-at .ensures)
+      node-parts (slice-bytes (now (start .args .table)) (d .before .before .shared-slice-known .given)) (start .pre .1 .indexed) (start .pre .1 .inside) (d .truth-at .ensures)
 
-numeric-label-node-at-requires : (t : ℕ) → numeric-label-lts.Need-node-at-requires (numeric-label-calls t) (numeric-label-at t) numeric-label.Post
-numeric-label-node-at-requires t c κs =
-    let start = c .before .before in (start .pre .1 .indexed, start .pre .1 .inside)
+numeric-label-numeric-at-requires : (t : ℕ) → numeric-label-lts.Need-numeric-at-requires (numeric-label-calls t) (numeric-label-at t) numeric-label.Post
+numeric-label-numeric-at-requires t c κs =
+    let start = c .before .before in (start .pre .1 .indexed, start .pre .1 .inside, start .pre .1 .isSort)
 
 numeric-label-enum-known-node : (t : ℕ) → numeric-label-lts.Need-enum-known-node (numeric-label-calls t) (numeric-label-at t) numeric-label.Post
 numeric-label-enum-known-node t c = search needs
@@ -196,12 +197,12 @@ numeric-label-returns-6 t c =
 numeric-label-returns-7 : (t : ℕ) → numeric-label-lts.Need-returns-7 (numeric-label-calls t) (numeric-label-at t) numeric-label.Post
 numeric-label-returns-7 t c =
     let start = c .before .before .before .before in
-    number-public (now (start .args .table)) (start .args .labels) (start .args .n) (c .before .node-at .result) (c .match .keys6)
-    (ap sortOf (c .before .node-at .ensures) ∙ start .pre .1 .isSort) (numeric-parts t (c .before) (c .before .node-at .result) refl)
+    number-public (now (start .args .table)) (start .args .labels) (start .args .n) (c .before .numeric-at .result) (c .match .keys6)
+    (ap sortOf (c .before .numeric-at .ensures) ∙ start .pre .1 .isSort) (numeric-parts t (c .before) (c .before .numeric-at .result) refl)
 
-truth-label-node-at-requires : (t : ℕ) → truth-label-lts.Need-node-at-requires (truth-label-calls t) (truth-label-at t) truth-label.Post
-truth-label-node-at-requires t c κs =
-    let start = c .before .before in (start .pre .1 .indexed, start .pre .1 .inside)
+truth-label-truth-at-requires : (t : ℕ) → truth-label-lts.Need-truth-at-requires (truth-label-calls t) (truth-label-at t) truth-label.Post
+truth-label-truth-at-requires t c κs =
+    let start = c .before .before in (start .pre .1 .indexed, start .pre .1 .inside, start .pre .1 .isSort)
 
 truth-label-enum-known-node : (t : ℕ) → truth-label-lts.Need-enum-known-node (truth-label-calls t) (truth-label-at t) truth-label.Post
 truth-label-enum-known-node t c = search needs
@@ -273,8 +274,8 @@ truth-label-returns-5 t c =
 truth-label-returns-6 : (t : ℕ) → truth-label-lts.Need-returns-6 (truth-label-calls t) (truth-label-at t) truth-label.Post
 truth-label-returns-6 t c =
     let start = c .before .before .before .before in
-    constant-public (now (start .args .table)) (start .args .labels) (start .args .n) (c .before .node-at .result) (c .match .keys5)
-    (ap sortOf (c .before .node-at .ensures) ∙ start .pre .1 .isSort) (truth-parts t (c .before) (c .before .node-at .result) refl)
+    constant-public (now (start .args .table)) (start .args .labels) (start .args .n) (c .before .truth-at .result) (c .match .keys5)
+    (ap sortOf (c .before .truth-at .ensures) ∙ start .pre .1 .isSort) (truth-parts t (c .before) (c .before .truth-at .result) refl)
 
 pub +either-secret+numeric-label+truth-label-spec : {M : Type 1} → statement M
 +either-secret+numeric-label+truth-label-spec =
@@ -288,7 +289,7 @@ pub +either-secret+numeric-label+truth-label-spec : {M : Type 1} → statement M
     (λ t. numeric-label-lts.spec (numeric-label-calls t)
     (numeric-label-at t)
     numeric-label.Post
-    (numeric-label-node-at-requires t)
+    (numeric-label-numeric-at-requires t)
     (numeric-label-enum-known-node t)
     (numeric-label-variable-label-requires t)
     (numeric-label-enum-known-node-2 t)
@@ -310,7 +311,7 @@ pub +either-secret+numeric-label+truth-label-spec : {M : Type 1} → statement M
     λ t. truth-label-lts.spec (truth-label-calls t)
     (truth-label-at t)
     truth-label.Post
-    (truth-label-node-at-requires t)
+    (truth-label-truth-at-requires t)
     (truth-label-enum-known-node t)
     (truth-label-either-secret-requires t)
     (truth-label-enum-known-node-2 t)

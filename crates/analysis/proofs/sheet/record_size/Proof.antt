@@ -1,90 +1,36 @@
--- `record_size` goes by the kind of a node.
-use mathlib.Core.Path.{subst, _≡_, sym, ap}
+-- `record_size` is that of a command; an expression has no record.
 use native.Mathlib.Omega.{arith}
+use mathlib.Core.Path.{refl, sym, _∙_}
 use denote.Ref.{now}
 use Rattle.bytes_le.proofs.Numbers.{slice-bytes}
-use Rattle.awhile.specs.declared.Node.{Node}
-use denote.Enum.Declared.{tagOf}
-use types.Run.{OneOf}
-use Rattle.awhile.proofs.Node.{the-type}
-use Rattle.reader.proofs.Index.{Parts}
-use Rattle.analysis.proofs.Nodes.{node-parts}
-use Rattle.labels.specs.Sheet.{recordLength}
-use Rattle.analysis.proofs.SheetNodes.{unnamedRecord, unrecorded}
+use Rattle.awhile.specs.Nodes.{sortOf}
+use Rattle.awhile.specs.declared.Sort.the-variants.{Command}
+use Rattle.awhile.proofs.Children.{sameSort-true}
+use Rattle.reader.specs.Index.{nodeIn}
+use Rattle.analysis.proofs.SheetNodes.{no-command}
 use borrow.Author.Needs.{needs}
 use Rattle.analysis.proofs.sheet.record_size.Statement.{statement}
 use Rattle.analysis.proofs.sheet.record_size.Tie as tie
 
-parts : (d : tie.After-node-at) (m : Node) → d .node-at .result ≡ m → Parts (now (d .before .before .before .args .table)) (d .before .before .before .args .n) m
-parts d =
-    let start = d .before .before .before in
-    node-parts (slice-bytes (now (start .args .table)) (d .before .before .shared-slice-known .given)) (start .pre .0) (start .pre .1) (d .node-at .ensures)
+is-command-requires : tie.Need-is-command-requires
+is-command-requires c κs = search needs
 
-node-at-requires : tie.Need-node-at-requires
-node-at-requires c κs = search needs
-
-enum-told : tie.Need-enum-told
-enum-told c = search needs
-
-enum-told-2 : tie.Need-enum-told-2
-enum-told-2 c = search needs
-
-enum-told-3 : tie.Need-enum-told-3
-enum-told-3 c = search needs
-
-enum-told-4 : tie.Need-enum-told-4
-enum-told-4 c = search needs
-
-enum-told-5 : tie.Need-enum-told-5
-enum-told-5 c = search needs
+command-size-requires : tie.Need-command-size-requires
+command-size-requires c κs =
+    let start = c .before .before .before .before in
+    (start .pre .0, start .pre .1, sameSort-true (sortOf (nodeIn (now (start .args .table)) (start .args .n))) Command (sym (c .before .is-command .ensures) ∙ c .if1 .taken))
 
 returns : tie.Need-returns
-unfolding recordLength
-returns c =
-    (sym (ap recordLength (parts (c .before .before) _ (c .enum-told .given .1) .2)), omega arith)
+returns c = search needs
 
 returns-2 : tie.Need-returns-2
-unfolding recordLength
 returns-2 c =
-    (sym (ap recordLength (parts (c .before .before) _ (c .enum-told2 .given .1) .3)), omega arith)
-
-returns-3 : tie.Need-returns-3
-unfolding recordLength
-returns-3 c =
-    (sym (ap recordLength (parts (c .before .before) _ (c .enum-told3 .given .1) .2)), omega arith)
-
-returns-4 : tie.Need-returns-4
-unfolding recordLength
-returns-4 c =
-    (sym (ap recordLength (parts (c .before .before) _ (c .enum-told4 .given .1) .3)), omega arith)
-
-returns-5 : tie.Need-returns-5
-unfolding recordLength
-returns-5 c =
-    (sym (ap recordLength (parts (c .before .before) _ (c .enum-told5 .given .1) .3)), omega arith)
-
-returns-6 : tie.Need-returns-6
-returns-6 c =
     let start = c .before .before .before .before in
     let table = now (start .args .table) in (
-      unrecorded table (now (start .args .index)) (slice-bytes table (c .before .before .before .shared-slice-known .given)) (start .pre .0) (start .args .n) (start .pre .1)
-          (subst (λ m. OneOf unnamedRecord (tagOf the-type m)) (c .before .node-at .ensures) (c .match .keys6)),
+      no-command table (now (start .args .index)) (slice-bytes table (c .before .before .before .shared-slice-known .given)) (start .pre .0) (start .args .n) (start .pre .1)
+          (sortOf (nodeIn table (start .args .n))) refl (sym (c .before .is-command .ensures) ∙ c .if1 .left),
       omega arith,
     )
 
 pub record-size-spec : {M : Type 1} → statement M
-record-size-spec =
-    tie.close
-    (tie.spec
-    node-at-requires
-    enum-told
-    enum-told-2
-    enum-told-3
-    enum-told-4
-    enum-told-5
-    returns
-    returns-2
-    returns-3
-    returns-4
-    returns-5
-    returns-6)
+record-size-spec = tie.close (tie.spec is-command-requires command-size-requires returns returns-2)

@@ -11,20 +11,11 @@ use Rattle.bytes_le.proofs.get.u16_at.Tie as tie
 bytes-from-requires : tie.Need-bytes-from-requires
 bytes-from-requires c κs = search needs
 
-shared-slice-read-pair : tie.Need-shared-slice-read-pair
-shared-slice-read-pair c = search needs
-
-add-pair : tie.Need-add-pair
-add-pair c = search needs
-
-shared-slice-read-pair-2 : tie.Need-shared-slice-read-pair-2
-shared-slice-read-pair-2 c = search needs
-
-pair-requires : tie.Need-pair-requires
-pair-requires c κs = search needs
+whole-u16-requires : tie.Need-whole-u16-requires
+whole-u16-requires c κs = search needs
 
 returns : tie.Need-returns
-returns c = omega (arith, leAt-two (now (c .before .before .before .before .before .before .args .s)) (c .before .before .before .before .before .before .args .at), c .pair .ensures)
+returns c = c .whole-u16 .ensures
 
 byte-at-requires : tie.Need-byte-at-requires
 byte-at-requires c κs = search needs
@@ -40,10 +31,7 @@ u16-at-spec =
     tie.close
     (tie.spec
     bytes-from-requires
-    shared-slice-read-pair
-    add-pair
-    shared-slice-read-pair-2
-    pair-requires
+    whole-u16-requires
     returns
     byte-at-requires
     returns-2)

@@ -11,6 +11,12 @@ use Rattle.bytes_le.proofs.get.u32_at.Tie as tie
 bytes-from-requires : tie.Need-bytes-from-requires
 bytes-from-requires c κs = search needs
 
+whole-u32-requires : tie.Need-whole-u32-requires
+whole-u32-requires c κs = search needs
+
+returns : tie.Need-returns
+returns c = c .whole-u32 .ensures
+
 shared-slice-read-quad : tie.Need-shared-slice-read-quad
 shared-slice-read-quad c = search needs
 
@@ -26,41 +32,14 @@ add-quad-2 c = search needs
 shared-slice-read-quad-3 : tie.Need-shared-slice-read-quad-3
 shared-slice-read-quad-3 c = search needs
 
-add-quad-3 : tie.Need-add-quad-3
-add-quad-3 c = search needs
-
-shared-slice-read-quad-4 : tie.Need-shared-slice-read-quad-4
-shared-slice-read-quad-4 c = search needs
-
 quad-requires : tie.Need-quad-requires
 quad-requires c κs = search needs
-
-returns : tie.Need-returns
-returns c = omega (arith, leAt-four (now (c .before .before .before .before .before .before .before .before .args .s)) (c .before .before .before .before .before .before .before .before .args .at), c .quad .ensures)
-
-shared-slice-read-quad-5 : tie.Need-shared-slice-read-quad-5
-shared-slice-read-quad-5 c = search needs
-
-add-quad-4 : tie.Need-add-quad-4
-add-quad-4 c = search needs
-
-shared-slice-read-quad-6 : tie.Need-shared-slice-read-quad-6
-shared-slice-read-quad-6 c = search needs
-
-add-quad-5 : tie.Need-add-quad-5
-add-quad-5 c = search needs
-
-shared-slice-read-quad-7 : tie.Need-shared-slice-read-quad-7
-shared-slice-read-quad-7 c = search needs
-
-quad-requires-2 : tie.Need-quad-requires-2
-quad-requires-2 c κs = search needs
 
 returns-2 : tie.Need-returns-2
 returns-2 c =
     let s = now (c .before .before .before .before .before .before .before .before .args .s) in
     let at = c .before .before .before .before .before .before .before .before .args .at in
-    omega (arith, leAt-four s at, List·getD-eq-default s 0 {n = at + 3} (omega arith), c .quad2 .ensures)
+    omega (arith, leAt-four s at, List·getD-eq-default s 0 {n = at + 3} (omega arith), c .quad .ensures)
 
 u16-at-requires : tie.Need-u16-at-requires
 u16-at-requires c κs = search needs
@@ -79,21 +58,14 @@ u32-at-spec =
     tie.close
     (tie.spec
     bytes-from-requires
+    whole-u32-requires
+    returns
     shared-slice-read-quad
     add-quad
     shared-slice-read-quad-2
     add-quad-2
     shared-slice-read-quad-3
-    add-quad-3
-    shared-slice-read-quad-4
     quad-requires
-    returns
-    shared-slice-read-quad-5
-    add-quad-4
-    shared-slice-read-quad-6
-    add-quad-5
-    shared-slice-read-quad-7
-    quad-requires-2
     returns-2
     u16-at-requires
     cast-result

@@ -7,7 +7,7 @@ use Prim.Native.Nat.{_-_}
 use Rattle.bytes_le.proofs.Numbers.{slice-bytes}
 use Rattle.awhile.specs.Encoding.{tableBytes}
 use Rattle.reader.specs.Index.{tableOf}
-use Rattle.reader.proofs.Index.{indexed-few, indexed-some}
+use Rattle.reader.proofs.Index.{indexed-some}
 use Rattle.analysis.proofs.WholeProgram.{fresh-zeros}
 use Rattle.masks.specs.Hardening.{hardenedTable}
 use Rattle.hardener.specs.Output.{Measurable}
@@ -27,9 +27,8 @@ slice-aggregate-label-program-2 c = search needs
 label-program-requires : tie.Need-label-program-requires
 label-program-requires c κs =
     let start = c .before .before .before .before .before .before in
-    let table = now (start .args .table) in
     let ready = start .pre .0 in
-    (fresh-zeros 4096 (ready .indexed) (indexed-few table (now (start .args .index)) (slice-bytes table (c .before .before .before .before .before .shared-slice-known .given)) (ready .indexed)), ready .isNodes, ready .isLabels)
+    (fresh-zeros 512 (ready .indexed) (start .pre .1 .few), ready .isNodes, ready .isLabels)
 
 sub-root : tie.Need-sub-root
 sub-root c =

@@ -46,7 +46,7 @@ use Rattle.hardener.proofs.commands.+harden_command+harden_if+harden_lo
 use Rattle.hardener.proofs.commands.harden_while.Reads as harden-while
 use Rattle.hardener.proofs.commands.harden_while.Kinds as harden-while-kinds
 use Rattle.hardener.proofs.commands.+harden_command+harden_if+harden_loop+harden_side+harden_sides+harden_while.Lts-harden_while as harden-while-lts
-use Rattle.reader.proofs.lookup.node_at.Reads as node-at-reads
+use Rattle.reader.proofs.lookup.command_at.Reads as command-at-reads
 use Rattle.hardener.proofs.accesses.append_sequence.Reads as append-sequence-reads
 use Rattle.hardener.proofs.accesses.harden_read.Reads as harden-read-reads
 use Rattle.hardener.proofs.accesses.harden_write.Reads as harden-write-reads
@@ -148,7 +148,7 @@ harden-while-below t =
     harden-while.Pre
 
 abbrev harden-command-calls : ℕ → harden-command-lts.Claims
-harden-command-calls t = (node-at-reads.Asked, node-at-reads.Learnt, append-reads.Asked, append-reads.Learnt, copy-numeric-reads.Asked, copy-numeric-reads.Learnt, last-reads.Asked, last-reads.Learnt, harden-command-below t, harden-command.Post, append-sequence-reads.Asked, append-sequence-reads.Learnt, mask-condition-reads.Asked, mask-condition-reads.Learnt, harden-if-below t, harden-if.Post, harden-while-below t, harden-while.Post, mask-index-reads.Asked, mask-index-reads.Learnt, mask-value-reads.Asked, mask-value-reads.Learnt, harden-read-reads.Asked, harden-read-reads.Learnt, harden-write-reads.Asked, harden-write-reads.Learnt)
+harden-command-calls t = (command-at-reads.Asked, command-at-reads.Learnt, append-reads.Asked, append-reads.Learnt, copy-numeric-reads.Asked, copy-numeric-reads.Learnt, last-reads.Asked, last-reads.Learnt, harden-command-below t, harden-command.Post, append-sequence-reads.Asked, append-sequence-reads.Learnt, mask-condition-reads.Asked, mask-condition-reads.Learnt, harden-if-below t, harden-if.Post, harden-while-below t, harden-while.Post, mask-index-reads.Asked, mask-index-reads.Learnt, mask-value-reads.Asked, mask-value-reads.Learnt, harden-read-reads.Asked, harden-read-reads.Learnt, harden-write-reads.Asked, harden-write-reads.Learnt)
 
 abbrev harden-if-calls : ℕ → harden-if-lts.Claims
 harden-if-calls t = (copy-condition-reads.Asked, copy-condition-reads.Learnt, harden-sides-below t, harden-sides.Post, last-reads.Asked, last-reads.Learnt, append-reads.Asked, append-reads.Learnt)
@@ -165,16 +165,16 @@ harden-sides-calls t = (harden-side-below t, harden-side.Post, both-reads.Asked,
 abbrev harden-while-calls : ℕ → harden-while-lts.Claims
 harden-while-calls t = (harden-loop-below t, harden-loop.Post, put-flag-update-reads.Asked, put-flag-update-reads.Learnt, append-sequence-reads.Asked, append-sequence-reads.Learnt)
 
-module _ (t : ℕ) (d : harden-command-lts.After-node-at (harden-command-calls t) (harden-command-at t) harden-command.Post) where
-  command-parts : (m : Node) → d .node-at .result ≡ m → Parts (now (d .before .before .before .before .before .before .args .table)) (d .before .before .before .before .before .before .args .n) m
+module _ (t : ℕ) (d : harden-command-lts.After-command-at (harden-command-calls t) (harden-command-at t) harden-command.Post) where
+  command-parts : (m : Node) → d .command-at .result ≡ m → Parts (now (d .before .before .before .before .before .before .args .table)) (d .before .before .before .before .before .before .args .n) m
   command-parts m e =
       let start = d .before .before .before .before .before .before in
       indexed-parts (now (start .args .table)) (now (start .args .index)) (slice-bytes (now (start .args .table)) (d .before .before .before .before .before .shared-slice-known .given))
-      (start .pre .1 .0 .node .indexed) (start .args .n) (start .pre .1 .0 .node .inside) m (sym (d .node-at .ensures) ∙ e)
+      (start .pre .1 .0 .node .indexed) (start .args .n) (start .pre .1 .0 .node .inside) m (sym (d .command-at .ensures) ∙ e)
 
-harden-command-node-at-requires : (t : ℕ) → harden-command-lts.Need-node-at-requires (harden-command-calls t) (harden-command-at t) harden-command.Post
-harden-command-node-at-requires t c κs =
-    let start = c .before .before .before .before .before in (start .pre .1 .0 .node .indexed, start .pre .1 .0 .node .inside)
+harden-command-command-at-requires : (t : ℕ) → harden-command-lts.Need-command-at-requires (harden-command-calls t) (harden-command-at t) harden-command.Post
+harden-command-command-at-requires t c κs =
+    let start = c .before .before .before .before .before in (start .pre .1 .0 .node .indexed, start .pre .1 .0 .node .inside, start .pre .1 .0 .node .isSort)
 
 harden-command-enum-told : (t : ℕ) → harden-command-lts.Need-enum-told (harden-command-calls t) (harden-command-at t) harden-command.Post
 harden-command-enum-told t c = search needs
@@ -193,7 +193,7 @@ harden-command-append-requires t c κs =
     let p = command-parts t (c .before .before .before) _ (given .1) in
     let indexed = start .pre .1 .0 .node .indexed in
     let is = in-skip table vs arrs f n p in
-    room-leaf (c .before .before .before .node-at .result) (room-C is (start .pre .1 .1)) (ap sizeOf (given .1))
+    room-leaf (c .before .before .before .command-at .result) (room-C is (start .pre .1 .1)) (ap sizeOf (given .1))
 
 harden-command-enum-known-node : (t : ℕ) → harden-command-lts.Need-enum-known-node (harden-command-calls t) (harden-command-at t) harden-command.Post
 harden-command-enum-known-node t c = search needs
@@ -684,7 +684,7 @@ harden-command-returns-7 t c =
 
 harden-command-returns-8 : (t : ℕ) → harden-command-lts.Need-returns-8 (harden-command-calls t) (harden-command-at t) harden-command.Post
 harden-command-returns-8 t c =
-    never-command (c .before .node-at .result) (c .match .keys8) (ap sortOf (c .before .node-at .ensures) ∙ c .before .before .before .before .before .before .before .pre .1 .0 .node .isSort)
+    never-command (c .before .command-at .result) (c .match .keys8) (ap sortOf (c .before .command-at .ensures) ∙ c .before .before .before .before .before .before .before .pre .1 .0 .node .isSort)
 
 harden-if-copy-condition-requires : (t : ℕ) → harden-if-lts.Need-copy-condition-requires (harden-if-calls t) (harden-if-at t) harden-if.Post
 unfolding ifIn testIn nodesOf bytesOf
@@ -1302,7 +1302,7 @@ pub +harden-command+harden-if+harden-loop+harden-side+harden-sides+harden-while-
     μ-harden-while
     (λ t. harden-command-lts.spec (harden-command-calls t) (harden-command-at t)
     harden-command.Post
-    (harden-command-node-at-requires t)
+    (harden-command-command-at-requires t)
     (harden-command-enum-told t)
     (harden-command-append-requires t)
     (harden-command-enum-known-node t)

@@ -32,7 +32,8 @@ use Rattle.hardener.proofs.copies.+copy_numeric+copy_pair+copy_truth.Lt
 use Rattle.hardener.proofs.copies.copy_truth.Reads as copy-truth
 use Rattle.hardener.proofs.copies.copy_truth.Kinds as copy-truth-kinds
 use Rattle.hardener.proofs.copies.+copy_numeric+copy_pair+copy_truth.Lts-copy_truth as copy-truth-lts
-use Rattle.reader.proofs.lookup.node_at.Reads as node-at-reads
+use Rattle.reader.proofs.lookup.numeric_at.Reads as numeric-at-reads
+use Rattle.reader.proofs.lookup.truth_at.Reads as truth-at-reads
 use Rattle.hardener.proofs.copies.both.Reads as both-reads
 use Rattle.hardener.proofs.copies.last.Reads as last-reads
 use Rattle.hardener.proofs.records.append.Reads as append-reads
@@ -76,31 +77,31 @@ copy-truth-below t =
     and 3 copy-truth-kinds.ps (falls 3 copy-truth-kinds.ps _<_ μ-copy-truth t) copy-truth.Pre
 
 abbrev copy-truth-calls : ℕ → copy-truth-lts.Claims
-copy-truth-calls t = (node-at-reads.Asked, node-at-reads.Learnt, append-reads.Asked, append-reads.Learnt, copy-pair-below t, copy-pair.Post, copy-truth-below t, copy-truth.Post, last-reads.Asked, last-reads.Learnt, both-reads.Asked, both-reads.Learnt)
+copy-truth-calls t = (truth-at-reads.Asked, truth-at-reads.Learnt, append-reads.Asked, append-reads.Learnt, copy-pair-below t, copy-pair.Post, copy-truth-below t, copy-truth.Post, last-reads.Asked, last-reads.Learnt, both-reads.Asked, both-reads.Learnt)
 
 abbrev copy-pair-calls : ℕ → copy-pair-lts.Claims
 copy-pair-calls t = (copy-numeric-below t, copy-numeric.Post, both-reads.Asked, both-reads.Learnt)
 
 abbrev copy-numeric-calls : ℕ → copy-numeric-lts.Claims
-copy-numeric-calls t = (node-at-reads.Asked, node-at-reads.Learnt, append-reads.Asked, append-reads.Learnt, copy-pair-below t, copy-pair.Post, copy-truth-below t, copy-truth.Post, last-reads.Asked, last-reads.Learnt)
+copy-numeric-calls t = (numeric-at-reads.Asked, numeric-at-reads.Learnt, append-reads.Asked, append-reads.Learnt, copy-pair-below t, copy-pair.Post, copy-truth-below t, copy-truth.Post, last-reads.Asked, last-reads.Learnt)
 
-module _ (t : ℕ) (d : copy-numeric-lts.After-node-at (copy-numeric-calls t) (copy-numeric-at t) copy-numeric.Post) where
-  numeric-parts : (m : Node) → d .node-at .result ≡ m → Parts (now (d .before .before .before .before .args .table)) (d .before .before .before .before .args .n) m
+module _ (t : ℕ) (d : copy-numeric-lts.After-numeric-at (copy-numeric-calls t) (copy-numeric-at t) copy-numeric.Post) where
+  numeric-parts : (m : Node) → d .numeric-at .result ≡ m → Parts (now (d .before .before .before .before .args .table)) (d .before .before .before .before .args .n) m
   numeric-parts m e =
       let start = d .before .before .before .before in
       indexed-parts (now (start .args .table)) (now (start .args .index)) (slice-bytes (now (start .args .table)) (d .before .before .before .shared-slice-known .given))
-      (start .pre .1 .0 .indexed) (start .args .n) (start .pre .1 .0 .inside) m (sym (d .node-at .ensures) ∙ e)
+      (start .pre .1 .0 .indexed) (start .args .n) (start .pre .1 .0 .inside) m (sym (d .numeric-at .ensures) ∙ e)
 
-module _ (t : ℕ) (d : copy-truth-lts.After-node-at (copy-truth-calls t) (copy-truth-at t) copy-truth.Post) where
-  truth-parts : (m : Node) → d .node-at .result ≡ m → Parts (now (d .before .before .before .before .args .table)) (d .before .before .before .before .args .n) m
+module _ (t : ℕ) (d : copy-truth-lts.After-truth-at (copy-truth-calls t) (copy-truth-at t) copy-truth.Post) where
+  truth-parts : (m : Node) → d .truth-at .result ≡ m → Parts (now (d .before .before .before .before .args .table)) (d .before .before .before .before .args .n) m
   truth-parts m e =
       let start = d .before .before .before .before in
       indexed-parts (now (start .args .table)) (now (start .args .index)) (slice-bytes (now (start .args .table)) (d .before .before .before .shared-slice-known .given))
-      (start .pre .1 .0 .indexed) (start .args .n) (start .pre .1 .0 .inside) m (sym (d .node-at .ensures) ∙ e)
+      (start .pre .1 .0 .indexed) (start .args .n) (start .pre .1 .0 .inside) m (sym (d .truth-at .ensures) ∙ e)
 
-copy-numeric-node-at-requires : (t : ℕ) → copy-numeric-lts.Need-node-at-requires (copy-numeric-calls t) (copy-numeric-at t) copy-numeric.Post
-copy-numeric-node-at-requires t c κs =
-    let start = c .before .before .before in (start .pre .1 .0 .indexed, start .pre .1 .0 .inside)
+copy-numeric-numeric-at-requires : (t : ℕ) → copy-numeric-lts.Need-numeric-at-requires (copy-numeric-calls t) (copy-numeric-at t) copy-numeric.Post
+copy-numeric-numeric-at-requires t c κs =
+    let start = c .before .before .before in (start .pre .1 .0 .indexed, start .pre .1 .0 .inside, start .pre .1 .0 .isSort)
 
 copy-numeric-enum-told : (t : ℕ) → copy-numeric-lts.Need-enum-told (copy-numeric-calls t) (copy-numeric-at t) copy-numeric.Post
 copy-numeric-enum-told t c = search needs
@@ -109,7 +110,7 @@ copy-numeric-append-requires : (t : ℕ) → copy-numeric-lts.Need-append-requir
 unfolding nodesOfA bytesOfA sizeOf form fieldSize sum
 copy-numeric-append-requires t c κs =
     let p = numeric-parts t (c .before .before .before) _ (c .before .enum-told .given .1) in
-    room-leaf (c .before .before .before .node-at .result) (room-A (p) (c .before .before .before .before .before .before .before .pre .1 .1)) (ap sizeOf (c .before .enum-told .given .1))
+    room-leaf (c .before .before .before .numeric-at .result) (room-A (p) (c .before .before .before .before .before .before .before .pre .1 .1)) (ap sizeOf (c .before .enum-told .given .1))
 
 copy-numeric-enum-told-2 : (t : ℕ) → copy-numeric-lts.Need-enum-told-2 (copy-numeric-calls t) (copy-numeric-at t) copy-numeric.Post
 copy-numeric-enum-told-2 t c = search needs
@@ -118,7 +119,7 @@ copy-numeric-append-requires-2 : (t : ℕ) → copy-numeric-lts.Need-append-requ
 unfolding nodesOfA bytesOfA sizeOf form fieldSize sum
 copy-numeric-append-requires-2 t c κs =
     let p = numeric-parts t (c .before .before .before) _ (c .before .enum-told2 .given .1) in
-    room-leaf (c .before .before .before .node-at .result) (room-A (p .1) (c .before .before .before .before .before .before .before .pre .1 .1)) (ap sizeOf (c .before .enum-told2 .given .1))
+    room-leaf (c .before .before .before .numeric-at .result) (room-A (p .1) (c .before .before .before .before .before .before .before .pre .1 .1)) (ap sizeOf (c .before .enum-told2 .given .1))
 
 copy-numeric-enum-known-node : (t : ℕ) → copy-numeric-lts.Need-enum-known-node (copy-numeric-calls t) (copy-numeric-at t) copy-numeric.Post
 copy-numeric-enum-known-node t c = search needs
@@ -332,7 +333,7 @@ copy-numeric-returns-6 t c =
 
 copy-numeric-returns-7 : (t : ℕ) → copy-numeric-lts.Need-returns-7 (copy-numeric-calls t) (copy-numeric-at t) copy-numeric.Post
 copy-numeric-returns-7 t c =
-    never-numeric (c .before .node-at .result) (c .match .keys7) (ap sortOf (c .before .node-at .ensures) ∙ c .before .before .before .before .before .pre .1 .0 .isSort)
+    never-numeric (c .before .numeric-at .result) (c .match .keys7) (ap sortOf (c .before .numeric-at .ensures) ∙ c .before .before .before .before .before .pre .1 .0 .isSort)
 
 copy-pair-copy-numeric-requires : (t : ℕ) → copy-pair-lts.Need-copy-numeric-requires (copy-pair-calls t) (copy-pair-at t) copy-pair.Post
 copy-pair-copy-numeric-requires t c κs =
@@ -402,9 +403,9 @@ copy-pair-returns t c =
     let room = start .pre .1 .1 in
     wrote-pair (start .args .from) left right (d .copy-numeric .ensures) (c .before .before .before .copy-numeric2 .ensures) (c .both .ensures) (room .fits)
 
-copy-truth-node-at-requires : (t : ℕ) → copy-truth-lts.Need-node-at-requires (copy-truth-calls t) (copy-truth-at t) copy-truth.Post
-copy-truth-node-at-requires t c κs =
-    let start = c .before .before .before in (start .pre .1 .0 .indexed, start .pre .1 .0 .inside)
+copy-truth-truth-at-requires : (t : ℕ) → copy-truth-lts.Need-truth-at-requires (copy-truth-calls t) (copy-truth-at t) copy-truth.Post
+copy-truth-truth-at-requires t c κs =
+    let start = c .before .before .before in (start .pre .1 .0 .indexed, start .pre .1 .0 .inside, start .pre .1 .0 .isSort)
 
 copy-truth-enum-told : (t : ℕ) → copy-truth-lts.Need-enum-told (copy-truth-calls t) (copy-truth-at t) copy-truth.Post
 copy-truth-enum-told t c = search needs
@@ -413,7 +414,7 @@ copy-truth-append-requires : (t : ℕ) → copy-truth-lts.Need-append-requires (
 unfolding nodesOfB bytesOfB sizeOf form fieldSize sum
 copy-truth-append-requires t c κs =
     let p = truth-parts t (c .before .before .before) _ (c .before .enum-told .given .1) in
-    room-leaf (c .before .before .before .node-at .result) (room-B (p .1) (c .before .before .before .before .before .before .before .pre .1 .1)) (ap sizeOf (c .before .enum-told .given .1))
+    room-leaf (c .before .before .before .truth-at .result) (room-B (p .1) (c .before .before .before .before .before .before .before .pre .1 .1)) (ap sizeOf (c .before .enum-told .given .1))
 
 copy-truth-enum-known-node : (t : ℕ) → copy-truth-lts.Need-enum-known-node (copy-truth-calls t) (copy-truth-at t) copy-truth.Post
 copy-truth-enum-known-node t c = search needs
@@ -621,14 +622,14 @@ copy-truth-returns-5 t c =
 
 copy-truth-returns-6 : (t : ℕ) → copy-truth-lts.Need-returns-6 (copy-truth-calls t) (copy-truth-at t) copy-truth.Post
 copy-truth-returns-6 t c =
-    never-truth (c .before .node-at .result) (c .match .keys6) (ap sortOf (c .before .node-at .ensures) ∙ c .before .before .before .before .before .pre .1 .0 .isSort)
+    never-truth (c .before .truth-at .result) (c .match .keys6) (ap sortOf (c .before .truth-at .ensures) ∙ c .before .before .before .before .before .pre .1 .0 .isSort)
 
 pub +copy-numeric+copy-pair+copy-truth-spec : {M : Type 1} → statement M
 +copy-numeric+copy-pair+copy-truth-spec =
     close μ-copy-numeric μ-copy-pair μ-copy-truth (λ t. copy-numeric-lts.spec (copy-numeric-calls t)
     (copy-numeric-at t)
     copy-numeric.Post
-    (copy-numeric-node-at-requires t)
+    (copy-numeric-numeric-at-requires t)
     (copy-numeric-enum-told t)
     (copy-numeric-append-requires t)
     (copy-numeric-enum-told-2 t)
@@ -681,7 +682,7 @@ pub +copy-numeric+copy-pair+copy-truth-spec : {M : Type 1} → statement M
     λ t. copy-truth-lts.spec (copy-truth-calls t)
     (copy-truth-at t)
     copy-truth.Post
-    (copy-truth-node-at-requires t)
+    (copy-truth-truth-at-requires t)
     (copy-truth-enum-told t)
     (copy-truth-append-requires t)
     (copy-truth-enum-known-node t)

@@ -27,7 +27,8 @@ use Rattle.hardener.proofs.sizes.+numeric_size+pair_size+truth_size.Lts
 use Rattle.hardener.proofs.sizes.truth_size.Reads as truth-size
 use Rattle.hardener.proofs.sizes.truth_size.Kinds as truth-size-kinds
 use Rattle.hardener.proofs.sizes.+numeric_size+pair_size+truth_size.Lts-truth_size as truth-size-lts
-use Rattle.reader.proofs.lookup.node_at.Reads as node-at-reads
+use Rattle.reader.proofs.lookup.numeric_at.Reads as numeric-at-reads
+use Rattle.reader.proofs.lookup.truth_at.Reads as truth-at-reads
 use Rattle.hardener.proofs.sizes.over_one.Reads as over-one-reads
 use Rattle.hardener.proofs.sizes.over_three.Reads as over-three-reads
 use Rattle.hardener.proofs.sizes.over_two.Reads as over-two-reads
@@ -71,31 +72,31 @@ truth-size-below t =
     and 2 truth-size-kinds.ps (falls 2 truth-size-kinds.ps _<_ μ-truth-size t) truth-size.Pre
 
 abbrev truth-size-calls : ℕ → truth-size-lts.Claims
-truth-size-calls t = (node-at-reads.Asked, node-at-reads.Learnt, pair-size-below t, pair-size.Post, truth-size-below t, truth-size.Post, over-one-reads.Asked, over-one-reads.Learnt, over-two-reads.Asked, over-two-reads.Learnt)
+truth-size-calls t = (truth-at-reads.Asked, truth-at-reads.Learnt, pair-size-below t, pair-size.Post, truth-size-below t, truth-size.Post, over-one-reads.Asked, over-one-reads.Learnt, over-two-reads.Asked, over-two-reads.Learnt)
 
 abbrev pair-size-calls : ℕ → pair-size-lts.Claims
 pair-size-calls t = (numeric-size-below t, numeric-size.Post, over-two-reads.Asked, over-two-reads.Learnt)
 
 abbrev numeric-size-calls : ℕ → numeric-size-lts.Claims
-numeric-size-calls t = (node-at-reads.Asked, node-at-reads.Learnt, pair-size-below t, pair-size.Post, truth-size-below t, truth-size.Post, numeric-size-below t, numeric-size.Post, over-three-reads.Asked, over-three-reads.Learnt)
+numeric-size-calls t = (numeric-at-reads.Asked, numeric-at-reads.Learnt, pair-size-below t, pair-size.Post, truth-size-below t, truth-size.Post, numeric-size-below t, numeric-size.Post, over-three-reads.Asked, over-three-reads.Learnt)
 
-module _ (t : ℕ) (d : numeric-size-lts.After-node-at (numeric-size-calls t) (numeric-size-at t) numeric-size.Post) where
-  numeric-parts : (m : Node) → d .node-at .result ≡ m → Parts (now (d .before .before .before .args .table)) (d .before .before .before .args .n) m
+module _ (t : ℕ) (d : numeric-size-lts.After-numeric-at (numeric-size-calls t) (numeric-size-at t) numeric-size.Post) where
+  numeric-parts : (m : Node) → d .numeric-at .result ≡ m → Parts (now (d .before .before .before .args .table)) (d .before .before .before .args .n) m
   numeric-parts m e =
       let start = d .before .before .before in
       indexed-parts (now (start .args .table)) (now (start .args .index)) (slice-bytes (now (start .args .table)) (d .before .before .shared-slice-known .given))
-      (start .pre .1 .0 .indexed) (start .args .n) (start .pre .1 .0 .inside) m (sym (d .node-at .ensures) ∙ e)
+      (start .pre .1 .0 .indexed) (start .args .n) (start .pre .1 .0 .inside) m (sym (d .numeric-at .ensures) ∙ e)
 
-module _ (t : ℕ) (d : truth-size-lts.After-node-at (truth-size-calls t) (truth-size-at t) truth-size.Post) where
-  truth-parts : (m : Node) → d .node-at .result ≡ m → Parts (now (d .before .before .before .args .table)) (d .before .before .before .args .n) m
+module _ (t : ℕ) (d : truth-size-lts.After-truth-at (truth-size-calls t) (truth-size-at t) truth-size.Post) where
+  truth-parts : (m : Node) → d .truth-at .result ≡ m → Parts (now (d .before .before .before .args .table)) (d .before .before .before .args .n) m
   truth-parts m e =
       let start = d .before .before .before in
       indexed-parts (now (start .args .table)) (now (start .args .index)) (slice-bytes (now (start .args .table)) (d .before .before .shared-slice-known .given))
-      (start .pre .1 .0 .indexed) (start .args .n) (start .pre .1 .0 .inside) m (sym (d .node-at .ensures) ∙ e)
+      (start .pre .1 .0 .indexed) (start .args .n) (start .pre .1 .0 .inside) m (sym (d .truth-at .ensures) ∙ e)
 
-numeric-size-node-at-requires : (t : ℕ) → numeric-size-lts.Need-node-at-requires (numeric-size-calls t) (numeric-size-at t) numeric-size.Post
-numeric-size-node-at-requires t c κs =
-    let start = c .before .before in (start .pre .1 .0 .indexed, start .pre .1 .0 .inside)
+numeric-size-numeric-at-requires : (t : ℕ) → numeric-size-lts.Need-numeric-at-requires (numeric-size-calls t) (numeric-size-at t) numeric-size.Post
+numeric-size-numeric-at-requires t c κs =
+    let start = c .before .before in (start .pre .1 .0 .indexed, start .pre .1 .0 .inside, start .pre .1 .0 .isSort)
 
 numeric-size-enum-told : (t : ℕ) → numeric-size-lts.Need-enum-told (numeric-size-calls t) (numeric-size-at t) numeric-size.Post
 numeric-size-enum-told t c = search needs
@@ -207,7 +208,7 @@ numeric-size-returns-6 t c =
 
 numeric-size-returns-7 : (t : ℕ) → numeric-size-lts.Need-returns-7 (numeric-size-calls t) (numeric-size-at t) numeric-size.Post
 numeric-size-returns-7 t c =
-    never-numeric (c .before .node-at .result) (c .match .keys7) (ap sortOf (c .before .node-at .ensures) ∙ c .before .before .before .before .pre .1 .0 .isSort)
+    never-numeric (c .before .numeric-at .result) (c .match .keys7) (ap sortOf (c .before .numeric-at .ensures) ∙ c .before .before .before .before .pre .1 .0 .isSort)
 
 pair-size-numeric-size-requires : (t : ℕ) → pair-size-lts.Need-numeric-size-requires (pair-size-calls t) (pair-size-at t) pair-size.Post
 pair-size-numeric-size-requires t c κs =
@@ -225,9 +226,9 @@ pair-size-returns : (t : ℕ) → pair-size-lts.Need-returns (pair-size-calls t)
 pair-size-returns t c =
     sized-two 8 (c .before .before .numeric-size .ensures) (c .before .numeric-size2 .ensures) (c .over-two .ensures)
 
-truth-size-node-at-requires : (t : ℕ) → truth-size-lts.Need-node-at-requires (truth-size-calls t) (truth-size-at t) truth-size.Post
-truth-size-node-at-requires t c κs =
-    let start = c .before .before in (start .pre .1 .0 .indexed, start .pre .1 .0 .inside)
+truth-size-truth-at-requires : (t : ℕ) → truth-size-lts.Need-truth-at-requires (truth-size-calls t) (truth-size-at t) truth-size.Post
+truth-size-truth-at-requires t c κs =
+    let start = c .before .before in (start .pre .1 .0 .indexed, start .pre .1 .0 .inside, start .pre .1 .0 .isSort)
 
 truth-size-enum-told : (t : ℕ) → truth-size-lts.Need-enum-told (truth-size-calls t) (truth-size-at t) truth-size.Post
 truth-size-enum-told t c = search needs
@@ -330,14 +331,14 @@ truth-size-returns-5 t c =
 
 truth-size-returns-6 : (t : ℕ) → truth-size-lts.Need-returns-6 (truth-size-calls t) (truth-size-at t) truth-size.Post
 truth-size-returns-6 t c =
-    never-truth (c .before .node-at .result) (c .match .keys6) (ap sortOf (c .before .node-at .ensures) ∙ c .before .before .before .before .pre .1 .0 .isSort)
+    never-truth (c .before .truth-at .result) (c .match .keys6) (ap sortOf (c .before .truth-at .ensures) ∙ c .before .before .before .before .pre .1 .0 .isSort)
 
 pub +numeric-size+pair-size+truth-size-spec : {M : Type 1} → statement M
 +numeric-size+pair-size+truth-size-spec =
     close μ-numeric-size μ-pair-size μ-truth-size (λ t. numeric-size-lts.spec (numeric-size-calls t)
     (numeric-size-at t)
     numeric-size.Post
-    (numeric-size-node-at-requires t)
+    (numeric-size-numeric-at-requires t)
     (numeric-size-enum-told t)
     (numeric-size-enum-told-2 t)
     (numeric-size-enum-known-node t)
@@ -368,7 +369,7 @@ pub +numeric-size+pair-size+truth-size-spec : {M : Type 1} → statement M
     λ t. truth-size-lts.spec (truth-size-calls t)
     (truth-size-at t)
     truth-size.Post
-    (truth-size-node-at-requires t)
+    (truth-size-truth-at-requires t)
     (truth-size-enum-told t)
     (truth-size-enum-known-node t)
     (truth-size-pair-size-requires t)

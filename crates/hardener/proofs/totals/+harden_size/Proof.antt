@@ -26,7 +26,7 @@ use borrow.Fn.PlainCycle.{Measures, is, falls, and}
 use Rattle.hardener.proofs.totals.harden_size.Reads as harden-size
 use Rattle.hardener.proofs.totals.harden_size.Kinds as harden-size-kinds
 use Rattle.hardener.proofs.totals.+harden_size.Lts-harden_size as harden-size-lts
-use Rattle.reader.proofs.lookup.node_at.Reads as node-at-reads
+use Rattle.reader.proofs.lookup.command_at.Reads as command-at-reads
 use Rattle.hardener.proofs.deciding.mask_condition.Reads as mask-condition-reads
 use Rattle.hardener.proofs.deciding.mask_index.Reads as mask-index-reads
 use Rattle.hardener.proofs.deciding.mask_value.Reads as mask-value-reads
@@ -54,18 +54,18 @@ harden-size-below t =
     and 4 harden-size-kinds.ps (falls 4 harden-size-kinds.ps _<_ μ-harden-size t) harden-size.Pre
 
 abbrev harden-size-calls : ℕ → harden-size-lts.Claims
-harden-size-calls t = (node-at-reads.Asked, node-at-reads.Learnt, numeric-size-reads.Asked, numeric-size-reads.Learnt, over-one-reads.Asked, over-one-reads.Learnt, harden-size-below t, harden-size.Post, over-two-reads.Asked, over-two-reads.Learnt, mask-condition-reads.Asked, mask-condition-reads.Learnt, truth-size-reads.Asked, truth-size-reads.Learnt, test-size-reads.Asked, test-size-reads.Learnt, if-size-reads.Asked, if-size-reads.Learnt, while-size-reads.Asked, while-size-reads.Learnt, mask-index-reads.Asked, mask-index-reads.Learnt, mask-value-reads.Asked, mask-value-reads.Learnt, place-size-reads.Asked, place-size-reads.Learnt, read-size-reads.Asked, read-size-reads.Learnt)
+harden-size-calls t = (command-at-reads.Asked, command-at-reads.Learnt, numeric-size-reads.Asked, numeric-size-reads.Learnt, over-one-reads.Asked, over-one-reads.Learnt, harden-size-below t, harden-size.Post, over-two-reads.Asked, over-two-reads.Learnt, mask-condition-reads.Asked, mask-condition-reads.Learnt, truth-size-reads.Asked, truth-size-reads.Learnt, test-size-reads.Asked, test-size-reads.Learnt, if-size-reads.Asked, if-size-reads.Learnt, while-size-reads.Asked, while-size-reads.Learnt, mask-index-reads.Asked, mask-index-reads.Learnt, mask-value-reads.Asked, mask-value-reads.Learnt, place-size-reads.Asked, place-size-reads.Learnt, read-size-reads.Asked, read-size-reads.Learnt)
 
-module _ (t : ℕ) (d : harden-size-lts.After-node-at (harden-size-calls t) (harden-size-at t) harden-size.Post) where
-  command-parts : (m : Node) → d .node-at .result ≡ m → Parts (now (d .before .before .before .before .before .args .table)) (d .before .before .before .before .before .args .n) m
+module _ (t : ℕ) (d : harden-size-lts.After-command-at (harden-size-calls t) (harden-size-at t) harden-size.Post) where
+  command-parts : (m : Node) → d .command-at .result ≡ m → Parts (now (d .before .before .before .before .before .args .table)) (d .before .before .before .before .before .args .n) m
   command-parts m e =
       let start = d .before .before .before .before .before in
       indexed-parts (now (start .args .table)) (now (start .args .index)) (slice-bytes (now (start .args .table)) (d .before .before .before .before .shared-slice-known .given))
-      (start .pre .1 .0 .node .indexed) (start .args .n) (start .pre .1 .0 .node .inside) m (sym (d .node-at .ensures) ∙ e)
+      (start .pre .1 .0 .node .indexed) (start .args .n) (start .pre .1 .0 .node .inside) m (sym (d .command-at .ensures) ∙ e)
 
-harden-size-node-at-requires : (t : ℕ) → harden-size-lts.Need-node-at-requires (harden-size-calls t) (harden-size-at t) harden-size.Post
-harden-size-node-at-requires t c κs =
-    let start = c .before .before .before .before in (start .pre .1 .0 .node .indexed, start .pre .1 .0 .node .inside)
+harden-size-command-at-requires : (t : ℕ) → harden-size-lts.Need-command-at-requires (harden-size-calls t) (harden-size-at t) harden-size.Post
+harden-size-command-at-requires t c κs =
+    let start = c .before .before .before .before in (start .pre .1 .0 .node .indexed, start .pre .1 .0 .node .inside, start .pre .1 .0 .node .isSort)
 
 harden-size-enum-told : (t : ℕ) → harden-size-lts.Need-enum-told (harden-size-calls t) (harden-size-at t) harden-size.Post
 harden-size-enum-told t c = search needs
@@ -634,12 +634,12 @@ harden-size-returns-7 t c =
 
 harden-size-returns-8 : (t : ℕ) → harden-size-lts.Need-returns-8 (harden-size-calls t) (harden-size-at t) harden-size.Post
 harden-size-returns-8 t c =
-    never-command (c .before .node-at .result) (c .match .keys8) (ap sortOf (c .before .node-at .ensures) ∙ c .before .before .before .before .before .before .pre .1 .0 .node .isSort)
+    never-command (c .before .command-at .result) (c .match .keys8) (ap sortOf (c .before .command-at .ensures) ∙ c .before .before .before .before .before .before .pre .1 .0 .node .isSort)
 
 pub +harden-size-spec : {M : Type 1} → statement M
 +harden-size-spec = close μ-harden-size λ t. harden-size-lts.spec (harden-size-calls t) (harden-size-at t)
     harden-size.Post
-    (harden-size-node-at-requires t)
+    (harden-size-command-at-requires t)
     (harden-size-enum-told t)
     (harden-size-enum-known-node t)
     (harden-size-numeric-size-requires t)

@@ -18,12 +18,12 @@ use Rattle.interpreter.proofs.action.look_at.Statement.{statement}
 use Rattle.interpreter.proofs.action.look_at.Tie as tie
 
 -- what is known of the node that was found, of its children and of itself
-module _ (d : tie.After-node-at) where
-  parts : (m : Node) → d .node-at .result ≡ m → Parts (now (d .before .before .before .before .args .table)) (d .before .before .before .before .args .n) m
+module _ (d : tie.After-command-at) where
+  parts : (m : Node) → d .command-at .result ≡ m → Parts (now (d .before .before .before .before .args .table)) (d .before .before .before .before .args .n) m
   parts m is =
       let start = d .before .before .before .before in
       asked-parts (now (start .args .table)) (now (start .args .index)) (now (start .args .variables)) (start .args .n) Command (start .pre)
-      (slice-bytes (now (start .args .table)) (d .before .before .before .shared-slice-known .given)) (d .node-at .result) m (d .node-at .ensures) is
+      (slice-bytes (now (start .args .table)) (d .before .before .before .shared-slice-known .given)) (d .command-at .result) m (d .command-at .ensures) is
 
   child : (wanted : Sort) (k : ℕ) → Child (now (d .before .before .before .before .args .table)) wanted (d .before .before .before .before .args .n) k
       → NodeOf wanted (now (d .before .before .before .before .args .table)) (now (d .before .before .before .before .args .index)) (now (d .before .before .before .before .args .variables)) k
@@ -34,8 +34,8 @@ module _ (d : tie.After-node-at) where
   self : CommandAt (now (d .before .before .before .before .args .table)) (d .before .before .before .before .args .n)
   self = let asked = d .before .before .before .before .pre in record { inside = asked .inside; isCommand = asked .isSort }
 
-node-at-requires : tie.Need-node-at-requires
-node-at-requires c κs = search needs
+command-at-requires : tie.Need-command-at-requires
+command-at-requires c κs = search needs
 
 enum-known-node : tie.Need-enum-known-node
 enum-known-node c = search needs
@@ -106,13 +106,13 @@ returns-7 : tie.Need-returns-7
 returns-7 c = looked-skip _ _ _ _ (c .put-back2 .ensures) (parts (c .before .before .before) _ (c .before .enum-told .given .1))
 
 returns-8 : tie.Need-returns-8
-returns-8 c = absurd (unnamed-command (c .before .before .node-at .result) (c .before .match .keys8) (ap sortOf (c .before .before .node-at .ensures) ∙ c .before .before .before .before .before .before .pre .isSort))
+returns-8 c = absurd (unnamed-command (c .before .before .command-at .result) (c .before .match .keys8) (ap sortOf (c .before .before .command-at .ensures) ∙ c .before .before .before .before .before .before .pre .isSort))
 
 pub look-at-spec : {M : Type 1} → statement M
 look-at-spec =
     tie.close
     (tie.spec
-    node-at-requires
+    command-at-requires
     enum-known-node
     assign-requires
     enum-known-node-2

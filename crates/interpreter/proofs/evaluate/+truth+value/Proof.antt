@@ -23,7 +23,8 @@ use Rattle.interpreter.proofs.evaluate.+truth+value.Lts-truth as truth-
 use Rattle.interpreter.proofs.evaluate.value.Reads as value
 use Rattle.interpreter.proofs.evaluate.value.Kinds as value-kinds
 use Rattle.interpreter.proofs.evaluate.+truth+value.Lts-value as value-lts
-use Rattle.reader.proofs.lookup.node_at.Reads as node-at-reads
+use Rattle.reader.proofs.lookup.numeric_at.Reads as numeric-at-reads
+use Rattle.reader.proofs.lookup.truth_at.Reads as truth-at-reads
 use Rattle.bytes_le.proofs.get.u32_at.Reads as u32-at-reads
 use Rattle.interpreter.proofs.evaluate.difference.Reads as difference-reads
 use Rattle.interpreter.proofs.evaluate.product.Reads as product-reads
@@ -50,18 +51,18 @@ abbrev value-below : ℕ → In 3 value-kinds.ps
 value-below t = and 3 value-kinds.ps (falls 3 value-kinds.ps _<_ μ-value t) value.Pre
 
 abbrev value-calls : ℕ → value-lts.Claims
-value-calls t = (node-at-reads.Asked, node-at-reads.Learnt, u32-at-reads.Asked, u32-at-reads.Learnt, value-below t, value.Post, wrapping-add-u32-reads.Asked, wrapping-add-u32-reads.Learnt, difference-reads.Asked, difference-reads.Learnt, product-reads.Asked, product-reads.Learnt, truth-below t, truth.Post)
+value-calls t = (numeric-at-reads.Asked, numeric-at-reads.Learnt, u32-at-reads.Asked, u32-at-reads.Learnt, value-below t, value.Post, wrapping-add-u32-reads.Asked, wrapping-add-u32-reads.Learnt, difference-reads.Asked, difference-reads.Learnt, product-reads.Asked, product-reads.Learnt, truth-below t, truth.Post)
 
 abbrev truth-calls : ℕ → truth-lts.Claims
-truth-calls t = (node-at-reads.Asked, node-at-reads.Learnt, value-below t, value.Post, truth-below t, truth.Post)
+truth-calls t = (truth-at-reads.Asked, truth-at-reads.Learnt, value-below t, value.Post, truth-below t, truth.Post)
 
 -- what is known of a node that was found, and of its children
-module _ (t : ℕ) (d : truth-lts.After-node-at (truth-calls t) (truth-at t) truth.Post) where
-  truth-parts : (m : Node) → d .node-at .result ≡ m → Parts (now (d .before .before .before .before .args .table)) (d .before .before .before .before .args .n) m
+module _ (t : ℕ) (d : truth-lts.After-truth-at (truth-calls t) (truth-at t) truth.Post) where
+  truth-parts : (m : Node) → d .truth-at .result ≡ m → Parts (now (d .before .before .before .before .args .table)) (d .before .before .before .before .args .n) m
   truth-parts m is =
       let start = d .before .before .before .before in
       asked-parts (now (start .args .table)) (now (start .args .index)) (now (start .args .variables)) (start .args .n) Truth (start .pre .1)
-      (slice-bytes (now (start .args .table)) (d .before .before .before .shared-slice-known .given)) (d .node-at .result) m (d .node-at .ensures) is
+      (slice-bytes (now (start .args .table)) (d .before .before .before .shared-slice-known .given)) (d .truth-at .result) m (d .truth-at .ensures) is
 
   truth-child : (wanted : Sort) (k : ℕ) → Child (now (d .before .before .before .before .args .table)) wanted (d .before .before .before .before .args .n) k
       → (k < t) × NodeOf wanted (now (d .before .before .before .before .args .table)) (now (d .before .before .before .before .args .index)) (now (d .before .before .before .before .args .variables)) k
@@ -72,12 +73,12 @@ module _ (t : ℕ) (d : truth-lts.After-node-at (truth-calls t) (truth-at t) tru
       )
 
 -- what is known of a node that was found, and of its children
-module _ (t : ℕ) (d : value-lts.After-node-at (value-calls t) (value-at t) value.Post) where
-  value-parts : (m : Node) → d .node-at .result ≡ m → Parts (now (d .before .before .before .before .args .table)) (d .before .before .before .before .args .n) m
+module _ (t : ℕ) (d : value-lts.After-numeric-at (value-calls t) (value-at t) value.Post) where
+  value-parts : (m : Node) → d .numeric-at .result ≡ m → Parts (now (d .before .before .before .before .args .table)) (d .before .before .before .before .args .n) m
   value-parts m is =
       let start = d .before .before .before .before in
       asked-parts (now (start .args .table)) (now (start .args .index)) (now (start .args .variables)) (start .args .n) Numeric (start .pre .1)
-      (slice-bytes (now (start .args .table)) (d .before .before .before .shared-slice-known .given)) (d .node-at .result) m (d .node-at .ensures) is
+      (slice-bytes (now (start .args .table)) (d .before .before .before .shared-slice-known .given)) (d .numeric-at .result) m (d .numeric-at .ensures) is
 
   value-child : (wanted : Sort) (k : ℕ) → Child (now (d .before .before .before .before .args .table)) wanted (d .before .before .before .before .args .n) k
       → (k < t) × NodeOf wanted (now (d .before .before .before .before .args .table)) (now (d .before .before .before .before .args .index)) (now (d .before .before .before .before .args .variables)) k
@@ -87,8 +88,8 @@ module _ (t : ℕ) (d : value-lts.After-node-at (value-calls t) (value-at t) val
         child-asked (now (start .args .table)) (now (start .args .index)) (now (start .args .variables)) (start .args .n) Numeric wanted k (start .pre .1) child,
       )
 
-truth-node-at-requires : (t : ℕ) → truth-lts.Need-node-at-requires (truth-calls t) (truth-at t) truth.Post
-truth-node-at-requires t c κs = (c .before .before .before .pre .1 .indexed, c .before .before .before .pre .1 .inside)
+truth-truth-at-requires : (t : ℕ) → truth-lts.Need-truth-at-requires (truth-calls t) (truth-at t) truth.Post
+truth-truth-at-requires t c κs = (c .before .before .before .pre .1 .indexed, c .before .before .before .pre .1 .inside, c .before .before .before .pre .1 .isSort)
 
 truth-enum-known-node : (t : ℕ) → truth-lts.Need-enum-known-node (truth-calls t) (truth-at t) truth.Post
 truth-enum-known-node t c = search needs
@@ -147,10 +148,10 @@ truth-returns-6 t c = truth-not-first _ _ _ _ _ _ (truth-parts t (c .before .bef
 truth-returns-7 : (t : ℕ) → truth-lts.Need-returns-7 (truth-calls t) (truth-at t) truth.Post
 truth-returns-7 t c =
     let start = c .before .before .before .before .before in
-    absurd (unnamed-truth (c .before .node-at .result) (c .match .keys6) (ap sortOf (c .before .node-at .ensures) ∙ start .pre .1 .isSort))
+    absurd (unnamed-truth (c .before .truth-at .result) (c .match .keys6) (ap sortOf (c .before .truth-at .ensures) ∙ start .pre .1 .isSort))
 
-value-node-at-requires : (t : ℕ) → value-lts.Need-node-at-requires (value-calls t) (value-at t) value.Post
-value-node-at-requires t c κs = (c .before .before .before .pre .1 .indexed, c .before .before .before .pre .1 .inside)
+value-numeric-at-requires : (t : ℕ) → value-lts.Need-numeric-at-requires (value-calls t) (value-at t) value.Post
+value-numeric-at-requires t c κs = (c .before .before .before .pre .1 .indexed, c .before .before .before .pre .1 .inside, c .before .before .before .pre .1 .isSort)
 
 value-enum-known-node : (t : ℕ) → value-lts.Need-enum-known-node (value-calls t) (value-at t) value.Post
 value-enum-known-node t c = search needs
@@ -239,13 +240,13 @@ value-returns-7 t c = value-other _ _ _ _ _ _ _ _ (value-parts t (c .before .bef
 value-returns-8 : (t : ℕ) → value-lts.Need-returns-8 (value-calls t) (value-at t) value.Post
 value-returns-8 t c =
     let start = c .before .before .before .before .before in
-    absurd (unnamed-numeric (c .before .node-at .result) (c .match .keys7) (ap sortOf (c .before .node-at .ensures) ∙ start .pre .1 .isSort))
+    absurd (unnamed-numeric (c .before .numeric-at .result) (c .match .keys7) (ap sortOf (c .before .numeric-at .ensures) ∙ start .pre .1 .isSort))
 
 pub +truth+value-spec : {M : Type 1} → statement M
 +truth+value-spec = close μ-truth μ-value (λ t. truth-lts.spec (truth-calls t)
     (truth-at t)
     truth.Post
-    (truth-node-at-requires t)
+    (truth-truth-at-requires t)
     (truth-enum-known-node t)
     (truth-enum-known-node-2 t)
     (truth-value-requires t)
@@ -268,7 +269,7 @@ pub +truth+value-spec : {M : Type 1} → statement M
     λ t. value-lts.spec (value-calls t)
     (value-at t)
     value.Post
-    (value-node-at-requires t)
+    (value-numeric-at-requires t)
     (value-enum-known-node t)
     (value-enum-known-node-2 t)
     (value-mul-u32-at t)

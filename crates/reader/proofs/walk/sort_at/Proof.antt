@@ -1,33 +1,24 @@
--- `sort_at` decodes the record and takes the node's sort.
-use mathlib.Core.Path.{ap, _∙_}
-use Rattle.awhile.specs.Nodes.{sortOf}
-use Rattle.awhile.proofs.Cases.{decoded-same, decoded-apart}
+-- `sort_at` takes the sort by the kind: those of numbers are the lowest, those of commands the highest.
+use native.Mathlib.Omega.{arith}
 use borrow.Author.Needs.{needs}
+use Rattle.reader.proofs.RecordKinds.{sort-numeric, sort-truth, sort-command}
 use Rattle.reader.proofs.walk.sort_at.Statement.{statement}
 use Rattle.reader.proofs.walk.sort_at.Tie as tie
 
-decoded-at-requires : tie.Need-decoded-at-requires
-decoded-at-requires c κs = search needs
+add-u16-at : tie.Need-add-u16-at
+add-u16-at c = search needs
 
-enum-known-node : tie.Need-enum-known-node
-enum-known-node c = search needs
-
-enum-told : tie.Need-enum-told
-enum-told c = search needs
+u16-at-requires : tie.Need-u16-at-requires
+u16-at-requires c κs = search needs
 
 returns : tie.Need-returns
-returns c = record { isSort = λ n d. absurd (decoded-apart _ n (c .enum-told .given .1) (c .before .before .decoded-at .ensures ∙ d)) }
-
-sort-of-requires : tie.Need-sort-of-requires
-sort-of-requires c κs = search needs
+returns c = sort-numeric _ _ (omega (arith, c .before .u16-at .ensures .0, c .if1 .taken))
 
 returns-2 : tie.Need-returns-2
-returns-2 c =
-    record {
-      isSort = λ n d. c .sort-of .ensures ∙ ap sortOf (decoded-same _ _ n (c .before .before .node .given .1) (c .before .before .before .before .decoded-at .ensures ∙ d));
-    }
+returns-2 c = sort-truth _ _ (omega (arith, c .before .before .u16-at .ensures .0, c .before .if1 .left)) (omega (arith, c .before .before .u16-at .ensures .0, c .if2 .taken))
+
+returns-3 : tie.Need-returns-3
+returns-3 c = sort-command _ _ (omega (arith, c .before .before .u16-at .ensures .0, c .if2 .left))
 
 pub sort-at-spec : {M : Type 1} → statement M
-sort-at-spec =
-    tie.close
-    (tie.spec decoded-at-requires enum-known-node enum-told returns sort-of-requires returns-2)
+sort-at-spec = tie.close (tie.spec add-u16-at u16-at-requires returns returns-2 returns-3)
