@@ -2,7 +2,7 @@
 use Prim.Native.Nat.{ℕ, _+_, _≤_, _<_}
 use native.Mathlib.Omega.{arith}
 use mathlib.Core.Bool.{Bool, true, false, cond}
-use mathlib.Core.Path.{_≡_, refl, sym, subst, _∙_}
+use mathlib.Core.Path.{_≡_, refl, subst}
 use mathlib.Core.List.{List}
 use lib.ListN.{length}
 use lib.Dec.{eqb, ltb, leb}
@@ -156,6 +156,7 @@ module _ (s : List ℕ) (at : ℕ) where
         go Truth r = lt-leb 48 (leAt 2 s (at + 2)) (omega (arith, r .1))
         go Command r = le-leb 48 (leAt 2 s (at + 2)) (r .0)
 
+    -- one law for each kind: the node that a record of the kind is, and its length
     pub stored-number : leAt 2 s (at + 2) ≡ 16 → Stored (Number (leAt 4 s (at + 4))) 8
     unfolding decodeAt nodeOf sizeOf form sum fieldSize
     stored-number k = stored (Number (leAt 4 s (at + 4))) (rw k)

@@ -1,6 +1,5 @@
 -- `is_command` compares the kind of the node's record: commands have the highest kinds.
 use native.Mathlib.Omega.{arith}
-use mathlib.Core.Path.{_≡_, _∙_}
 use denote.Ref.{now}
 use lib.ListN.{getD}
 use borrow.Author.Needs.{needs}
