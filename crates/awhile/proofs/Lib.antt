@@ -3,6 +3,7 @@ pub mod Open
 pub mod Examples
 pub mod Lists
 pub mod Notes
+pub mod Unnamed
 pub mod Records
 pub mod Cases
 pub mod Fitting

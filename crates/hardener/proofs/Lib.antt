@@ -3,7 +3,6 @@ pub mod NodeRecords
 pub mod Parts
 pub mod SizeSums
 pub mod Lengths
-pub mod Unnamed
 pub mod Descents
 pub mod Writers
 pub mod Joins

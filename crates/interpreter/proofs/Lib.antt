@@ -1,7 +1,6 @@
 -- Laws for evaluation and runs over a table in memory.
 pub mod Words
 pub mod DirectiveLists
-pub mod NodeKinds
 pub mod Counts
 pub mod CellPlaces
 pub mod Guides

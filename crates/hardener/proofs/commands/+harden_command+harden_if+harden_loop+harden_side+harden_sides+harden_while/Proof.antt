@@ -18,7 +18,7 @@ use Rattle.masks.specs.Hardening.{maskedCondition, harden}
 use Rattle.hardener.specs.InMemory.{hardenedIn, flagUpdate, testIn, sideIn, ifIn, loopIn, whileIn}
 use Rattle.hardener.specs.Sizes.{bytesOf}
 use Rattle.hardener.proofs.Lengths.{counted-A, counted-B, counted-C, some-A, some-B, some-C, bytes-B, bytes-C}
-use Rattle.hardener.proofs.Unnamed.{never-command}
+use Rattle.awhile.proofs.Unnamed.{never-command}
 use Rattle.hardener.proofs.Writers.{wrote-sized, wrote-as, wrote-node, room-first, room-rest, rest-inside, room-parent, room-leaf}
 use Rattle.hardener.proofs.Joins.{two-few, two-room, two-parent, two-lists, three-sized, three-room, three-parent, both-of, one-parent, one-last}
 use Rattle.hardener.proofs.AccessWrites.{wrote-C, room-C}

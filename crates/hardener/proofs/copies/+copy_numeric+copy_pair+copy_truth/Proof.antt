@@ -14,7 +14,7 @@ use Rattle.reader.proofs.Index.{Parts, indexed-parts}
 use Rattle.hardener.specs.Sizes.{bytesOfA, bytesOfB}
 use Rattle.hardener.proofs.Lengths.{counted-A, counted-B, some-A, some-B, bytes-A, bytes-B}
 use Rattle.hardener.proofs.Descents.{lower, lower-pair, first-of-pair, second-of-pair}
-use Rattle.hardener.proofs.Unnamed.{never-numeric, never-truth}
+use Rattle.awhile.proofs.Unnamed.{never-numeric, never-truth}
 use Rattle.hardener.proofs.Writers.{wrote-sized, wrote-as, wrote-node, room-first, room-rest, rest-inside, room-parent, room-leaf}
 use Rattle.hardener.proofs.Joins.{two-few, two-room, two-parent, one-parent, one-last}
 use Rattle.hardener.proofs.ExpressionWrites.{wrote-A, wrote-B, room-A, room-B, wrote-pair, pair-parent, pair-sized, pair-room}

@@ -13,7 +13,7 @@ use Rattle.hardener.specs.Sizes.{bytesOfA, bytesOfB}
 use Rattle.hardener.proofs.Lengths.{bytes-A, bytes-B}
 use Rattle.hardener.proofs.SizeSums.{few-one, few-two, few-three, sized-one, sized-two, sized-three, sized-A, sized-B}
 use Rattle.hardener.proofs.Descents.{lower, lower-pair, first-of-pair, second-of-pair}
-use Rattle.hardener.proofs.Unnamed.{never-numeric, never-truth}
+use Rattle.awhile.proofs.Unnamed.{never-numeric, never-truth}
 use borrow.Author.Needs.{needs}
 use Prim.Native.Nat.{ℕ, _+_, _*_, _<_, _≤_, max}
 use borrow.Fn.Kinds.{In}

@@ -16,7 +16,7 @@ use Rattle.hardener.specs.InMemory.{hardenedIn, testIn, sideIn, ifIn, lo
 use Rattle.hardener.specs.Sizes.{bytesOf}
 use Rattle.hardener.proofs.SizeSums.{few-one, few-two, sized-one, sized-two}
 use Rattle.hardener.proofs.Lengths.{bytes-A, bytes-B, bytes-C}
-use Rattle.hardener.proofs.Unnamed.{never-command}
+use Rattle.awhile.proofs.Unnamed.{never-command}
 use Rattle.hardener.proofs.CommandWrites.{in-skip, in-assign, in-sequence, in-if, in-while, in-read, in-write}
 use Rattle.hardener.proofs.CommandSizes.{few-same, sized-same, same-test, same-place, same-read, same-if, same-while, sized-C, read-index, mask-nodes-A, mask-nodes-B}
 use borrow.Author.Needs.{needs}

@@ -10,7 +10,7 @@ use Rattle.awhile.specs.declared.Sort.the-variants.{Numeric, Truth, Command}
 use Rattle.awhile.specs.declared.Node.{Node}
 use Rattle.interpreter.specs.Evaluation.{NodeOf}
 use Rattle.interpreter.specs.Actions.{CommandAt}
-use Rattle.interpreter.proofs.NodeKinds.{unnamed-command}
+use Rattle.awhile.proofs.Unnamed.{never-command}
 use Rattle.interpreter.proofs.Evaluation.{child-asked, asked-parts}
 use Rattle.interpreter.proofs.Actions.{looked-skip, looked-assign, looked-sequence, looked-if, looked-while, looked-read, looked-write}
 use borrow.Author.Needs.{needs}
@@ -106,7 +106,7 @@ returns-7 : tie.Need-returns-7
 returns-7 c = looked-skip _ _ _ _ (c .put-back2 .ensures) (parts (c .before .before .before) _ (c .before .enum-told .given .1))
 
 returns-8 : tie.Need-returns-8
-returns-8 c = absurd (unnamed-command (c .before .before .command-at .result) (c .before .match .keys8) (ap sortOf (c .before .before .command-at .ensures) ∙ c .before .before .before .before .before .before .pre .isSort))
+returns-8 c = never-command (c .before .before .command-at .result) (c .before .match .keys8) (ap sortOf (c .before .before .command-at .ensures) ∙ c .before .before .before .before .before .before .pre .isSort)
 
 pub look-at-spec : {M : Type 1} → statement M
 look-at-spec =

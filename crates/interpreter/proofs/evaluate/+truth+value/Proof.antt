@@ -1,6 +1,6 @@
 -- Evaluation meets its contracts: a child's node number is lower, and the value of a node is made of its children's.
 use Rattle.awhile.specs.Nodes.{sortOf}
-use Rattle.interpreter.proofs.NodeKinds.{unnamed-numeric, unnamed-truth}
+use Rattle.awhile.proofs.Unnamed.{never-numeric, never-truth}
 use mathlib.Core.Path.{_≡_, ap, subst, _∙_}
 use denote.Ref.{now}
 use borrow.Author.Needs.{needs}
@@ -148,7 +148,7 @@ truth-returns-6 t c = truth-not-first _ _ _ _ _ _ (truth-parts t (c .before .bef
 truth-returns-7 : (t : ℕ) → truth-lts.Need-returns-7 (truth-calls t) (truth-at t) truth.Post
 truth-returns-7 t c =
     let start = c .before .before .before .before .before in
-    absurd (unnamed-truth (c .before .truth-at .result) (c .match .keys6) (ap sortOf (c .before .truth-at .ensures) ∙ start .pre .1 .isSort))
+    never-truth (c .before .truth-at .result) (c .match .keys6) (ap sortOf (c .before .truth-at .ensures) ∙ start .pre .1 .isSort)
 
 value-numeric-at-requires : (t : ℕ) → value-lts.Need-numeric-at-requires (value-calls t) (value-at t) value.Post
 value-numeric-at-requires t c κs = (c .before .before .before .pre .1 .indexed, c .before .before .before .pre .1 .inside, c .before .before .before .pre .1 .isSort)
@@ -240,7 +240,7 @@ value-returns-7 t c = value-other _ _ _ _ _ _ _ _ (value-parts t (c .before .bef
 value-returns-8 : (t : ℕ) → value-lts.Need-returns-8 (value-calls t) (value-at t) value.Post
 value-returns-8 t c =
     let start = c .before .before .before .before .before in
-    absurd (unnamed-numeric (c .before .numeric-at .result) (c .match .keys7) (ap sortOf (c .before .numeric-at .ensures) ∙ start .pre .1 .isSort))
+    never-numeric (c .before .numeric-at .result) (c .match .keys7) (ap sortOf (c .before .numeric-at .ensures) ∙ start .pre .1 .isSort)
 
 pub +truth+value-spec : {M : Type 1} → statement M
 +truth+value-spec = close μ-truth μ-value (λ t. truth-lts.spec (truth-calls t)

@@ -52,7 +52,7 @@ same-sort Truth = refl
 same-sort Command = refl
 
 -- none of the kinds is of the sort
-abbrev pub otherSort : Sort → (kind : ℕ) → Bool
+abbrev otherSort : Sort → (kind : ℕ) → Bool
 otherSort wanted k = negated (sameSort (kindSort k) wanted)
 
 module _ (wanted : Sort) (x : ℕ) (isWanted : kindSort x ≡ wanted) where
@@ -70,7 +70,7 @@ module _ (wanted : Sort) (x : ℕ) (isWanted : kindSort x ≡ wanted) where
   not-these (k ∷ k′ ∷ ks) others (inr o) = not-these (k′ ∷ ks) (all-tail (otherSort wanted) k (k′ ∷ ks) others) o
 
 -- a node of a sort is of none of the kinds of other sorts
-pub unnamed : (ks : List ℕ) (wanted : Sort) (m : Node) → all (otherSort wanted) ks ≡ true → OneOf ks (tagOf the-type m) → sortOf m ≡ wanted → ⊥
+unnamed : (ks : List ℕ) (wanted : Sort) (m : Node) → all (otherSort wanted) ks ≡ true → OneOf ks (tagOf the-type m) → sortOf m ≡ wanted → ⊥
 unnamed ks wanted m others o e = not-these wanted (tagOf the-type m) (sym (kind-sort m) ∙ e) ks others o
 
 -- the kinds that are no numbers, no truths, no commands
@@ -83,14 +83,14 @@ notTruth = 0 ∷ 1 ∷ 2 ∷ 3 ∷ 4 ∷ 5 ∷ 11 ∷ 12 ∷ 13 ∷ 14 ∷ 15 �
 abbrev pub notCommand : List ℕ
 notCommand = 0 ∷ 1 ∷ 2 ∷ 3 ∷ 4 ∷ 5 ∷ 6 ∷ 7 ∷ 8 ∷ 9 ∷ 10 ∷ []
 
-pub unnamed-numeric : (m : Node) → OneOf notNumeric (tagOf the-type m) → sortOf m ≡ Numeric → ⊥
+pub never-numeric : {A : Type 0} (m : Node) → OneOf notNumeric (tagOf the-type m) → sortOf m ≡ Numeric → A
 unfolding all sameSort
-unnamed-numeric m = unnamed notNumeric Numeric m refl
+never-numeric m o e = absurd (unnamed notNumeric Numeric m refl o e)
 
-pub unnamed-truth : (m : Node) → OneOf notTruth (tagOf the-type m) → sortOf m ≡ Truth → ⊥
+pub never-truth : {A : Type 0} (m : Node) → OneOf notTruth (tagOf the-type m) → sortOf m ≡ Truth → A
 unfolding all sameSort
-unnamed-truth m = unnamed notTruth Truth m refl
+never-truth m o e = absurd (unnamed notTruth Truth m refl o e)
 
-pub unnamed-command : (m : Node) → OneOf notCommand (tagOf the-type m) → sortOf m ≡ Command → ⊥
+pub never-command : {A : Type 0} (m : Node) → OneOf notCommand (tagOf the-type m) → sortOf m ≡ Command → A
 unfolding all sameSort
-unnamed-command m = unnamed notCommand Command m refl
+never-command m o e = absurd (unnamed notCommand Command m refl o e)
