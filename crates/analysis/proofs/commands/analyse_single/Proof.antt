@@ -32,27 +32,15 @@ module _ (d : tie.After-slice-known4) where
   noted : NotedAt (start .args .n) (start .args .context) (start .args .labels) (now (start .args .variables)) (now (start .args .arrays)) (d .before .before .before .before .note .last .0) (d .before .before .before .before .note .last .1 .0)
   noted = entry-noted (start .pre .0) (omega (arith, start .good)) (d .before .before .before .before .note .ensures)
 
-note-requires : tie.Need-note-requires
-note-requires c κs = search needs
-
-enum-known-node : tie.Need-enum-known-node
-enum-known-node c = search needs
-
 after-assign-requires : tie.Need-after-assign-requires
 after-assign-requires c κs =
     let p = parts (c .before .before .before) _ (c .before .node .given .1) in
     (child-of-sort (c .before .before .before .before .before .before .before .before .before .before .before .before .before .before .pre .0 .node .indexed) (p .1), omega (arith, declared (c .before .before .before) .variablesFit, p .0))
 
-enum-known-node-2 : tie.Need-enum-known-node-2
-enum-known-node-2 c = search needs
-
 after-read-requires : tie.Need-after-read-requires
 after-read-requires c κs =
     let p = parts (c .before .before .before) _ (c .before .node2 .given .1) in
     (child-of-sort (c .before .before .before .before .before .before .before .before .before .before .before .before .before .before .pre .0 .node .indexed) (p .2), omega (arith, declared (c .before .before .before) .variablesFit, p .0))
-
-enum-known-node-3 : tie.Need-enum-known-node-3
-enum-known-node-3 c = search needs
 
 after-write-requires : tie.Need-after-write-requires
 after-write-requires c κs =
@@ -60,41 +48,17 @@ after-write-requires c κs =
     let indexed = c .before .before .before .before .before .before .before .before .before .before .before .before .before .before .pre .0 .node .indexed in
     (child-of-sort indexed (p .1), child-of-sort indexed (p .2), omega (arith, declared (c .before .before .before) .arraysFit, p .0))
 
-same-length : tie.Need-same-length
-same-length c = search needs
-
-same-length-2 : tie.Need-same-length-2
-same-length-2 c = search needs
-
 returns : tie.Need-returns
 returns c =
     after-assign (c .before .before .before .before .before .before .before .before .before .before .before .before .before .before .before .pre .0) (noted (c .before .before .before .before)) _ _ (parts (c .before .before .before .before) _ (c .before .before .node .given .1)) (c .after-assign .ensures)
-
-same-length-3 : tie.Need-same-length-3
-same-length-3 c = search needs
-
-same-length-4 : tie.Need-same-length-4
-same-length-4 c = search needs
 
 returns-2 : tie.Need-returns-2
 returns-2 c =
     after-read (c .before .before .before .before .before .before .before .before .before .before .before .before .before .before .before .pre .0) (noted (c .before .before .before .before)) _ _ _ (parts (c .before .before .before .before) _ (c .before .before .node2 .given .1)) (c .after-read .ensures)
 
-same-length-5 : tie.Need-same-length-5
-same-length-5 c = search needs
-
-same-length-6 : tie.Need-same-length-6
-same-length-6 c = search needs
-
 returns-3 : tie.Need-returns-3
 returns-3 c =
     after-write (c .before .before .before .before .before .before .before .before .before .before .before .before .before .before .before .pre .0) (noted (c .before .before .before .before)) _ _ _ (parts (c .before .before .before .before) _ (c .before .before .node3 .given .1)) (c .after-write .ensures)
-
-same-length-7 : tie.Need-same-length-7
-same-length-7 c = search needs
-
-same-length-8 : tie.Need-same-length-8
-same-length-8 c = search needs
 
 returns-4 : tie.Need-returns-4
 returns-4 c =
@@ -106,22 +70,22 @@ pub analyse-single-spec : {M : Type 1} → statement M
 analyse-single-spec =
     tie.close
     (tie.spec
-    note-requires
-    enum-known-node
+    (λ c κs. search needs)
+    (λ c. search needs)
     after-assign-requires
-    enum-known-node-2
+    (λ c. search needs)
     after-read-requires
-    enum-known-node-3
+    (λ c. search needs)
     after-write-requires
-    same-length
-    same-length-2
+    (λ c. search needs)
+    (λ c. search needs)
     returns
-    same-length-3
-    same-length-4
+    (λ c. search needs)
+    (λ c. search needs)
     returns-2
-    same-length-5
-    same-length-6
+    (λ c. search needs)
+    (λ c. search needs)
     returns-3
-    same-length-7
-    same-length-8
+    (λ c. search needs)
+    (λ c. search needs)
     returns-4)

@@ -20,23 +20,8 @@ parts d =
     let start = d .before .before .before in
     node-parts (slice-bytes (now (start .args .table)) (d .before .before .shared-slice-known .given)) (start .pre .0) (start .pre .1) (d .command-at .ensures)
 
-command-at-requires : tie.Need-command-at-requires
-command-at-requires c κs = search needs
-
 enum-told : tie.Need-enum-told
 enum-told c = search needs
-
-enum-told-2 : tie.Need-enum-told-2
-enum-told-2 c = search needs
-
-enum-told-3 : tie.Need-enum-told-3
-enum-told-3 c = search needs
-
-enum-told-4 : tie.Need-enum-told-4
-enum-told-4 c = search needs
-
-enum-told-5 : tie.Need-enum-told-5
-enum-told-5 c = search needs
 
 returns : tie.Need-returns
 unfolding recordLength
@@ -76,12 +61,12 @@ pub command-size-spec : {M : Type 1} → statement M
 command-size-spec =
     tie.close
     (tie.spec
-    command-at-requires
+    (λ c κs. search needs)
     enum-told
-    enum-told-2
-    enum-told-3
-    enum-told-4
-    enum-told-5
+    (λ c. search needs)
+    (λ c. search needs)
+    (λ c. search needs)
+    (λ c. search needs)
     returns
     returns-2
     returns-3

@@ -59,12 +59,6 @@ module _ (d : tie.After-command-at) where
   write-law : {a i v : ℕ} → d .command-at .result ≡ Write a i v → the-record ≡ le 2 8 ++ (le 2 133 ++ (le 2 (start .args .n) ++ labelBytes (labelOfA (noteIn (now (start .args .variables)) (now (start .args .arrays)) (start .args .n) .labelling) (numericIn (now (start .args .table)) i))))
   write-law e = write-record (now (start .args .table)) (now (start .args .index)) bytes (start .pre .0 .indexed) (now (start .args .variables)) (now (start .args .arrays)) (start .pre .0 .notes) (start .args .n) (start .pre .1) (sym (d .command-at .ensures) ∙ e)
 
-command-at-requires : tie.Need-command-at-requires
-command-at-requires c κs = search needs
-
-enum-known-node : tie.Need-enum-known-node
-enum-known-node c = search needs
-
 noted-labelling-requires : tie.Need-noted-labelling-requires
 noted-labelling-requires c κs =
     noted (c .before .before .before) _ (parts (c .before .before .before) _ (c .before .node .given .1) .1 .inside)
@@ -74,9 +68,6 @@ unfolding le masksBytes
 put-sequence-requires c κs =
     let long : length (the-record (c .before .before .before .before .before)) ≡ 12 = ap length (sequence-law (c .before .before .before .before .before) (c .before .before .before .node .given .1)) in
     omega (arith, c .before .before .before .before .before .before .before .before .before .before .before .pre .2)
-
-enum-known-node-2 : tie.Need-enum-known-node-2
-enum-known-node-2 c = search needs
 
 noted-labelling-requires-2 : tie.Need-noted-labelling-requires-2
 noted-labelling-requires-2 c κs =
@@ -92,9 +83,6 @@ put-labelled-requires c κs =
     let long : length (the-record (c .before .before .before .before .before .before)) ≡ 8 = ap length (if-law (c .before .before .before .before .before .before) (c .before .before .before .before .node2 .given .1)) in
     omega (arith, c .before .before .before .before .before .before .before .before .before .before .before .before .pre .2)
 
-enum-known-node-3 : tie.Need-enum-known-node-3
-enum-known-node-3 c = search needs
-
 noted-labelling-requires-3 : tie.Need-noted-labelling-requires-3
 noted-labelling-requires-3 c κs =
     noted (c .before .before .before) _ (parts (c .before .before .before) _ (c .before .node3 .given .1) .1 .inside)
@@ -109,15 +97,9 @@ put-loop-requires c κs =
     let long : length (the-record (c .before .before .before .before .before .before)) ≡ 14 = ap length (while-law (c .before .before .before .before .before .before) (c .before .before .before .before .node3 .given .1)) in
     omega (arith, c .before .before .before .before .before .before .before .before .before .before .before .before .pre .2)
 
-enum-known-node-4 : tie.Need-enum-known-node-4
-enum-known-node-4 c = search needs
-
 noted-labelling-requires-4 : tie.Need-noted-labelling-requires-4
 noted-labelling-requires-4 c κs =
     noted (c .before .before .before) _ (c .before .before .before .before .before .before .before .before .before .pre .1)
-
-noted-context-requires : tie.Need-noted-context-requires
-noted-context-requires c κs = search needs
 
 read-label-requires : tie.Need-read-label-requires
 read-label-requires c κs =
@@ -133,9 +115,6 @@ put-read-requires c κs =
     let long : length (the-record (c .before .before .before .before .before .before .before .before)) ≡ 10 = ap length (read-law (c .before .before .before .before .before .before .before .before) (c .before .before .before .before .before .before .node4 .given .1)) in
     omega (arith, c .before .before .before .before .before .before .before .before .before .before .before .before .before .before .pre .2)
 
-enum-known-node-5 : tie.Need-enum-known-node-5
-enum-known-node-5 c = search needs
-
 noted-labelling-requires-5 : tie.Need-noted-labelling-requires-5
 noted-labelling-requires-5 c κs =
     noted (c .before .before .before) _ (c .before .before .before .before .before .before .before .before .before .pre .1)
@@ -150,18 +129,12 @@ put-labelled-requires-2 c κs =
     let long : length (the-record (c .before .before .before .before .before .before)) ≡ 8 = ap length (write-law (c .before .before .before .before .before .before) (c .before .before .before .before .node5 .given .1)) in
     omega (arith, c .before .before .before .before .before .before .before .before .before .before .before .before .pre .2)
 
-same-length : tie.Need-same-length
-same-length c = search needs
-
 returns : tie.Need-returns
 unfolding le masksBytes
 returns c =
     record-stored (now (c .before .before .before .before .before .before .before .before .before .before .before .before .before .before .args .out)) (c .before .before .before .before .before .before .before .before .before .before .before .before .before .before .args .at)
     (sequence-law (c .before .before .before .before .before .before .before .before) (c .before .before .before .before .before .before .node .given .1) ∙ ap (λ m. le 2 12 ++ (le 2 129 ++ (le 2 (c .before .before .before .before .before .before .before .before .before .before .before .before .before .before .args .n) ++ masksBytes m))) (sym (c .before .before .before .before .noted-labelling .ensures)))
     (c .before .before .put-sequence .ensures)
-
-same-length-2 : tie.Need-same-length-2
-same-length-2 c = search needs
 
 returns-2 : tie.Need-returns-2
 unfolding le labelBytes
@@ -171,9 +144,6 @@ returns-2 c =
     (if-law (c .before .before .before .before .before .before .before .before .before) (c .before .before .before .before .before .before .before .node2 .given .1) ∙ ap (λ b. le 2 8 ++ (le 2 130 ++ (le 2 (c .before .before .before .before .before .before .before .before .before .before .before .before .before .before .before .args .n) ++ labelBytes b)))
     (sym (c .before .before .before .before .truth-label .ensures ∙ ap (λ l. labelOfB l (truthIn (now (c .before .before .before .before .before .before .before .before .before .before .before .before .before .before .before .args .table)) (c .before .before .before .before .before .before .before .node2 .given .0 .0))) labels))) (c .before .before .put-labelled .ensures, refl)
 
-same-length-3 : tie.Need-same-length-3
-same-length-3 c = search needs
-
 returns-3 : tie.Need-returns-3
 unfolding le labelBytes masksBytes
 returns-3 c =
@@ -181,9 +151,6 @@ returns-3 c =
     record-stored (now (c .before .before .before .before .before .before .before .before .before .before .before .before .before .before .before .args .out)) (c .before .before .before .before .before .before .before .before .before .before .before .before .before .before .before .args .at)
     (while-law (c .before .before .before .before .before .before .before .before .before) (c .before .before .before .before .before .before .before .node3 .given .1) ∙ ap₂ (λ b m. le 2 14 ++ (le 2 131 ++ (le 2 (c .before .before .before .before .before .before .before .before .before .before .before .before .before .before .before .args .n) ++ (labelBytes b ++ masksBytes m))))
     (sym (c .before .before .before .before .truth-label2 .ensures ∙ ap (λ l. labelOfB l (truthIn (now (c .before .before .before .before .before .before .before .before .before .before .before .before .before .before .before .args .table)) (c .before .before .before .before .before .before .before .node3 .given .0 .0))) labels)) (sym labels)) (c .before .before .put-loop .ensures)
-
-same-length-4 : tie.Need-same-length-4
-same-length-4 c = search needs
 
 returns-4 : tie.Need-returns-4
 unfolding le labelBytes noteIn
@@ -193,9 +160,6 @@ returns-4 c =
     (read-law (c .before .before .before .before .before .before .before .before .before .before .before) (c .before .before .before .before .before .before .before .before .before .node4 .given .1) ∙ ap₂ (λ b d. le 2 10 ++ (le 2 132 ++ (le 2 (c .before .before .before .before .before .before .before .before .before .before .before .before .before .before .before .before .before .args .n) ++ (labelBytes b ++ labelBytes d))))
     (sym (c .before .before .before .before .before .read-label .ensures ∙ ap₂ (λ l x. readLabel l x (c .before .before .before .before .before .before .before .before .before .node4 .given .0 .1 .0) (numericIn (now (c .before .before .before .before .before .before .before .before .before .before .before .before .before .before .before .before .before .args .table)) (c .before .before .before .before .before .before .before .before .before .node4 .given .0 .1 .1 .0))) labels (c .before .before .before .before .before .before .noted-context .ensures)))
     (sym (c .before .before .before .before .numeric-label .ensures ∙ ap (λ l. labelOfA l (numericIn (now (c .before .before .before .before .before .before .before .before .before .before .before .before .before .before .before .before .before .args .table)) (c .before .before .before .before .before .before .before .before .before .node4 .given .0 .1 .1 .0))) labels))) (c .before .before .put-read .ensures)
-
-same-length-5 : tie.Need-same-length-5
-same-length-5 c = search needs
 
 returns-5 : tie.Need-returns-5
 unfolding le labelBytes
@@ -218,36 +182,36 @@ pub put-command-spec : {M : Type 1} → statement M
 put-command-spec =
     tie.close
     (tie.spec
-    command-at-requires
-    enum-known-node
+    (λ c κs. search needs)
+    (λ c. search needs)
     noted-labelling-requires
     put-sequence-requires
-    enum-known-node-2
+    (λ c. search needs)
     noted-labelling-requires-2
     truth-label-requires
     put-labelled-requires
-    enum-known-node-3
+    (λ c. search needs)
     noted-labelling-requires-3
     truth-label-requires-2
     put-loop-requires
-    enum-known-node-4
+    (λ c. search needs)
     noted-labelling-requires-4
-    noted-context-requires
+    (λ c κs. search needs)
     read-label-requires
     numeric-label-requires
     put-read-requires
-    enum-known-node-5
+    (λ c. search needs)
     noted-labelling-requires-5
     numeric-label-requires-2
     put-labelled-requires-2
-    same-length
+    (λ c. search needs)
     returns
-    same-length-2
+    (λ c. search needs)
     returns-2
-    same-length-3
+    (λ c. search needs)
     returns-3
-    same-length-4
+    (λ c. search needs)
     returns-4
-    same-length-5
+    (λ c. search needs)
     returns-5
     returns-6)

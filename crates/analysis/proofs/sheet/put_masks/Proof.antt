@@ -10,9 +10,6 @@ use borrow.Author.Needs.{needs}
 use Rattle.analysis.proofs.sheet.put_masks.Statement.{statement}
 use Rattle.analysis.proofs.sheet.put_masks.Tie as tie
 
-cast-put32 : tie.Need-cast-put32
-cast-put32 c = search needs
-
 put32-requires : tie.Need-put32-requires
 put32-requires c κs = search needs
 
@@ -38,4 +35,4 @@ returns c =
 pub put-masks-spec : {M : Type 1} → statement M
 put-masks-spec =
     tie.close
-    (tie.spec cast-put32 put32-requires add-put16 cast-put16 put16-requires same-length returns)
+    (tie.spec (λ c. search needs) put32-requires add-put16 cast-put16 put16-requires same-length returns)

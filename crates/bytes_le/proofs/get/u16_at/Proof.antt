@@ -8,17 +8,8 @@ use borrow.Author.Needs.{needs}
 use Rattle.bytes_le.proofs.get.u16_at.Statement.{statement}
 use Rattle.bytes_le.proofs.get.u16_at.Tie as tie
 
-bytes-from-requires : tie.Need-bytes-from-requires
-bytes-from-requires c κs = search needs
-
-whole-u16-requires : tie.Need-whole-u16-requires
-whole-u16-requires c κs = search needs
-
 returns : tie.Need-returns
 returns c = c .whole-u16 .ensures
-
-byte-at-requires : tie.Need-byte-at-requires
-byte-at-requires c κs = search needs
 
 returns-2 : tie.Need-returns-2
 returns-2 c =
@@ -30,8 +21,8 @@ pub u16-at-spec : {M : Type 1} → statement M
 u16-at-spec =
     tie.close
     (tie.spec
-    bytes-from-requires
-    whole-u16-requires
+    (λ c κs. search needs)
+    (λ c κs. search needs)
     returns
-    byte-at-requires
+    (λ c κs. search needs)
     returns-2)

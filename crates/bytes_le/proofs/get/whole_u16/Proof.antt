@@ -6,9 +6,6 @@ use borrow.Author.Needs.{needs}
 use Rattle.bytes_le.proofs.get.whole_u16.Statement.{statement}
 use Rattle.bytes_le.proofs.get.whole_u16.Tie as tie
 
-shared-slice-read-pair : tie.Need-shared-slice-read-pair
-shared-slice-read-pair c = search needs
-
 add-pair : tie.Need-add-pair
 add-pair c = search needs
 
@@ -24,4 +21,4 @@ returns c = omega (arith, leAt-two (now (c .before .before .before .before .args
 pub whole-u16-spec : {M : Type 1} → statement M
 whole-u16-spec =
     tie.close
-    (tie.spec shared-slice-read-pair add-pair shared-slice-read-pair-2 pair-requires returns)
+    (tie.spec (λ c. search needs) add-pair shared-slice-read-pair-2 pair-requires returns)

@@ -7,9 +7,6 @@ use borrow.Author.Needs.{needs}
 use Rattle.bytes_le.proofs.put.put16.Statement.{statement}
 use Rattle.bytes_le.proofs.put.put16.Tie as tie
 
-cast-out : tie.Need-cast-out
-cast-out c = search needs
-
 slice-write-out : tie.Need-slice-write-out
 slice-write-out c = search needs
 
@@ -32,4 +29,4 @@ returns c = rw add-one
 pub put16-spec : {M : Type 1} → statement M
 put16-spec =
     tie.close
-    (tie.spec cast-out slice-write-out cast-out-2 add-out slice-write-out-2 same-length returns)
+    (tie.spec (λ c. search needs) slice-write-out cast-out-2 add-out slice-write-out-2 same-length returns)

@@ -9,24 +9,6 @@ use borrow.Author.Needs.{needs}
 use Rattle.bytes_le.proofs.put.put64.Statement.{statement}
 use Rattle.bytes_le.proofs.put.put64.Tie as tie
 
-cast-put32 : tie.Need-cast-put32
-cast-put32 c = search needs
-
-put32-requires : tie.Need-put32-requires
-put32-requires c κs = search needs
-
-add-put32 : tie.Need-add-put32
-add-put32 c = search needs
-
-cast-put32-2 : tie.Need-cast-put32-2
-cast-put32-2 c = search needs
-
-put32-requires-2 : tie.Need-put32-requires-2
-put32-requires-2 c κs = search needs
-
-same-length : tie.Need-same-length
-same-length c = search needs
-
 returns : tie.Need-returns
 returns c =
     let l = now (c .before .before .before .before .before .before .before .before .before .args .out) in
@@ -40,10 +22,10 @@ pub put64-spec : {M : Type 1} → statement M
 put64-spec =
     tie.close
     (tie.spec
-    cast-put32
-    put32-requires
-    add-put32
-    cast-put32-2
-    put32-requires-2
-    same-length
+    (λ c. search needs)
+    (λ c κs. search needs)
+    (λ c. search needs)
+    (λ c. search needs)
+    (λ c κs. search needs)
+    (λ c. search needs)
     returns)

@@ -9,9 +9,6 @@ use Rattle.flow.proofs.answer.number_of.Reads as number-of-reads
 use Rattle.flow.proofs.answer.place_of.Reads as place-of-reads
 
 -- src/answer.rt:76:9
-number-of-requires : tie.Need-number-of-requires
-number-of-requires c κs = search needs
-
 -- src/answer.rt:77:38
 place-of-requires : tie.Need-place-of-requires
 place-of-requires c κs = search needs
@@ -35,4 +32,4 @@ returns c = (
 pub answer-refusal-spec : {M : Type 1} → statement M
 answer-refusal-spec =
     tie.close
-    (tie.spec number-of-requires place-of-requires answer-two-requires same-length returns)
+    (tie.spec (λ c κs. search needs) place-of-requires answer-two-requires same-length returns)

@@ -7,37 +7,13 @@ use Rattle.flow.proofs.answer.answer_run.Lts as lts
 use Rattle.flow.proofs.answer.put_number.Reads as put-number-reads
 
 -- src/answer.rt:32:5
-put-number-requires : tie.Need-put-number-requires
-put-number-requires c κs = search needs
-
 -- src/answer.rt:33:5
-put-number-requires-2 : tie.Need-put-number-requires-2
-put-number-requires-2 c κs = search needs
-
 -- src/answer.rt:34:5
-put-number-requires-3 : tie.Need-put-number-requires-3
-put-number-requires-3 c κs = search needs
-
 -- src/answer.rt:35:5
-put-number-requires-4 : tie.Need-put-number-requires-4
-put-number-requires-4 c κs = search needs
-
 -- src/answer.rt:36:5
-put-number-requires-5 : tie.Need-put-number-requires-5
-put-number-requires-5 c κs = search needs
-
 -- src/answer.rt:37:5
-put-number-requires-6 : tie.Need-put-number-requires-6
-put-number-requires-6 c κs = search needs
-
 -- src/answer.rt:38:5
-put-number-requires-7 : tie.Need-put-number-requires-7
-put-number-requires-7 c κs = search needs
-
 -- src/answer.rt:29:1
-same-length : tie.Need-same-length
-same-length c = search needs
-
 -- src/answer.rt:29:1
 returns : tie.Need-returns
 returns c =
@@ -60,12 +36,12 @@ pub answer-run-spec : {M : Type 1} → statement M
 answer-run-spec =
     tie.close
     (tie.spec
-    put-number-requires
-    put-number-requires-2
-    put-number-requires-3
-    put-number-requires-4
-    put-number-requires-5
-    put-number-requires-6
-    put-number-requires-7
-    same-length
+    (λ c κs. search needs)
+    (λ c κs. search needs)
+    (λ c κs. search needs)
+    (λ c κs. search needs)
+    (λ c κs. search needs)
+    (λ c κs. search needs)
+    (λ c κs. search needs)
+    (λ c. search needs)
     returns)

@@ -6,22 +6,10 @@ use borrow.Author.Needs.{needs}
 use Rattle.flow.proofs.harden.answer_hardened.Statement.{statement}
 use Rattle.flow.proofs.harden.answer_hardened.Tie as tie
 
-answer-refusal-requires : tie.Need-answer-refusal-requires
-answer-refusal-requires c κs = search needs
-
-same-length : tie.Need-same-length
-same-length c = search needs
-
 returns : tie.Need-returns
 returns c =
     let start = c .before .before .before .before .before .before .before .before .before in
     many-writes (start .pre) (omega (arith, c .before .before .before .before .if1 .taken)) (now (start .args .out)) (now (start .args .answer)) (c .before .before .answer-refusal .ensures .0) (c .before .before .answer-refusal .ensures .1)
-
-answer-refusal-requires-2 : tie.Need-answer-refusal-requires-2
-answer-refusal-requires-2 c κs = search needs
-
-same-length-2 : tie.Need-same-length-2
-same-length-2 c = search needs
 
 returns-2 : tie.Need-returns-2
 returns-2 c =
@@ -33,12 +21,6 @@ write-masked-requires c κs =
     let ready = c .before .before .before .before .before .before .before .before .pre in
     (ready, has-hardened ready (omega (arith, c .before .before .before .if1 .left)) (omega (arith, c .before .before .if2 .left)))
 
-same-length-3 : tie.Need-same-length-3
-same-length-3 c = search needs
-
-same-length-4 : tie.Need-same-length-4
-same-length-4 c = search needs
-
 returns-3 : tie.Need-returns-3
 returns-3 c =
     let start = c .before .before .before .before .before .before .before .before .before .before .before .before .before in
@@ -48,13 +30,13 @@ pub answer-hardened-spec : {M : Type 1} → statement M
 answer-hardened-spec =
     tie.close
     (tie.spec
-    answer-refusal-requires
-    same-length
+    (λ c κs. search needs)
+    (λ c. search needs)
     returns
-    answer-refusal-requires-2
-    same-length-2
+    (λ c κs. search needs)
+    (λ c. search needs)
     returns-2
     write-masked-requires
-    same-length-3
-    same-length-4
+    (λ c. search needs)
+    (λ c. search needs)
     returns-3)

@@ -18,29 +18,8 @@ ready : (d : tie.After-read) (v a n c : ℕ) (l : Labelling) (e : ℕ) → d .re
     → HardenReady (now (d .before .before .before .before .before .args .table)) (d .read .last .1 .0) v a n l
 ready d v a n c l e h = reader-ready (now (d .before .before .before .before .before .args .table)) (d .read .last .1 .0) (d .read .result) v a n c l e (d .read .ensures) h
 
-slice-aggregate-read : tie.Need-slice-aggregate-read
-slice-aggregate-read c = search needs
-
-read-requires : tie.Need-read-requires
-read-requires c κs = search needs
-
-enum-known-found : tie.Need-enum-known-found
-enum-known-found c = search needs
-
-answer-refusal-requires : tie.Need-answer-refusal-requires
-answer-refusal-requires c κs = search needs
-
-enum-known-found-2 : tie.Need-enum-known-found-2
-enum-known-found-2 c = search needs
-
-slice-aggregate-answer-hardened : tie.Need-slice-aggregate-answer-hardened
-slice-aggregate-answer-hardened c = search needs
-
 answer-hardened-requires : tie.Need-answer-hardened-requires
 answer-hardened-requires c κs = ready (c .before .before .before .before .before .before .before) _ _ _ _ _ _ (c .before .before .before .before .found2 .given .1)
-
-same-length : tie.Need-same-length
-same-length c = search needs
 
 returns : tie.Need-returns
 unfolding hardenEntry
@@ -50,12 +29,6 @@ returns c =
     entry-hardens (slice-bytes table (c .before .before .before .before .before .before .before .before .before .before .before .before .shared-slice-known .given))
     (read-refused hardenedIn table (now (start .args .out)) (now (start .args .answer)) (c .before .before .before .before .before .before .before .before .read .last .1 .0) (c .before .before .before .before .before .before .before .before .read .result) _ (c .before .before .before .before .before .before .before .before .read .ensures) (c .before .before .before .before .before .found .given .1)
     (c .before .before .answer-refusal .ensures .0) (c .before .before .answer-refusal .ensures .1))
-
-same-length-2 : tie.Need-same-length-2
-same-length-2 c = search needs
-
-same-length-3 : tie.Need-same-length-3
-same-length-3 c = search needs
 
 returns-2 : tie.Need-returns-2
 unfolding hardenEntry
@@ -69,15 +42,15 @@ pub flow-harden-spec : {M : Type 1} → statement M
 flow-harden-spec =
     tie.close
     (tie.spec
-    slice-aggregate-read
-    read-requires
-    enum-known-found
-    answer-refusal-requires
-    enum-known-found-2
-    slice-aggregate-answer-hardened
+    (λ c. search needs)
+    (λ c κs. search needs)
+    (λ c. search needs)
+    (λ c κs. search needs)
+    (λ c. search needs)
+    (λ c. search needs)
     answer-hardened-requires
-    same-length
+    (λ c. search needs)
     returns
-    same-length-2
-    same-length-3
+    (λ c. search needs)
+    (λ c. search needs)
     returns-2)

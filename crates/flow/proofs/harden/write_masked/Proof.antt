@@ -18,12 +18,6 @@ use borrow.Author.Needs.{needs}
 use Rattle.flow.proofs.harden.write_masked.Statement.{statement}
 use Rattle.flow.proofs.harden.write_masked.Tie as tie
 
-slice-aggregate-label-program : tie.Need-slice-aggregate-label-program
-slice-aggregate-label-program c = search needs
-
-slice-aggregate-label-program-2 : tie.Need-slice-aggregate-label-program-2
-slice-aggregate-label-program-2 c = search needs
-
 label-program-requires : tie.Need-label-program-requires
 label-program-requires c κs =
     let start = c .before .before .before .before .before .before in
@@ -42,20 +36,8 @@ labelled d =
     let start = d .before .before .before .before .before .before .before in
     measurable (start .pre .0) (slice-bytes (now (start .args .table)) (d .before .before .before .before .before .before .shared-slice-known .given)) (d .label-program .ensures .1) (start .pre .1)
 
-slice-aggregate-measure-hardened : tie.Need-slice-aggregate-measure-hardened
-slice-aggregate-measure-hardened c = search needs
-
-slice-aggregate-measure-hardened-2 : tie.Need-slice-aggregate-measure-hardened-2
-slice-aggregate-measure-hardened-2 c = search needs
-
 measure-hardened-requires : tie.Need-measure-hardened-requires
 measure-hardened-requires c κs = labelled (c .before .before .before .before)
-
-answer-refusal-requires : tie.Need-answer-refusal-requires
-answer-refusal-requires c κs = search needs
-
-same-length : tie.Need-same-length
-same-length c = search needs
 
 returns : tie.Need-returns
 returns c =
@@ -63,24 +45,9 @@ returns c =
     writes-nothing (tableBytes (hardenedTable (tableOf (now (start .args .table))))) (now (start .args .out)) (now (start .args .answer)) (omega (arith, c .before .before .before .before .if1 .taken, c .before .before .before .before .before .before .measure-hardened .ensures .bytesCounted))
     (c .before .before .answer-refusal .ensures .0) (c .before .before .answer-refusal .ensures .1)
 
-slice-aggregate-write-hardened : tie.Need-slice-aggregate-write-hardened
-slice-aggregate-write-hardened c = search needs
-
-slice-aggregate-write-hardened-2 : tie.Need-slice-aggregate-write-hardened-2
-slice-aggregate-write-hardened-2 c = search needs
-
 write-hardened-requires : tie.Need-write-hardened-requires
 write-hardened-requires c κs =
     writable (c .before .before .before .before .before .before .before .before .before .before .before .before .before .before .before .before .before .pre .0) (labelled (c .before .before .before .before .before .before .before .before .before .before)) (c .before .before .before .before .before .measure-hardened .ensures) (omega (arith, c .before .before .before .if1 .left))
-
-answer-two-requires : tie.Need-answer-two-requires
-answer-two-requires c κs = search needs
-
-same-length-2 : tie.Need-same-length-2
-same-length-2 c = search needs
-
-same-length-3 : tie.Need-same-length-3
-same-length-3 c = search needs
 
 returns-2 : tie.Need-returns-2
 returns-2 c =
@@ -93,20 +60,20 @@ pub write-masked-spec : {M : Type 1} → statement M
 write-masked-spec =
     tie.close
     (tie.spec
-    slice-aggregate-label-program
-    slice-aggregate-label-program-2
+    (λ c. search needs)
+    (λ c. search needs)
     label-program-requires
     sub-root
-    slice-aggregate-measure-hardened
-    slice-aggregate-measure-hardened-2
+    (λ c. search needs)
+    (λ c. search needs)
     measure-hardened-requires
-    answer-refusal-requires
-    same-length
+    (λ c κs. search needs)
+    (λ c. search needs)
     returns
-    slice-aggregate-write-hardened
-    slice-aggregate-write-hardened-2
+    (λ c. search needs)
+    (λ c. search needs)
     write-hardened-requires
-    answer-two-requires
-    same-length-2
-    same-length-3
+    (λ c κs. search needs)
+    (λ c. search needs)
+    (λ c. search needs)
     returns-2)

@@ -4,27 +4,6 @@ use borrow.Author.Needs.{needs}
 use Rattle.flow.proofs.machines.flow_guess.Statement.{statement}
 use Rattle.flow.proofs.machines.flow_guess.Tie as tie
 
-read-and-run-requires : tie.Need-read-and-run-requires
-read-and-run-requires c κs = search needs
-
-answer-done-requires : tie.Need-answer-done-requires
-answer-done-requires c κs = search needs
-
-same-length : tie.Need-same-length
-same-length c = search needs
-
-same-length-2 : tie.Need-same-length-2
-same-length-2 c = search needs
-
-same-length-3 : tie.Need-same-length-3
-same-length-3 c = search needs
-
-same-length-4 : tie.Need-same-length-4
-same-length-4 c = search needs
-
-same-length-5 : tie.Need-same-length-5
-same-length-5 c = search needs
-
 returns : tie.Need-returns
 returns c = guess-promise _ _ _ _ _ _ _ (c .before .before .before .before .before .before .before .before .before .before .before .before .read-and-run .result) _ (c .before .before .before .before .before .before .before .before .before .before .before .before .read-and-run .ensures) (c .before .before .answer-done .ensures)
 
@@ -32,11 +11,11 @@ pub flow-guess-spec : {M : Type 1} → statement M
 flow-guess-spec =
     tie.close
     (tie.spec
-    read-and-run-requires
-    answer-done-requires
-    same-length
-    same-length-2
-    same-length-3
-    same-length-4
-    same-length-5
+    (λ c κs. search needs)
+    (λ c κs. search needs)
+    (λ c. search needs)
+    (λ c. search needs)
+    (λ c. search needs)
+    (λ c. search needs)
+    (λ c. search needs)
     returns)

@@ -18,31 +18,10 @@ accepts : (d : tie.After-read) (v a n c : ℕ) (l : Labelling) (e : ℕ) → d .
 accepts d v a n c l e h =
     reader-accepts (now (d .before .before .before .before .before .args .table)) (d .read .last .1 .0) (d .read .result) v a n c l e (d .read .ensures) h
 
-slice-aggregate-read : tie.Need-slice-aggregate-read
-slice-aggregate-read c = search needs
-
-read-requires : tie.Need-read-requires
-read-requires c κs = search needs
-
-enum-known-found : tie.Need-enum-known-found
-enum-known-found c = search needs
-
-answer-refusal-requires : tie.Need-answer-refusal-requires
-answer-refusal-requires c κs = search needs
-
-enum-known-found-2 : tie.Need-enum-known-found-2
-enum-known-found-2 c = search needs
-
-slice-aggregate-answer-sheet : tie.Need-slice-aggregate-answer-sheet
-slice-aggregate-answer-sheet c = search needs
-
 answer-sheet-requires : tie.Need-answer-sheet-requires
 answer-sheet-requires c κs =
     let a = accepts (c .before .before .before .before .before .before .before) _ _ _ _ _ _ (c .before .before .before .before .found2 .given .1) in
     (a .indexed, a .isNodes, a .isLabels)
-
-same-length : tie.Need-same-length
-same-length c = search needs
 
 returns : tie.Need-returns
 unfolding sheetEntry
@@ -50,12 +29,6 @@ returns c =
     let start = c .before .before .before .before .before .before .before .before .before .before .before .before .before in
     read-refused (λ t. got (sheetBytes t)) (now (start .args .table)) (now (start .args .sheet)) (now (start .args .answer)) (c .before .before .before .before .before .before .before .before .read .last .1 .0) (c .before .before .before .before .before .before .before .before .read .result) _ (c .before .before .before .before .before .before .before .before .read .ensures) (c .before .before .before .before .before .found .given .1)
     (c .before .before .answer-refusal .ensures .0) (c .before .before .answer-refusal .ensures .1)
-
-same-length-2 : tie.Need-same-length-2
-same-length-2 c = search needs
-
-same-length-3 : tie.Need-same-length-3
-same-length-3 c = search needs
 
 returns-2 : tie.Need-returns-2
 unfolding sheetEntry
@@ -68,15 +41,15 @@ pub flow-sheet-spec : {M : Type 1} → statement M
 flow-sheet-spec =
     tie.close
     (tie.spec
-    slice-aggregate-read
-    read-requires
-    enum-known-found
-    answer-refusal-requires
-    enum-known-found-2
-    slice-aggregate-answer-sheet
+    (λ c. search needs)
+    (λ c κs. search needs)
+    (λ c. search needs)
+    (λ c κs. search needs)
+    (λ c. search needs)
+    (λ c. search needs)
     answer-sheet-requires
-    same-length
+    (λ c. search needs)
     returns
-    same-length-2
-    same-length-3
+    (λ c. search needs)
+    (λ c. search needs)
     returns-2)

@@ -89,9 +89,6 @@ part-put-value-mask-start c =
     let first = one-parent from (Read (start .args .variable) (start .args .array)) (c .before .before .before .before .before .before .before .before .before .copy-index .ensures) (counted-A from place) (c .before .before .before .before .before .last .ensures) (c .before .before .before .before .append .ensures) in
     rest-inside first (counted-C from copy) room (omega arith)
 
-part-put-value-mask-end : tie.Need-part-put-value-mask-end
-part-put-value-mask-end c = search needs
-
 put-value-mask-requires : tie.Need-put-value-mask-requires
 unfolding nodesOf bytesOf maskValueOf zeroIfGuessing nodesOfA nodesOfB bytesOfA bytesOfB writeC
 put-value-mask-requires c κs =
@@ -122,9 +119,6 @@ append-sequence-requires c κs =
       two-room from (λ k. writeC k mask) first (counted-C from copy) (c .before .before .before .put-value-mask .ensures) (λ k. counted-C k mask) (both-of from _ _) 8 room (omega arith) (omega arith) .0,
     )
 
-same-length : tie.Need-same-length
-same-length c = search needs
-
 returns : tie.Need-returns
 unfolding nodesOf bytesOf maskValueOf zeroIfGuessing nodesOfA nodesOfB bytesOfA bytesOfB writeC
 returns c =
@@ -138,9 +132,6 @@ returns c =
     let mask = maskValueOf (start .args .flag) (start .args .variable) in
     let first = one-parent from (Read (start .args .variable) (start .args .array)) (c .before .before .before .before .before .before .before .before .before .before .before .before .before .before .before .before .before .copy-index .ensures) (counted-A from place) (c .before .before .before .before .before .before .before .before .before .before .before .before .before .last .ensures) (c .before .before .before .before .before .before .before .before .before .before .before .before .append .ensures) in
     wrote-C from hidden (two-parent from (λ k. writeC k mask) first (counted-C from copy) (c .before .before .before .before .before .before .put-value-mask .ensures) (λ k. counted-C k mask) (both-of from _ _) Sequence (omega (arith, room .fits)) (c .before .before .append-sequence .ensures))
-
-same-length-2 : tie.Need-same-length-2
-same-length-2 c = search needs
 
 returns-2 : tie.Need-returns-2
 unfolding writeC
@@ -162,10 +153,10 @@ harden-read-spec =
     add-put-value-mask
     sub-put-value-mask
     part-put-value-mask-start
-    part-put-value-mask-end
+    (λ c. search needs)
     put-value-mask-requires
     append-sequence-requires
-    same-length
+    (λ c. search needs)
     returns
-    same-length-2
+    (λ c. search needs)
     returns-2)

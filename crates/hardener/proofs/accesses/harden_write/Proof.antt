@@ -59,9 +59,6 @@ part-copy-numeric-start c =
     let first = c .before .before .before .copy-index .ensures in
     rest-inside first (counted-A from place) room (omega arith)
 
-part-copy-numeric-end : tie.Need-part-copy-numeric-end
-part-copy-numeric-end c = search needs
-
 copy-numeric-requires : tie.Need-copy-numeric-requires
 unfolding harden nodesOf bytesOf
 copy-numeric-requires c κs =
@@ -95,9 +92,6 @@ append-requires c κs =
     let first = c .before .before .before .before .before .before .before .before .before .copy-index .ensures in
     two-room from (λ k. writeA k value) first (counted-A from place) (c .before .before .before .before .copy-numeric .ensures) (λ k. counted-A k value) (c .before .both .ensures) 10 room (omega arith) (omega arith)
 
-same-length : tie.Need-same-length
-same-length c = search needs
-
 returns : tie.Need-returns
 unfolding harden nodesOf bytesOf writeC
 returns c =
@@ -117,9 +111,9 @@ harden-write-spec =
     add-copy-numeric
     sub-copy-numeric
     part-copy-numeric-start
-    part-copy-numeric-end
+    (λ c. search needs)
     copy-numeric-requires
     both-requires
     append-requires
-    same-length
+    (λ c. search needs)
     returns)

@@ -16,9 +16,6 @@ noted-labelling-requires c κs =
     let start = c .before .before .before .before in
     (omega (arith, start .pre .inside, start .pre .room .variables), omega (arith, start .pre .inside, start .pre .room .arrays), start .pre .room .fit (start .args .at))
 
-numeric-label-requires : tie.Need-numeric-label-requires
-numeric-label-requires c κs = search needs
-
 returns : tie.Need-returns
 unfolding readLabel
 returns c =
@@ -30,9 +27,6 @@ returns c =
     let array = labelOf (note .labelling) (arrayMark (start .args .array)) in
     index-secret index array (note .context)
     (sym (c .before .numeric-label .ensures ∙ ap (λ l. labelOfA l place) noted) ∙ c .if1 .taken)
-
-array-label-requires : tie.Need-array-label-requires
-array-label-requires c κs = search needs
 
 returns-2 : tie.Need-returns-2
 unfolding readLabel
@@ -46,9 +40,6 @@ returns-2 c =
     array-secret index array (note .context)
     (sym (c .before .before .before .numeric-label .ensures ∙ ap (λ l. labelOfA l place) noted) ∙ c .before .before .if1 .left)
     (sym (c .before .array-label .ensures ∙ ap (λ l. labelOf l (arrayMark (start .args .array))) noted) ∙ c .if2 .taken)
-
-noted-context-requires : tie.Need-noted-context-requires
-noted-context-requires c κs = search needs
 
 returns-3 : tie.Need-returns-3
 unfolding readLabel noteIn
@@ -69,9 +60,9 @@ mask-value-spec =
     tie.close
     (tie.spec
     noted-labelling-requires
-    numeric-label-requires
+    (λ c κs. search needs)
     returns
-    array-label-requires
+    (λ c κs. search needs)
     returns-2
-    noted-context-requires
+    (λ c κs. search needs)
     returns-3)

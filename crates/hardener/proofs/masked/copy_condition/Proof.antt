@@ -63,9 +63,6 @@ part-copy-truth-start c =
     let first = c .before .before .before .put-test .ensures in
     rest-inside first tested room (omega arith)
 
-part-copy-truth-end : tie.Need-part-copy-truth-end
-part-copy-truth-end c = search needs
-
 copy-truth-requires : tie.Need-copy-truth-requires
 unfolding nodesOfB bytesOfB
 copy-truth-requires c κs =
@@ -110,9 +107,6 @@ copy-truth-requires-2 c κs =
     let part = truthIn (now (start .args .table)) (start .args .n) in
     (start .pre .0, room-B (condition-plain (start .args .flag) (start .args .mask) part (c .before .if1 .left)) (start .pre .1))
 
-same-length : tie.Need-same-length
-same-length c = search needs
-
 returns : tie.Need-returns
 unfolding nodesOfB bytesOfB writeB
 returns c =
@@ -126,9 +120,6 @@ returns c =
     wrote-B (start .args .from) masked
     (two-parent (start .args .from) (λ k. writeB k part) first tested (c .before .before .before .before .before .before .before .copy-truth .ensures) (λ k. counted-B k part) (c .before .before .before .before .both .ensures) And
     (omega (arith, room .fits)) (c .before .before .append .ensures))
-
-same-length-2 : tie.Need-same-length-2
-same-length-2 c = search needs
 
 returns-2 : tie.Need-returns-2
 returns-2 c =
@@ -144,12 +135,12 @@ copy-condition-spec =
     add-copy-truth
     sub-copy-truth
     part-copy-truth-start
-    part-copy-truth-end
+    (λ c. search needs)
     copy-truth-requires
     both-requires
     append-requires
     copy-truth-requires-2
-    same-length
+    (λ c. search needs)
     returns
-    same-length-2
+    (λ c. search needs)
     returns-2)

@@ -59,9 +59,6 @@ part-copy-numeric-start c =
     let first = c .before .before .before .put-guard .ensures in
     rest-inside first guarded room (omega arith)
 
-part-copy-numeric-end : tie.Need-part-copy-numeric-end
-part-copy-numeric-end c = search needs
-
 copy-numeric-requires : tie.Need-copy-numeric-requires
 unfolding nodesOfA bytesOfA
 copy-numeric-requires c κs =
@@ -85,12 +82,6 @@ both-requires c κs =
     two-few (start .args .from) (λ k. writeA k part) first guarded (c .before .before .copy-numeric .ensures) (λ k. counted-A k part) room (omega arith)
     (omega arith) (record { short = omega arith }) (bytes-A part)
 
-add-t16 : tie.Need-add-t16
-add-t16 c = search needs
-
-add-t18 : tie.Need-add-t18
-add-t18 c = search needs
-
 append-requires : tie.Need-append-requires
 unfolding nodesOfA bytesOfA sizeOf form fieldSize sum
 append-requires c κs =
@@ -109,9 +100,6 @@ copy-numeric-requires-2 c κs =
     let part = numericIn (now (start .args .table)) (start .args .n) in
     (start .pre .0, room-A (index-plain (start .args .flag) (start .args .mask) part (c .before .if1 .left)) (start .pre .1))
 
-same-length : tie.Need-same-length
-same-length c = search needs
-
 returns : tie.Need-returns
 unfolding nodesOfA bytesOfA
 returns c =
@@ -128,9 +116,6 @@ returns c =
     (λ l r. Choice (from + 2) (from + 3) r) (omega (arith, room .fits)) (c .before .before .append .ensures))
     (index-nodes from (start .args .flag) part))
 
-same-length-2 : tie.Need-same-length-2
-same-length-2 c = search needs
-
 returns-2 : tie.Need-returns-2
 returns-2 c =
     let start = c .before .before .before .before .before .before .before .before in
@@ -145,14 +130,14 @@ copy-index-spec =
     add-copy-numeric
     sub-copy-numeric
     part-copy-numeric-start
-    part-copy-numeric-end
+    (λ c. search needs)
     copy-numeric-requires
     both-requires
-    add-t16
-    add-t18
+    (λ c. search needs)
+    (λ c. search needs)
     append-requires
     copy-numeric-requires-2
-    same-length
+    (λ c. search needs)
     returns
-    same-length-2
+    (λ c. search needs)
     returns-2)

@@ -27,9 +27,6 @@ copy-condition-requires c κs =
     let test = maskedCondition (start .args .flag) (start .args .mask) (truthIn (now (start .args .table)) (start .args .n)) in
     (start .pre .0, room-first (flag-room (start .args .taken) (start .args .flag) (start .args .from) test (start .pre .1)) (omega arith) (omega arith))
 
-kept-or-one-requires : tie.Need-kept-or-one-requires
-kept-or-one-requires c κs = search needs
-
 append-requires : tie.Need-append-requires
 append-requires c κs =
     let start = c .before .before .before .before .before .before .before .before .before in
@@ -39,9 +36,6 @@ append-requires c κs =
     let w = c .before .before .before .before .copy-condition .ensures in
     let n = counted-B from test in
     room-parent (sizeOf (c .kept-or-one .result)) w n room (omega arith) (omega (arith, ap sizeOf (c .kept-or-one .ensures)))
-
-kept-or-one-requires-2 : tie.Need-kept-or-one-requires-2
-kept-or-one-requires-2 c κs = search needs
 
 append-requires-2 : tie.Need-append-requires-2
 append-requires-2 c κs =
@@ -182,9 +176,9 @@ put-flag-update-spec =
     tie.close
     (tie.spec
     copy-condition-requires
-    kept-or-one-requires
+    (λ c κs. search needs)
     append-requires
-    kept-or-one-requires-2
+    (λ c κs. search needs)
     append-requires-2
     last-requires
     last-requires-2

@@ -22,9 +22,6 @@ append-requires-2 c κs =
     let start = c .before .before .before .before .before .before in
     room-parent 8 (wrote-node (c .before .before .before .append .ensures)) (counted-node (Variable (start .args .flag))) (start .pre) (omega arith) (omega arith)
 
-add-t14 : tie.Need-add-t14
-add-t14 c = search needs
-
 append-requires-3 : tie.Need-append-requires-3
 unfolding sizeOf form fieldSize sum
 append-requires-3 c κs =
@@ -44,4 +41,4 @@ returns c =
 pub put-test-spec : {M : Type 1} → statement M
 put-test-spec =
     tie.close
-    (tie.spec append-requires append-requires-2 add-t14 append-requires-3 same-length returns)
+    (tie.spec append-requires append-requires-2 (λ c. search needs) append-requires-3 same-length returns)

@@ -11,24 +11,12 @@ use borrow.Author.Needs.{needs}
 use Rattle.hardener.proofs.masked.put_value_mask.Statement.{statement}
 use Rattle.hardener.proofs.masked.put_value_mask.Tie as tie
 
-put-guard-requires : tie.Need-put-guard-requires
-put-guard-requires c κs = search needs
-
 append-requires : tie.Need-append-requires
 unfolding sizeOf form fieldSize sum
 append-requires c κs =
     let start = c .before .before .before .before .before .before in
     let guarded = counted-guard (start .args .from) (start .args .flag) in
     room-parent 6 (c .before .before .before .put-guard .ensures) guarded (start .pre) (omega arith) (omega arith)
-
-add-t15 : tie.Need-add-t15
-add-t15 c = search needs
-
-add-t16 : tie.Need-add-t16
-add-t16 c = search needs
-
-add-t17 : tie.Need-add-t17
-add-t17 c = search needs
 
 append-requires-2 : tie.Need-append-requires-2
 unfolding sizeOf form fieldSize sum
@@ -37,9 +25,6 @@ append-requires-2 c κs =
     let guarded = counted-guard (start .args .from) (start .args .flag) in
     room-parent 10 (wrote-parent (c .before .before .before .before .before .before .before .put-guard .ensures) (c .before .before .before .append .ensures)) (counted-append guarded (counted-node (Variable (start .args .variable))))
     (start .pre) (omega arith) (omega arith)
-
-add-t15-2 : tie.Need-add-t15-2
-add-t15-2 c = search needs
 
 append-requires-3 : tie.Need-append-requires-3
 unfolding sizeOf form fieldSize sum
@@ -51,9 +36,6 @@ append-requires-3 c κs =
     (counted-append (counted-append guarded (counted-node (Variable (start .args .variable)))) (counted-node (Choice (from + 2) (from + 3) (from + 4))))
     (start .pre) (omega arith) (omega arith)
 
-same-length : tie.Need-same-length
-same-length c = search needs
-
 returns : tie.Need-returns
 returns c =
     let start = c .before .before .before .before .before .before .before .before .before .before .before .before .before .before .before .before .before in
@@ -64,13 +46,13 @@ pub put-value-mask-spec : {M : Type 1} → statement M
 put-value-mask-spec =
     tie.close
     (tie.spec
-    put-guard-requires
+    (λ c κs. search needs)
     append-requires
-    add-t15
-    add-t16
-    add-t17
+    (λ c. search needs)
+    (λ c. search needs)
+    (λ c. search needs)
     append-requires-2
-    add-t15-2
+    (λ c. search needs)
     append-requires-3
-    same-length
+    (λ c. search needs)
     returns)

@@ -14,25 +14,10 @@ use borrow.Author.Needs.{needs}
 use Rattle.hardener.proofs.records.append.Statement.{statement}
 use Rattle.hardener.proofs.records.append.Tie as tie
 
-sub-put-record : tie.Need-sub-put-record
-sub-put-record c = search needs
-
-part-put-record-start : tie.Need-part-put-record-start
-part-put-record-start c = search needs
-
-part-put-record-end : tie.Need-part-put-record-end
-part-put-record-end c = search needs
-
-record-of-requires : tie.Need-record-of-requires
-record-of-requires c κs = search needs
-
 put-record-requires : tie.Need-put-record-requires
 put-record-requires c κs =
     simp (length-take, length-drop)
     (omega (arith, ap recordSize (c .record-of .ensures), record-size (c .before .before .before .args .node)))
-
-add-t7 : tie.Need-add-t7
-add-t7 c = search needs
 
 add-t11 : tie.Need-add-t11
 add-t11 c =
@@ -42,9 +27,6 @@ add-t11 c =
       ap recordSize (c .before .before .before .record-of .ensures),
       record-size (c .before .before .before .before .before .before .args .node),
     )
-
-same-length : tie.Need-same-length
-same-length c = search needs
 
 returns : tie.Need-returns
 returns c =
@@ -69,12 +51,12 @@ pub append-spec : {M : Type 1} → statement M
 append-spec =
     tie.close
     (tie.spec
-    sub-put-record
-    part-put-record-start
-    part-put-record-end
-    record-of-requires
+    (λ c. search needs)
+    (λ c. search needs)
+    (λ c. search needs)
+    (λ c κs. search needs)
     put-record-requires
-    add-t7
+    (λ c. search needs)
     add-t11
-    same-length
+    (λ c. search needs)
     returns)

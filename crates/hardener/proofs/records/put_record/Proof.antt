@@ -8,23 +8,14 @@ use borrow.Author.Needs.{needs}
 use Rattle.hardener.proofs.records.put_record.Statement.{statement}
 use Rattle.hardener.proofs.records.put_record.Tie as tie
 
-enum-known-fields : tie.Need-enum-known-fields
-enum-known-fields c = search needs
-
 put-head-requires : tie.Need-put-head-requires
 put-head-requires c κs = omega (arith, ap recordSize (c .before .before .fields .given .1))
-
-enum-known-fields-2 : tie.Need-enum-known-fields-2
-enum-known-fields-2 c = search needs
 
 put-head-requires-2 : tie.Need-put-head-requires-2
 put-head-requires-2 c κs = omega (arith, ap recordSize (c .before .before .fields2 .given .1))
 
 put16-requires : tie.Need-put16-requires
 put16-requires c κs = omega (arith, ap recordSize (c .before .before .before .before .before .before .fields2 .given .1))
-
-enum-known-fields-3 : tie.Need-enum-known-fields-3
-enum-known-fields-3 c = search needs
 
 put-head-requires-3 : tie.Need-put-head-requires-3
 put-head-requires-3 c κs = omega (arith, ap recordSize (c .before .before .fields3 .given .1))
@@ -34,9 +25,6 @@ put16-requires-2 c κs = omega (arith, ap recordSize (c .before .before .before 
 
 put16-requires-3 : tie.Need-put16-requires-3
 put16-requires-3 c κs = omega (arith, ap recordSize (c .before .before .before .before .before .before .before .before .before .before .fields3 .given .1))
-
-enum-known-fields-4 : tie.Need-enum-known-fields-4
-enum-known-fields-4 c = search needs
 
 put-head-requires-4 : tie.Need-put-head-requires-4
 put-head-requires-4 c κs = omega (arith, ap recordSize (c .before .before .fields4 .given .1))
@@ -50,17 +38,11 @@ put16-requires-5 c κs = omega (arith, ap recordSize (c .before .before .before 
 put16-requires-6 : tie.Need-put16-requires-6
 put16-requires-6 c κs = omega (arith, ap recordSize (c .before .before .before .before .before .before .before .before .before .before .before .before .before .before .fields4 .given .1))
 
-same-length : tie.Need-same-length
-same-length c = search needs
-
 returns : tie.Need-returns
 unfolding recordBytes
 returns c =
     let told = c .before .before .before .before .before .fields .given .1 in
     rw told (c .before .before .put-head .ensures, refl)
-
-same-length-2 : tie.Need-same-length-2
-same-length-2 c = search needs
 
 returns-2 : tie.Need-returns-2
 unfolding recordBytes le
@@ -68,17 +50,11 @@ returns-2 c =
     let v = c .before .before .before .before .before .before .before .before .before .fields2 .given .0 in
     rw (c .before .before .before .before .before .before .before .before .before .fields2 .given .1) (c .before .before .put16 .ensures ∙ ap (λ l. sets l 4 (le 2 (v .1 .0))) (c .before .before .before .before .before .before .put-head2 .ensures), refl)
 
-same-length-3 : tie.Need-same-length-3
-same-length-3 c = search needs
-
 returns-3 : tie.Need-returns-3
 unfolding recordBytes le
 returns-3 c =
     let v = c .before .before .before .before .before .before .before .before .before .before .before .before .before .fields3 .given .0 in
     rw (c .before .before .before .before .before .before .before .before .before .before .before .before .before .fields3 .given .1) (c .before .before .put163 .ensures ∙ ap (λ l. sets l 6 (le 2 (v .1 .1 .0))) (c .before .before .before .before .before .before .put162 .ensures ∙ ap (λ l. sets l 4 (le 2 (v .1 .0))) (c .before .before .before .before .before .before .before .before .before .before .put-head3 .ensures)), refl)
-
-same-length-4 : tie.Need-same-length-4
-same-length-4 c = search needs
 
 returns-4 : tie.Need-returns-4
 unfolding recordBytes le
@@ -90,25 +66,25 @@ pub put-record-spec : {M : Type 1} → statement M
 put-record-spec =
     tie.close
     (tie.spec
-    enum-known-fields
+    (λ c. search needs)
     put-head-requires
-    enum-known-fields-2
+    (λ c. search needs)
     put-head-requires-2
     put16-requires
-    enum-known-fields-3
+    (λ c. search needs)
     put-head-requires-3
     put16-requires-2
     put16-requires-3
-    enum-known-fields-4
+    (λ c. search needs)
     put-head-requires-4
     put16-requires-4
     put16-requires-5
     put16-requires-6
-    same-length
+    (λ c. search needs)
     returns
-    same-length-2
+    (λ c. search needs)
     returns-2
-    same-length-3
+    (λ c. search needs)
     returns-3
-    same-length-4
+    (λ c. search needs)
     returns-4)

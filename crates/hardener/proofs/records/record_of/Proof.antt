@@ -3,65 +3,8 @@ use borrow.Author.Needs.{needs}
 use Rattle.hardener.proofs.records.record_of.Statement.{statement}
 use Rattle.hardener.proofs.records.record_of.Tie as tie
 
-enum-known-node : tie.Need-enum-known-node
-enum-known-node c = search needs
-
-cast-t38 : tie.Need-cast-t38
-cast-t38 c = search needs
-
-cast-t40 : tie.Need-cast-t40
-cast-t40 c = search needs
-
-enum-known-node-2 : tie.Need-enum-known-node-2
-enum-known-node-2 c = search needs
-
-enum-known-node-3 : tie.Need-enum-known-node-3
-enum-known-node-3 c = search needs
-
-enum-known-node-4 : tie.Need-enum-known-node-4
-enum-known-node-4 c = search needs
-
-enum-known-node-5 : tie.Need-enum-known-node-5
-enum-known-node-5 c = search needs
-
-enum-known-node-6 : tie.Need-enum-known-node-6
-enum-known-node-6 c = search needs
-
-enum-known-node-7 : tie.Need-enum-known-node-7
-enum-known-node-7 c = search needs
-
-enum-known-node-8 : tie.Need-enum-known-node-8
-enum-known-node-8 c = search needs
-
-enum-known-node-9 : tie.Need-enum-known-node-9
-enum-known-node-9 c = search needs
-
-enum-known-node-10 : tie.Need-enum-known-node-10
-enum-known-node-10 c = search needs
-
-enum-known-node-11 : tie.Need-enum-known-node-11
-enum-known-node-11 c = search needs
-
 enum-told : tie.Need-enum-told
 enum-told c = search needs
-
-enum-known-node-12 : tie.Need-enum-known-node-12
-enum-known-node-12 c = search needs
-
-enum-known-node-13 : tie.Need-enum-known-node-13
-enum-known-node-13 c = search needs
-
-enum-known-node-14 : tie.Need-enum-known-node-14
-enum-known-node-14 c = search needs
-
-enum-known-node-15 : tie.Need-enum-known-node-15
-enum-known-node-15 c = search needs
-
-enum-known-node-16 : tie.Need-enum-known-node-16
-enum-known-node-16 c = search needs
-
-enum-known-node-17 : tie.Need-enum-known-node-17
-enum-known-node-17 c = search needs
 
 returns : tie.Need-returns
 returns c = rw (c .before .node .given .1)
@@ -121,26 +64,26 @@ pub record-of-spec : {M : Type 1} → statement M
 record-of-spec =
     tie.close
     (tie.spec
-    enum-known-node
-    cast-t38
-    cast-t40
-    enum-known-node-2
-    enum-known-node-3
-    enum-known-node-4
-    enum-known-node-5
-    enum-known-node-6
-    enum-known-node-7
-    enum-known-node-8
-    enum-known-node-9
-    enum-known-node-10
-    enum-known-node-11
+    (λ c. search needs)
+    (λ c. search needs)
+    (λ c. search needs)
+    (λ c. search needs)
+    (λ c. search needs)
+    (λ c. search needs)
+    (λ c. search needs)
+    (λ c. search needs)
+    (λ c. search needs)
+    (λ c. search needs)
+    (λ c. search needs)
+    (λ c. search needs)
+    (λ c. search needs)
     enum-told
-    enum-known-node-12
-    enum-known-node-13
-    enum-known-node-14
-    enum-known-node-15
-    enum-known-node-16
-    enum-known-node-17
+    (λ c. search needs)
+    (λ c. search needs)
+    (λ c. search needs)
+    (λ c. search needs)
+    (λ c. search needs)
+    (λ c. search needs)
     returns
     returns-2
     returns-3

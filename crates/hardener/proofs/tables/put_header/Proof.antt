@@ -7,27 +7,6 @@ use borrow.Author.Needs.{needs}
 use Rattle.hardener.proofs.tables.put_header.Statement.{statement}
 use Rattle.hardener.proofs.tables.put_header.Tie as tie
 
-put16-requires : tie.Need-put16-requires
-put16-requires c κs = search needs
-
-put16-requires-2 : tie.Need-put16-requires-2
-put16-requires-2 c κs = search needs
-
-put16-requires-3 : tie.Need-put16-requires-3
-put16-requires-3 c κs = search needs
-
-put8-requires : tie.Need-put8-requires
-put8-requires c κs = search needs
-
-put8-requires-2 : tie.Need-put8-requires-2
-put8-requires-2 c κs = search needs
-
-put16-requires-4 : tie.Need-put16-requires-4
-put16-requires-4 c κs = search needs
-
-same-length : tie.Need-same-length
-same-length c = search needs
-
 returns : tie.Need-returns
 unfolding headerBytes le
 returns c =
@@ -38,11 +17,11 @@ pub put-header-spec : {M : Type 1} → statement M
 put-header-spec =
     tie.close
     (tie.spec
-    put16-requires
-    put16-requires-2
-    put16-requires-3
-    put8-requires
-    put8-requires-2
-    put16-requires-4
-    same-length
+    (λ c κs. search needs)
+    (λ c κs. search needs)
+    (λ c κs. search needs)
+    (λ c κs. search needs)
+    (λ c κs. search needs)
+    (λ c κs. search needs)
+    (λ c. search needs)
     returns)

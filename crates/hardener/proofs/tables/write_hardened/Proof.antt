@@ -70,9 +70,6 @@ part-harden-command-start c =
     let bytes = slice-bytes table (c .before .before .before .before .before .before .before .before .before .before .before .before .before .before .before .before .shared-slice-known .given) in
     omega (arith, whole-fits bytes (start .pre), c .before .before .put-counts .kept, c .before .before .before .before .before .before .put-labels .kept, c .before .before .before .before .before .before .before .before .before .before .put-header .kept)
 
-part-harden-command-end : tie.Need-part-harden-command-end
-part-harden-command-end c = search needs
-
 harden-command-requires : tie.Need-harden-command-requires
 harden-command-requires c κs =
     let start = c .before .before .before .before .before .before .before .before .before .before .before .before .before .before .before .before .before .before in
@@ -86,9 +83,6 @@ add-result c =
     let table = now (start .args .table) in
     let bytes = slice-bytes table (c .before .before .before .before .before .before .before .before .before .before .before .before .before .before .before .before .before .before .before .before .before .shared-slice-known .given) in
     omega (arith, whole-fits bytes (start .pre), wrote-sized (c .before .before .before .harden-command .ensures) (counted-C 0 _) .bytesCounted)
-
-same-length : tie.Need-same-length
-same-length c = search needs
 
 returns : tie.Need-returns
 returns c =
@@ -109,8 +103,8 @@ write-hardened-spec =
     add-at
     sub-harden-command
     part-harden-command-start
-    part-harden-command-end
+    (λ c. search needs)
     harden-command-requires
     add-result
-    same-length
+    (λ c. search needs)
     returns)

@@ -4,29 +4,8 @@ use borrow.Author.Needs.{needs}
 use Rattle.interpreter.proofs.action.height.Statement.{statement}
 use Rattle.interpreter.proofs.action.height.Tie as tie
 
-enum-known-change : tie.Need-enum-known-change
-enum-known-change c = search needs
-
 enum-told : tie.Need-enum-told
 enum-told c = search needs
-
-enum-told-2 : tie.Need-enum-told-2
-enum-told-2 c = search needs
-
-add-result : tie.Need-add-result
-add-result c = search needs
-
-enum-told-3 : tie.Need-enum-told-3
-enum-told-3 c = search needs
-
-add-result-2 : tie.Need-add-result-2
-add-result-2 c = search needs
-
-enum-told-4 : tie.Need-enum-told-4
-enum-told-4 c = search needs
-
-enum-told-5 : tie.Need-enum-told-5
-enum-told-5 c = search needs
 
 returns : tie.Need-returns
 unfolding heightOf
@@ -52,14 +31,14 @@ pub height-spec : {M : Type 1} → statement M
 height-spec =
     tie.close
     (tie.spec
-    enum-known-change
+    (λ c. search needs)
     enum-told
-    enum-told-2
-    add-result
-    enum-told-3
-    add-result-2
-    enum-told-4
-    enum-told-5
+    (λ c. search needs)
+    (λ c. search needs)
+    (λ c. search needs)
+    (λ c. search needs)
+    (λ c. search needs)
+    (λ c. search needs)
     returns
     returns-2
     returns-3

@@ -34,41 +34,17 @@ module _ (d : tie.After-command-at) where
   self : CommandAt (now (d .before .before .before .before .args .table)) (d .before .before .before .before .args .n)
   self = let asked = d .before .before .before .before .pre in record { inside = asked .inside; isCommand = asked .isSort }
 
-command-at-requires : tie.Need-command-at-requires
-command-at-requires c κs = search needs
-
-enum-known-node : tie.Need-enum-known-node
-enum-known-node c = search needs
-
 assign-requires : tie.Need-assign-requires
 assign-requires c κs = child (c .before .before .before) Numeric _ (parts (c .before .before .before) _ (c .before .node .given .1) .1)
-
-enum-known-node-2 : tie.Need-enum-known-node-2
-enum-known-node-2 c = search needs
-
-put-back-requires : tie.Need-put-back-requires
-put-back-requires c κs = search needs
-
-enum-known-node-3 : tie.Need-enum-known-node-3
-enum-known-node-3 c = search needs
 
 fork-if-requires : tie.Need-fork-if-requires
 fork-if-requires c κs = child (c .before .before .before) Truth _ (parts (c .before .before .before) _ (c .before .node3 .given .1) .0)
 
-enum-known-node-4 : tie.Need-enum-known-node-4
-enum-known-node-4 c = search needs
-
 fork-while-requires : tie.Need-fork-while-requires
 fork-while-requires c κs = child (c .before .before .before) Truth _ (parts (c .before .before .before) _ (c .before .node4 .given .1) .0)
 
-enum-known-node-5 : tie.Need-enum-known-node-5
-enum-known-node-5 c = search needs
-
 get-requires : tie.Need-get-requires
 get-requires c κs = child (c .before .before .before) Numeric _ (parts (c .before .before .before) _ (c .before .node5 .given .1) .2)
-
-enum-known-node-6 : tie.Need-enum-known-node-6
-enum-known-node-6 c = search needs
 
 put-requires : tie.Need-put-requires
 put-requires c κs =
@@ -77,12 +53,6 @@ put-requires c κs =
 
 enum-told : tie.Need-enum-told
 enum-told c = search needs
-
-put-back-requires-2 : tie.Need-put-back-requires-2
-put-back-requires-2 c κs = search needs
-
-put-back-requires-3 : tie.Need-put-back-requires-3
-put-back-requires-3 c κs = search needs
 
 returns : tie.Need-returns
 returns c = looked-assign _ _ _ _ _ _ (c .assign .ensures) (parts (c .before .before .before .before) _ (c .before .before .node .given .1))
@@ -112,22 +82,22 @@ pub look-at-spec : {M : Type 1} → statement M
 look-at-spec =
     tie.close
     (tie.spec
-    command-at-requires
-    enum-known-node
+    (λ c κs. search needs)
+    (λ c. search needs)
     assign-requires
-    enum-known-node-2
-    put-back-requires
-    enum-known-node-3
+    (λ c. search needs)
+    (λ c κs. search needs)
+    (λ c. search needs)
     fork-if-requires
-    enum-known-node-4
+    (λ c. search needs)
     fork-while-requires
-    enum-known-node-5
+    (λ c. search needs)
     get-requires
-    enum-known-node-6
+    (λ c. search needs)
     put-requires
     enum-told
-    put-back-requires-2
-    put-back-requires-3
+    (λ c κs. search needs)
+    (λ c κs. search needs)
     returns
     returns-2
     returns-3

@@ -5,39 +5,6 @@ use borrow.Author.Needs.{needs}
 use Rattle.interpreter.proofs.directives.directive_at.Statement.{statement}
 use Rattle.interpreter.proofs.directives.directive_at.Tie as tie
 
-add-u16-at : tie.Need-add-u16-at
-add-u16-at c = search needs
-
-u16-at-requires : tie.Need-u16-at-requires
-u16-at-requires c κs = search needs
-
-add-u16-at-2 : tie.Need-add-u16-at-2
-add-u16-at-2 c = search needs
-
-u16-at-requires-2 : tie.Need-u16-at-requires-2
-u16-at-requires-2 c κs = search needs
-
-add-u32-at : tie.Need-add-u32-at
-add-u32-at c = search needs
-
-u32-at-requires : tie.Need-u32-at-requires
-u32-at-requires c κs = search needs
-
-u16-at-requires-3 : tie.Need-u16-at-requires-3
-u16-at-requires-3 c κs = search needs
-
-sub-left : tie.Need-sub-left
-sub-left c = search needs
-
-directive-of-requires : tie.Need-directive-of-requires
-directive-of-requires c κs = search needs
-
-enum-known-found : tie.Need-enum-known-found
-enum-known-found c = search needs
-
-whole-requires : tie.Need-whole-requires
-whole-requires c κs = search needs
-
 enum-told : tie.Need-enum-told
 enum-told c = search needs
 
@@ -59,17 +26,17 @@ pub directive-at-spec : {M : Type 1} → statement M
 directive-at-spec =
     tie.close
     (tie.spec
-    add-u16-at
-    u16-at-requires
-    add-u16-at-2
-    u16-at-requires-2
-    add-u32-at
-    u32-at-requires
-    u16-at-requires-3
-    sub-left
-    directive-of-requires
-    enum-known-found
-    whole-requires
+    (λ c. search needs)
+    (λ c κs. search needs)
+    (λ c. search needs)
+    (λ c κs. search needs)
+    (λ c. search needs)
+    (λ c κs. search needs)
+    (λ c κs. search needs)
+    (λ c. search needs)
+    (λ c κs. search needs)
+    (λ c. search needs)
+    (λ c κs. search needs)
     enum-told
     returns
     returns-2)

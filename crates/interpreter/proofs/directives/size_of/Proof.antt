@@ -4,9 +4,6 @@ use borrow.Author.Needs.{needs}
 use Rattle.interpreter.proofs.directives.size_of.Statement.{statement}
 use Rattle.interpreter.proofs.directives.size_of.Tie as tie
 
-enum-told : tie.Need-enum-told
-enum-told c = search needs
-
 enum-told-2 : tie.Need-enum-told-2
 enum-told-2 c = search needs
 
@@ -35,4 +32,4 @@ returns-4 c = search needs
 pub size-of-spec : {M : Type 1} → statement M
 size-of-spec =
     tie.close
-    (tie.spec enum-told enum-told-2 enum-told-3 enum-told-4 returns returns-2 returns-3 returns-4)
+    (tie.spec (λ c. search needs) enum-told-2 enum-told-3 enum-told-4 returns returns-2 returns-3 returns-4)

@@ -4,23 +4,8 @@ use borrow.Author.Needs.{needs}
 use Rattle.interpreter.proofs.fit.cell_for.Statement.{statement}
 use Rattle.interpreter.proofs.fit.cell_for.Tie as tie
 
-cell-at-requires : tie.Need-cell-at-requires
-cell-at-requires c κs = search needs
-
 enum-told : tie.Need-enum-told
 enum-told c = search needs
-
-enum-known-target : tie.Need-enum-known-target
-enum-known-target c = search needs
-
-cell-at-requires-2 : tie.Need-cell-at-requires-2
-cell-at-requires-2 c κs = search needs
-
-unless-requires : tie.Need-unless-requires
-unless-requires c κs = search needs
-
-enum-told-2 : tie.Need-enum-told-2
-enum-told-2 c = search needs
 
 returns : tie.Need-returns
 unfolding cellFor
@@ -45,12 +30,12 @@ pub cell-for-spec : {M : Type 1} → statement M
 cell-for-spec =
     tie.close
     (tie.spec
-    cell-at-requires
+    (λ c κs. search needs)
     enum-told
-    enum-known-target
-    cell-at-requires-2
-    unless-requires
-    enum-told-2
+    (λ c. search needs)
+    (λ c κs. search needs)
+    (λ c κs. search needs)
+    (λ c. search needs)
     returns
     returns-2
     returns-3

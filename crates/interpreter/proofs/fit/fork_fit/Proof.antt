@@ -7,21 +7,6 @@ use Rattle.interpreter.proofs.fit.fork_fit.Tie as tie
 enum-told : tie.Need-enum-told
 enum-told c = search needs
 
-side-requires : tie.Need-side-requires
-side-requires c κs = search needs
-
-enum-told-2 : tie.Need-enum-told-2
-enum-told-2 c = search needs
-
-side-requires-2 : tie.Need-side-requires-2
-side-requires-2 c κs = search needs
-
-enum-told-3 : tie.Need-enum-told-3
-enum-told-3 c = search needs
-
-enum-told-4 : tie.Need-enum-told-4
-enum-told-4 c = search needs
-
 returns : tie.Need-returns
 unfolding forkFit
 returns c = rw (c .before .enum-told .given .1, forkFit, c .side .ensures)
@@ -43,11 +28,11 @@ fork-fit-spec =
     tie.close
     (tie.spec
     enum-told
-    side-requires
-    enum-told-2
-    side-requires-2
-    enum-told-3
-    enum-told-4
+    (λ c κs. search needs)
+    (λ c. search needs)
+    (λ c κs. search needs)
+    (λ c. search needs)
+    (λ c. search needs)
     returns
     returns-2
     returns-3

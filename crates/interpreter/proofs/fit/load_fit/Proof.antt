@@ -4,9 +4,6 @@ use borrow.Author.Needs.{needs}
 use Rattle.interpreter.proofs.fit.load_fit.Statement.{statement}
 use Rattle.interpreter.proofs.fit.load_fit.Tie as tie
 
-enum-known-found : tie.Need-enum-known-found
-enum-known-found c = search needs
-
 cast-u32-at : tie.Need-cast-u32-at
 cast-u32-at c = search needs
 
@@ -30,4 +27,4 @@ returns-2 c = rw (c .enum-told .given .1, loadFit)
 pub load-fit-spec : {M : Type 1} → statement M
 load-fit-spec =
     tie.close
-    (tie.spec enum-known-found cast-u32-at mul-u32-at u32-at-requires enum-told returns returns-2)
+    (tie.spec (λ c. search needs) cast-u32-at mul-u32-at u32-at-requires enum-told returns returns-2)

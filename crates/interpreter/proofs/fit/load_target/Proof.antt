@@ -7,15 +7,6 @@ use Rattle.interpreter.proofs.fit.load_target.Tie as tie
 enum-told : tie.Need-enum-told
 enum-told c = search needs
 
-enum-known-directive : tie.Need-enum-known-directive
-enum-known-directive c = search needs
-
-enum-told-2 : tie.Need-enum-told-2
-enum-told-2 c = search needs
-
-enum-told-3 : tie.Need-enum-told-3
-enum-told-3 c = search needs
-
 returns : tie.Need-returns
 unfolding loadTarget
 returns c = rw (c .enum-told .given .1, loadTarget)
@@ -37,9 +28,9 @@ load-target-spec =
     tie.close
     (tie.spec
     enum-told
-    enum-known-directive
-    enum-told-2
-    enum-told-3
+    (λ c. search needs)
+    (λ c. search needs)
+    (λ c. search needs)
     returns
     returns-2
     returns-3

@@ -11,15 +11,6 @@ returns c = rw (not-true (c .before .before .args .guessing) (c .if1 .taken)) (g
 returns-2 : tie.Need-returns-2
 returns-2 c = rw (not-false (c .before .before .before .args .guessing) (c .before .if1 .left)) (runs-out _ _ (c .before .before .before .pre) (c .if2 .taken))
 
-directive-at-requires : tie.Need-directive-at-requires
-directive-at-requires c κs = search needs
-
-enum-known-found : tie.Need-enum-known-found
-enum-known-found c = search needs
-
-size-of-requires : tie.Need-size-of-requires
-size-of-requires c κs = search needs
-
 enum-told : tie.Need-enum-told
 enum-told c = search needs
 
@@ -40,9 +31,9 @@ guide-spec =
     (tie.spec
     returns
     returns-2
-    directive-at-requires
-    enum-known-found
-    size-of-requires
+    (λ c κs. search needs)
+    (λ c. search needs)
+    (λ c κs. search needs)
     enum-told
     returns-3
     returns-4)

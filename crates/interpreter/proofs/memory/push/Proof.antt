@@ -9,14 +9,8 @@ use Rattle.interpreter.proofs.memory.push.Tie as tie
 enum-told : tie.Need-enum-told
 enum-told c = search needs
 
-enum-known-back : tie.Need-enum-known-back
-enum-known-back c = search needs
-
 put-entry-requires : tie.Need-put-entry-requires
 put-entry-requires c κs = rw (c .before .before .back .given .1) at (c .before .before .before .before .before .pre)
-
-enum-known-back-2 : tie.Need-enum-known-back-2
-enum-known-back-2 c = search needs
 
 put-entry-requires-2 : tie.Need-put-entry-requires-2
 put-entry-requires-2 c κs =
@@ -37,15 +31,9 @@ returns : tie.Need-returns
 unfolding pushed
 returns c = rw (c .enum-told .given .1, pushed)
 
-same-length : tie.Need-same-length
-same-length c = search needs
-
 returns-2 : tie.Need-returns-2
 unfolding pushed
 returns-2 c = rw (c .before .before .before .before .before .back .given .1, pushed) (c .before .before .put-entry .ensures)
-
-same-length-2 : tie.Need-same-length-2
-same-length-2 c = search needs
 
 returns-3 : tie.Need-returns-3
 returns-3 c = pushed-two _ _ _ _ _ _ _ (c .before .before .before .before .before .before .before .before .before .back2 .given .1) (c .before .before .before .before .before .before .put-entry2 .ensures) (c .before .before .put-entry3 .ensures)
@@ -55,14 +43,14 @@ push-spec =
     tie.close
     (tie.spec
     enum-told
-    enum-known-back
+    (λ c. search needs)
     put-entry-requires
-    enum-known-back-2
+    (λ c. search needs)
     put-entry-requires-2
     add-put-entry
     put-entry-requires-3
     returns
-    same-length
+    (λ c. search needs)
     returns-2
-    same-length-2
+    (λ c. search needs)
     returns-3)

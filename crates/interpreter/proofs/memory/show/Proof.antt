@@ -7,9 +7,6 @@ use Rattle.interpreter.proofs.memory.show.Tie as tie
 enum-told : tie.Need-enum-told
 enum-told c = search needs
 
-enum-known-seen : tie.Need-enum-known-seen
-enum-known-seen c = search needs
-
 show-record-requires : tie.Need-show-record-requires
 unfolding seenBytes
 show-record-requires c κs = rw (c .before .before .seen .given .1, seenBytes) at (c .before .before .before .before .before .pre)
@@ -28,4 +25,4 @@ returns-2 c = rw (c .before .before .before .before .before .seen .given .1, see
 pub show-spec : {M : Type 1} → statement M
 show-spec =
     tie.close
-    (tie.spec enum-told enum-known-seen show-record-requires returns same-length returns-2)
+    (tie.spec enum-told (λ c. search needs) show-record-requires returns same-length returns-2)

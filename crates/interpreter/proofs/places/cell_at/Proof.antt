@@ -9,26 +9,11 @@ use Rattle.interpreter.proofs.places.cell_at.Tie as tie
 returns : tie.Need-returns
 returns c = λ counts at. cell-undeclared counts _ at _ _ (c .if1 .taken)
 
-mul-place : tie.Need-mul-place
-mul-place c = search needs
-
-shared-slice-read-place : tie.Need-shared-slice-read-place
-shared-slice-read-place c = search needs
-
 cast-place : tie.Need-cast-place
 cast-place c = omega (arith, c .shared-slice-known .given (c .before .before .args .array))
 
 add-place : tie.Need-add-place
 add-place c = omega (arith, c .shared-slice-known .given (c .before .before .args .array))
-
-add-if2 : tie.Need-add-if2
-add-if2 c = search needs
-
-mul-if2 : tie.Need-mul-if2
-mul-if2 c = search needs
-
-shared-slice-read-if2 : tie.Need-shared-slice-read-if2
-shared-slice-read-if2 c = search needs
 
 cast-if2 : tie.Need-cast-if2
 cast-if2 c = omega (arith, c .shared-slice-known2 .given (c .before .before .before .args .array + 1))
@@ -47,13 +32,13 @@ cell-at-spec =
     tie.close
     (tie.spec
     returns
-    mul-place
-    shared-slice-read-place
+    (λ c. search needs)
+    (λ c. search needs)
     cast-place
     add-place
-    add-if2
-    mul-if2
-    shared-slice-read-if2
+    (λ c. search needs)
+    (λ c. search needs)
+    (λ c. search needs)
     cast-if2
     cast-t13
     returns-2

@@ -17,9 +17,6 @@ module _ (d : tie.After-go-on) where
       pending-within _ _ _ _ _ (slice-bytes _ (d .before .before .before .before .before .before .before .before .before .before .before .before .before .before .before .before .before .before .before .shared-slice-known .given)) _ _ _ (d .before .before .before .before .before .before .before .before .before .before .before .before .before .before .before .before .before .before .before .before .pre) _ (d .before .before .before .before .before .before .before .before .put32 .ensures) _ _ _ _ _ _ _ _ (d .go-on .ensures)
       (d .go-on .kept .1 .1 .1 .1 .1 .0) (d .go-on .kept .1 .1 .1 .1 .1 .1 .0) (d .go-on .kept .1 .1 .1 .1 .1 .1 .1 .0)
 
-slice-aggregate-find-starts : tie.Need-slice-aggregate-find-starts
-slice-aggregate-find-starts c = search needs
-
 find-starts-requires : tie.Need-find-starts-requires
 find-starts-requires c κs = (asked-arrays _ _ _ _ _ (slice-bytes _ (c .before .before .before .before .before .before .before .shared-slice-known .given)) _ _ _ (c .before .before .before .before .before .before .before .before .pre), refl)
 
@@ -32,9 +29,6 @@ cast-put32 c = record { fits = root-below _ _ _ _ _ (slice-bytes _ (c .before .b
 put32-requires : tie.Need-put32-requires
 put32-requires c κs = root-below _ _ _ _ _ (slice-bytes _ (c .before .before .before .before .before .before .before .before .before .before .shared-slice-known .given)) _ _ _ (c .before .before .before .before .before .before .before .before .before .before .before .pre) .2
 
-slice-aggregate-go-on : tie.Need-slice-aggregate-go-on
-slice-aggregate-go-on c = search needs
-
 go-on-requires : tie.Need-go-on-requires
 go-on-requires c κs = run-begins _ _ _ _ _ (slice-bytes _ (c .before .before .before .before .before .before .before .before .before .before .before .before .before .before .before .before .before .before .shared-slice-known .given)) _ _ _ (c .before .before .before .before .before .before .before .before .before .before .before .before .before .before .before .before .before .before .before .pre) _ (c .before .before .before .before .before .before .before .put32 .ensures) _ (c .before .before .before .before .before .before .before .before .before .before .find-starts .ensures) (c .before .before .before .before .before .before .before .before .before .before .find-starts .kept .1 .1 .0) _ _
 
@@ -45,21 +39,6 @@ next-word-requires c κs =
 
 clear-requires : tie.Need-clear-requires
 clear-requires c κs = within (c .before .before .before .before .before .before .before .before .before .before .before .before)
-
-numbers-of-requires : tie.Need-numbers-of-requires
-numbers-of-requires c κs = search needs
-
-same-length : tie.Need-same-length
-same-length c = search needs
-
-same-length-2 : tie.Need-same-length-2
-same-length-2 c = search needs
-
-same-length-3 : tie.Need-same-length-3
-same-length-3 c = search needs
-
-same-length-4 : tie.Need-same-length-4
-same-length-4 c = search needs
 
 returns : tie.Need-returns
 returns c =
@@ -73,18 +52,18 @@ pub run-spec : {M : Type 1} → statement M
 run-spec =
     tie.close
     (tie.spec
-    slice-aggregate-find-starts
+    (λ c. search needs)
     find-starts-requires
     sub-put32
     cast-put32
     put32-requires
-    slice-aggregate-go-on
+    (λ c. search needs)
     go-on-requires
     next-word-requires
     clear-requires
-    numbers-of-requires
-    same-length
-    same-length-2
-    same-length-3
-    same-length-4
+    (λ c κs. search needs)
+    (λ c. search needs)
+    (λ c. search needs)
+    (λ c. search needs)
+    (λ c. search needs)
     returns)

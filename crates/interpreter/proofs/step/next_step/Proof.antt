@@ -53,18 +53,6 @@ returns c = ends-finished _ _ _ _ _ _ _ _ _ (c .if1 .taken)
 returns-2 : tie.Need-returns-2
 returns-2 c = ends-spent _ _ _ _ _ _ _ _ _ (pos-of-ne-zero (c .before .before .if1 .left)) (c .if2 .taken)
 
-sub-u32-at : tie.Need-sub-u32-at
-sub-u32-at c = search needs
-
-mul-u32-at : tie.Need-mul-u32-at
-mul-u32-at c = search needs
-
-u32-at-requires : tie.Need-u32-at-requires
-u32-at-requires c κs = search needs
-
-cast-n : tie.Need-cast-n
-cast-n c = search needs
-
 look-at-requires : tie.Need-look-at-requires
 look-at-requires c κs =
     let start = c .before .before .before .before .before .before .before .before .before .before .before in
@@ -72,23 +60,8 @@ look-at-requires c κs =
     rw (c .u32-at .ensures)
     (record { indexed = start .pre .indexed; long = start .pre .variablesLong; inside = entry .inside; isSort = entry .isCommand })
 
-enum-known-action : tie.Need-enum-known-action
-enum-known-action c = search needs
-
 quiet-step-requires : tie.Need-quiet-step-requires
 quiet-step-requires c κs = moving (c .before .before .before)
-
-enum-known-action-2 : tie.Need-enum-known-action-2
-enum-known-action-2 c = search needs
-
-guide-requires : tie.Need-guide-requires
-guide-requires c κs = search needs
-
-enum-known-guided : tie.Need-enum-known-guided
-enum-known-guided c = search needs
-
-fitting-requires : tie.Need-fitting-requires
-fitting-requires c κs = search needs
 
 shown-step-requires : tie.Need-shown-step-requires
 shown-step-requires c κs =
@@ -126,17 +99,17 @@ next-step-spec =
     (tie.spec
     returns
     returns-2
-    sub-u32-at
-    mul-u32-at
-    u32-at-requires
-    cast-n
+    (λ c. search needs)
+    (λ c. search needs)
+    (λ c κs. search needs)
+    (λ c. search needs)
     look-at-requires
-    enum-known-action
+    (λ c. search needs)
     quiet-step-requires
-    enum-known-action-2
-    guide-requires
-    enum-known-guided
-    fitting-requires
+    (λ c. search needs)
+    (λ c κs. search needs)
+    (λ c. search needs)
+    (λ c κs. search needs)
     shown-step-requires
     enum-told
     returns-3

@@ -4,26 +4,8 @@ use borrow.Author.Needs.{needs}
 use Rattle.interpreter.proofs.step.shown_step.Statement.{statement}
 use Rattle.interpreter.proofs.step.shown_step.Tie as tie
 
-enum-known-found : tie.Need-enum-known-found
-enum-known-found c = search needs
-
-bytes-of-requires : tie.Need-bytes-of-requires
-bytes-of-requires c κs = search needs
-
-sub-if1 : tie.Need-sub-if1
-sub-if1 c = search needs
-
 returns : tie.Need-returns
 returns c = shown-full _ _ _ _ _ _ _ _ (c .before .before .before .before .found .given .1) _ (c .before .before .bytes-of .ensures) (c .before .before .before .before .before .before .pre .3) (c .if1 .taken)
-
-sub-height : tie.Need-sub-height
-sub-height c = search needs
-
-height-requires : tie.Need-height-requires
-height-requires c κs = search needs
-
-moved-requires : tie.Need-moved-requires
-moved-requires c κs = search needs
 
 enum-told : tie.Need-enum-told
 enum-told c = search needs
@@ -38,13 +20,13 @@ pub shown-step-spec : {M : Type 1} → statement M
 shown-step-spec =
     tie.close
     (tie.spec
-    enum-known-found
-    bytes-of-requires
-    sub-if1
+    (λ c. search needs)
+    (λ c κs. search needs)
+    (λ c. search needs)
     returns
-    sub-height
-    height-requires
-    moved-requires
+    (λ c. search needs)
+    (λ c κs. search needs)
+    (λ c κs. search needs)
     enum-told
     returns-2
     returns-3)

@@ -5,9 +5,6 @@ use borrow.Author.Needs.{needs}
 use Rattle.program.proofs.input.put_refusal.Statement.{statement}
 use Rattle.program.proofs.input.put_refusal.Tie as tie
 
-put16-requires : tie.Need-put16-requires
-put16-requires c κs = search needs
-
 put16-requires-2 : tie.Need-put16-requires-2
 put16-requires-2 c κs = search needs
 
@@ -28,4 +25,4 @@ returns c =
 pub put-refusal-spec : {M : Type 1} → statement M
 put-refusal-spec =
     tie.close
-    (tie.spec put16-requires put16-requires-2 put16-requires-3 put32-requires same-length returns)
+    (tie.spec (λ c κs. search needs) put16-requires-2 put16-requires-3 put32-requires same-length returns)

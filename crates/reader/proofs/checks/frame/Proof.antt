@@ -13,9 +13,6 @@ use borrow.Author.Needs.{needs}
 use Rattle.reader.proofs.checks.frame.Statement.{statement}
 use Rattle.reader.proofs.checks.frame.Tie as tie
 
-add-if1 : tie.Need-add-if1
-add-if1 c = search needs
-
 -- what is not 0 is positive
 positive : (n : ℕ) → ¬ (n ≡ 0) → 0 < n
 positive n other = omega arith
@@ -75,4 +72,4 @@ returns-5 c =
 pub frame-spec : {M : Type 1} → statement M
 frame-spec =
     tie.close
-    (tie.spec add-if1 returns returns-2 u16-at-requires returns-3 add-if4 returns-4 returns-5)
+    (tie.spec (λ c. search needs) returns returns-2 u16-at-requires returns-3 add-if4 returns-4 returns-5)

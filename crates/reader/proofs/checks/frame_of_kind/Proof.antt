@@ -6,9 +6,6 @@ use borrow.Author.Needs.{needs}
 use Rattle.reader.proofs.checks.frame_of_kind.Statement.{statement}
 use Rattle.reader.proofs.checks.frame_of_kind.Tie as tie
 
-add-u16-at : tie.Need-add-u16-at
-add-u16-at c = search needs
-
 u16-at-requires : tie.Need-u16-at-requires
 u16-at-requires c κs = search needs
 
@@ -29,4 +26,4 @@ returns-2 c = rw (ne-eqb _ _ (λ e. c .before .if1 .left (c .before .before .u16
 pub frame-of-kind-spec : {M : Type 1} → statement M
 frame-of-kind-spec =
     tie.close
-    (tie.spec add-u16-at u16-at-requires frame-requires returns frame-requires-2 returns-2)
+    (tie.spec (λ c. search needs) u16-at-requires frame-requires returns frame-requires-2 returns-2)

@@ -10,27 +10,12 @@ use borrow.Author.Needs.{needs}
 use Rattle.reader.proofs.declarations.read_count.Statement.{statement}
 use Rattle.reader.proofs.declarations.read_count.Tie as tie
 
-frame-of-kind-requires : tie.Need-frame-of-kind-requires
-frame-of-kind-requires c κs = search needs
-
-enum-known-refusal : tie.Need-enum-known-refusal
-enum-known-refusal c = search needs
-
 returns : tie.Need-returns
 unfolding countAs check
 returns c = sym (ap countAs (count-refused (now (c .before .before .before .before .before .args .table)) (c .before .before .before .before .before .args .at) (c .before .before .before .before .before .args .before) (c .before .refusal .given .0 .0) (sym (c .before .before .before .frame-of-kind .ensures) ∙ c .before .refusal .given .1)))
 
 enum-told : tie.Need-enum-told
 enum-told c = search needs
-
-add-u16-at : tie.Need-add-u16-at
-add-u16-at c = search needs
-
-u16-at-requires : tie.Need-u16-at-requires
-u16-at-requires c κs = search needs
-
-add-if2 : tie.Need-add-if2
-add-if2 c = search needs
 
 returns-2 : tie.Need-returns-2
 unfolding countAs check
@@ -48,13 +33,13 @@ pub read-count-spec : {M : Type 1} → statement M
 read-count-spec =
     tie.close
     (tie.spec
-    frame-of-kind-requires
-    enum-known-refusal
+    (λ c κs. search needs)
+    (λ c. search needs)
     returns
     enum-told
-    add-u16-at
-    u16-at-requires
-    add-if2
+    (λ c. search needs)
+    (λ c κs. search needs)
+    (λ c. search needs)
     returns-2
     returns-3
     returns-4)

@@ -9,33 +9,12 @@ use borrow.Author.Needs.{needs}
 use Rattle.reader.proofs.declarations.read_header.Statement.{statement}
 use Rattle.reader.proofs.declarations.read_header.Tie as tie
 
-frame-of-kind-requires : tie.Need-frame-of-kind-requires
-frame-of-kind-requires c κs = search needs
-
-enum-known-refusal : tie.Need-enum-known-refusal
-enum-known-refusal c = search needs
-
 returns : tie.Need-returns
 unfolding headerAs check
 returns c = sym (ap headerAs (header-refused (now (c .before .before .before .before .before .args .table)) (c .before .refusal .given .0 .0) (sym (c .before .before .before .frame-of-kind .ensures) ∙ c .before .refusal .given .1)))
 
 enum-told : tie.Need-enum-told
 enum-told c = search needs
-
-u16-at-requires : tie.Need-u16-at-requires
-u16-at-requires c κs = search needs
-
-byte-at-requires : tie.Need-byte-at-requires
-byte-at-requires c κs = search needs
-
-byte-at-requires-2 : tie.Need-byte-at-requires-2
-byte-at-requires-2 c κs = search needs
-
-u16-at-requires-2 : tie.Need-u16-at-requires-2
-u16-at-requires-2 c κs = search needs
-
-within-limits-requires : tie.Need-within-limits-requires
-within-limits-requires c κs = search needs
 
 returns-2 : tie.Need-returns-2
 unfolding headerAs check
@@ -49,14 +28,14 @@ pub read-header-spec : {M : Type 1} → statement M
 read-header-spec =
     tie.close
     (tie.spec
-    frame-of-kind-requires
-    enum-known-refusal
+    (λ c κs. search needs)
+    (λ c. search needs)
     returns
     enum-told
-    u16-at-requires
-    byte-at-requires
-    byte-at-requires-2
-    u16-at-requires-2
-    within-limits-requires
+    (λ c κs. search needs)
+    (λ c κs. search needs)
+    (λ c κs. search needs)
+    (λ c κs. search needs)
+    (λ c κs. search needs)
     returns-2
     returns-3)

@@ -9,36 +9,12 @@ use borrow.Author.Needs.{needs}
 use Rattle.reader.proofs.declarations.read_labels.Statement.{statement}
 use Rattle.reader.proofs.declarations.read_labels.Tie as tie
 
-frame-of-kind-requires : tie.Need-frame-of-kind-requires
-frame-of-kind-requires c κs = search needs
-
-enum-known-refusal : tie.Need-enum-known-refusal
-enum-known-refusal c = search needs
-
 returns : tie.Need-returns
 unfolding labelsAs check
 returns c = λ nodes. sym (ap labelsAs (labels-refused (now (c .before .before .before .before .before .args .table)) (record { variables = c .before .before .before .before .before .args .variables; arrays = c .before .before .before .before .before .args .arrays; nodes = nodes }) (c .before .refusal .given .0 .0) (sym (c .before .before .before .frame-of-kind .ensures) ∙ c .before .refusal .given .1)))
 
 enum-told : tie.Need-enum-told
 enum-told c = search needs
-
-u32-at-requires : tie.Need-u32-at-requires
-u32-at-requires c κs = search needs
-
-cast-variable-mask : tie.Need-cast-variable-mask
-cast-variable-mask c = search needs
-
-u16-at-requires : tie.Need-u16-at-requires
-u16-at-requires c κs = search needs
-
-mask-fits-requires : tie.Need-mask-fits-requires
-mask-fits-requires c κs = search needs
-
-mask-fits-requires-2 : tie.Need-mask-fits-requires-2
-mask-fits-requires-2 c κs = search needs
-
-cast-t12 : tie.Need-cast-t12
-cast-t12 c = search needs
 
 returns-2 : tie.Need-returns-2
 unfolding labelsAs check
@@ -56,16 +32,16 @@ pub read-labels-spec : {M : Type 1} → statement M
 read-labels-spec =
     tie.close
     (tie.spec
-    frame-of-kind-requires
-    enum-known-refusal
+    (λ c κs. search needs)
+    (λ c. search needs)
     returns
     enum-told
-    u32-at-requires
-    cast-variable-mask
-    u16-at-requires
-    mask-fits-requires
-    mask-fits-requires-2
-    cast-t12
+    (λ c κs. search needs)
+    (λ c. search needs)
+    (λ c κs. search needs)
+    (λ c κs. search needs)
+    (λ c κs. search needs)
+    (λ c. search needs)
     returns-2
     returns-3
     returns-4)

@@ -7,18 +7,6 @@ use Rattle.reader.proofs.fields.field_in_range.Tie as tie
 enum-told : tie.Need-enum-told
 enum-told c = search needs
 
-enum-known-field : tie.Need-enum-known-field
-enum-known-field c = search needs
-
-enum-known-field-2 : tie.Need-enum-known-field-2
-enum-known-field-2 c = search needs
-
-enum-known-field-3 : tie.Need-enum-known-field-3
-enum-known-field-3 c = search needs
-
-enum-known-field-4 : tie.Need-enum-known-field-4
-enum-known-field-4 c = search needs
-
 returns : tie.Need-returns
 unfolding fieldInRange
 returns c = rw (c .enum-told .given .1)
@@ -44,10 +32,10 @@ field-in-range-spec =
     tie.close
     (tie.spec
     enum-told
-    enum-known-field
-    enum-known-field-2
-    enum-known-field-3
-    enum-known-field-4
+    (λ c. search needs)
+    (λ c. search needs)
+    (λ c. search needs)
+    (λ c. search needs)
     returns
     returns-2
     returns-3

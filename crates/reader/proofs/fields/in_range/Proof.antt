@@ -6,22 +6,13 @@ use borrow.Author.Needs.{needs}
 use Rattle.reader.proofs.fields.in_range.Statement.{statement}
 use Rattle.reader.proofs.fields.in_range.Tie as tie
 
-field-in-range-requires : tie.Need-field-in-range-requires
-field-in-range-requires c κs = search needs
-
 returns : tie.Need-returns
 unfolding all
 returns c = rw (← c .before .field-in-range .ensures, not-true (c .before .field-in-range .result) (c .if1 .taken))
 
-field-in-range-requires-2 : tie.Need-field-in-range-requires-2
-field-in-range-requires-2 c κs = search needs
-
 returns-2 : tie.Need-returns-2
 unfolding all
 returns-2 c = rw (← c .before .before .before .field-in-range .ensures, not-false (c .before .before .before .field-in-range .result) (c .before .before .if1 .left), ← c .before .field-in-range2 .ensures, not-true (c .before .field-in-range2 .result) (c .if2 .taken))
-
-field-in-range-requires-3 : tie.Need-field-in-range-requires-3
-field-in-range-requires-3 c κs = search needs
 
 returns-3 : tie.Need-returns-3
 unfolding all
@@ -31,9 +22,9 @@ pub in-range-spec : {M : Type 1} → statement M
 in-range-spec =
     tie.close
     (tie.spec
-    field-in-range-requires
+    (λ c κs. search needs)
     returns
-    field-in-range-requires-2
+    (λ c κs. search needs)
     returns-2
-    field-in-range-requires-3
+    (λ c κs. search needs)
     returns-3)

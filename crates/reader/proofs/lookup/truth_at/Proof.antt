@@ -30,12 +30,6 @@ last d =
     ∙ left-and _ _ _ (there (d .before .before)) (d .before .kind .result) (d .before .kind .ensures) (d .before .before .before .before .before .pre .2)
     (d .match .rest .0 .0 .0 .1) (d .match .rest .0 .0 .1) (d .match .rest .0 .1) (d .match .rest .1)
 
-mul-at : tie.Need-mul-at
-mul-at c = search needs
-
-shared-slice-read-at : tie.Need-shared-slice-read-at
-shared-slice-read-at c = search needs
-
 cast-at : tie.Need-cast-at
 cast-at c = omega (arith, c .shared-slice-known3 .given (c .before .before .before .args .n))
 
@@ -85,8 +79,8 @@ pub truth-at-spec : {M : Type 1} → statement M
 truth-at-spec =
     tie.close
     (tie.spec
-    mul-at
-    shared-slice-read-at
+    (λ c. search needs)
+    (λ c. search needs)
     cast-at
     kind-requires
     first-requires

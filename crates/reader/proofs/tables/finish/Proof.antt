@@ -5,24 +5,6 @@ use borrow.Author.Needs.{needs}
 use Rattle.reader.proofs.tables.finish.Statement.{statement}
 use Rattle.reader.proofs.tables.finish.Tie as tie
 
-sub-offset-at : tie.Need-sub-offset-at
-sub-offset-at c = search needs
-
-offset-at-requires : tie.Need-offset-at-requires
-offset-at-requires c κs = search needs
-
-sort-at-requires : tie.Need-sort-at-requires
-sort-at-requires c κs = search needs
-
-find-broken-requires : tie.Need-find-broken-requires
-find-broken-requires c κs = search needs
-
-enum-known-node : tie.Need-enum-known-node
-enum-known-node c = search needs
-
-offset-at-requires-2 : tie.Need-offset-at-requires-2
-offset-at-requires-2 c κs = search needs
-
 returns : tie.Need-returns
 returns c =
     let a = c .before .before .before .before .before .before .before .before .before .before .args in
@@ -49,12 +31,12 @@ pub finish-spec : {M : Type 1} → statement M
 finish-spec =
     tie.close
     (tie.spec
-    sub-offset-at
-    offset-at-requires
-    sort-at-requires
-    find-broken-requires
-    enum-known-node
-    offset-at-requires-2
+    (λ c. search needs)
+    (λ c κs. search needs)
+    (λ c κs. search needs)
+    (λ c κs. search needs)
+    (λ c. search needs)
+    (λ c κs. search needs)
     returns
     enum-told
     returns-2

@@ -6,15 +6,6 @@ use borrow.Author.Needs.{needs}
 use Rattle.reader.proofs.tables.read.Statement.{statement}
 use Rattle.reader.proofs.tables.read.Tie as tie
 
-read-header-requires : tie.Need-read-header-requires
-read-header-requires c κs = search needs
-
-enum-known-refusal : tie.Need-enum-known-refusal
-enum-known-refusal c = search needs
-
-enum-known-variables : tie.Need-enum-known-variables
-enum-known-variables c = search needs
-
 read-declared-requires : tie.Need-read-declared-requires
 read-declared-requires c κs =
     let f = header-limits (now (c .before .before .before .before .before .before .before .args .table)) (now (c .before .before .before .before .before .before .before .args .index)) (c .before .before .variables .given .0 .0) (c .before .before .variables .given .0 .1 .0) (c .before .before .variables .given .0 .1 .1 .0) (sym (c .before .before .variables .given .1) ∙ c .before .before .before .before .read-header .ensures) in
@@ -23,9 +14,6 @@ read-declared-requires c κs =
 returns : tie.Need-returns
 returns c = header-stop (now (c .before .before .before .before .before .before .args .table)) (now (c .before .before .before .before .before .before .args .index)) (c .before .refusal .given .0 .0) (sym (c .before .refusal .given .1) ∙ c .before .before .before .read-header .ensures)
 
-same-length : tie.Need-same-length
-same-length c = search needs
-
 returns-2 : tie.Need-returns-2
 returns-2 c = header-on (now (c .before .before .before .before .before .before .before .before .before .before .args .table)) (c .before .before .read-declared .last .1 .0) (c .before .before .before .before .before .variables .given .0 .0) (c .before .before .before .before .before .variables .given .0 .1 .0) (c .before .before .before .before .before .variables .given .0 .1 .1 .0) (c .before .before .read-declared .result) (sym (c .before .before .before .before .before .variables .given .1) ∙ c .before .before .before .before .before .before .before .read-header .ensures) (c .before .before .read-declared .ensures)
 
@@ -33,10 +21,10 @@ pub read-spec : {M : Type 1} → statement M
 read-spec =
     tie.close
     (tie.spec
-    read-header-requires
-    enum-known-refusal
-    enum-known-variables
+    (λ c κs. search needs)
+    (λ c. search needs)
+    (λ c. search needs)
     read-declared-requires
     returns
-    same-length
+    (λ c. search needs)
     returns-2)

@@ -6,27 +6,6 @@ use borrow.Author.Needs.{needs}
 use Rattle.reader.proofs.tables.read_declared.Statement.{statement}
 use Rattle.reader.proofs.tables.read_declared.Tie as tie
 
-read-labels-requires : tie.Need-read-labels-requires
-read-labels-requires c κs = search needs
-
-enum-known-refusal : tie.Need-enum-known-refusal
-enum-known-refusal c = search needs
-
-enum-known-labels : tie.Need-enum-known-labels
-enum-known-labels c = search needs
-
-read-counts-requires : tie.Need-read-counts-requires
-read-counts-requires c κs = search needs
-
-enum-known-refusal-2 : tie.Need-enum-known-refusal-2
-enum-known-refusal-2 c = search needs
-
-enum-known-cells : tie.Need-enum-known-cells
-enum-known-cells c = search needs
-
-read-on-requires : tie.Need-read-on-requires
-read-on-requires c κs = search needs
-
 returns : tie.Need-returns
 returns c =
     let a = c .before .before .before .before .before .before .args in
@@ -38,9 +17,6 @@ returns-2 c =
     cells-stop (now (a .table)) (now (a .index)) (a .variables) (a .arrays) (a .nodes) (c .before .before .before .before .before .labels .given .0 .0) (sym (c .before .before .before .before .before .labels .given .1) ∙ c .before .before .before .before .before .before .before .read-labels .ensures (a .nodes))
     (c .before .refusal2 .given .0 .0) (sym (c .before .refusal2 .given .1) ∙ c .before .before .before .read-counts .ensures)
 
-same-length : tie.Need-same-length
-same-length c = search needs
-
 returns-3 : tie.Need-returns-3
 returns-3 c =
     let a = c .before .before .before .before .before .before .before .before .before .before .before .before .before .before .args in
@@ -51,14 +27,14 @@ pub read-declared-spec : {M : Type 1} → statement M
 read-declared-spec =
     tie.close
     (tie.spec
-    read-labels-requires
-    enum-known-refusal
-    enum-known-labels
-    read-counts-requires
-    enum-known-refusal-2
-    enum-known-cells
-    read-on-requires
+    (λ c κs. search needs)
+    (λ c. search needs)
+    (λ c. search needs)
+    (λ c κs. search needs)
+    (λ c. search needs)
+    (λ c. search needs)
+    (λ c κs. search needs)
     returns
     returns-2
-    same-length
+    (λ c. search needs)
     returns-3)

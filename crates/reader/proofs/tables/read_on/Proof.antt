@@ -7,36 +7,15 @@ use borrow.Author.Needs.{needs}
 use Rattle.reader.proofs.tables.read_on.Statement.{statement}
 use Rattle.reader.proofs.tables.read_on.Tie as tie
 
-slice-aggregate-read-nodes : tie.Need-slice-aggregate-read-nodes
-slice-aggregate-read-nodes c = search needs
-
 read-nodes-requires : tie.Need-read-nodes-requires
 read-nodes-requires c κs =
     let p = c .before .before .before .before .pre in
     (p .0, p .2, omega arith, p .2, zeros-below 4096)
 
-enum-known-refusal : tie.Need-enum-known-refusal
-enum-known-refusal c = search needs
-
-enum-known-end : tie.Need-enum-known-end
-enum-known-end c = search needs
-
-slice-aggregate-finish : tie.Need-slice-aggregate-finish
-slice-aggregate-finish c = search needs
-
-finish-requires : tie.Need-finish-requires
-finish-requires c κs = search needs
-
-same-length : tie.Need-same-length
-same-length c = search needs
-
 returns : tie.Need-returns
 returns c =
     let a = c .before .before .before .before .before .before .before .before .before .before .before .args in
     on-refused (now (a .table)) (a .variables) (a .arrays) (a .nodes) (c .before .before .before .before .before .before .read-nodes .last .1 .1 .1 .1 .0) (c .before .before .before .before .before .before .read-nodes .last .1 .1 .1 .1 .1 .0) (a .cells) (a .labels) (c .before .refusal .given .0 .0) (rw (c .before .refusal .given .1) at (c .before .before .before .before .before .before .read-nodes .ensures))
-
-same-length-2 : tie.Need-same-length-2
-same-length-2 c = search needs
 
 returns-2 : tie.Need-returns-2
 returns-2 c =
@@ -47,13 +26,13 @@ pub read-on-spec : {M : Type 1} → statement M
 read-on-spec =
     tie.close
     (tie.spec
-    slice-aggregate-read-nodes
+    (λ c. search needs)
     read-nodes-requires
-    enum-known-refusal
-    enum-known-end
-    slice-aggregate-finish
-    finish-requires
-    same-length
+    (λ c. search needs)
+    (λ c. search needs)
+    (λ c. search needs)
+    (λ c κs. search needs)
+    (λ c. search needs)
     returns
-    same-length-2
+    (λ c. search needs)
     returns-2)

@@ -15,9 +15,6 @@ inside c =
     child-inside (length (now (c .before .before .before .args .uses))) (c .before .field .given .0 .0) (c .before .field .given .0 .1 .0)
     (rw (c .before .field .given .1) at (c .before .before .before .pre .0))
 
-enum-known-field : tie.Need-enum-known-field
-enum-known-field c = search needs
-
 returns : tie.Need-returns
 returns c = rw (no-children (c .before .args .field) (c .match .keys2)) (count-none (now (c .before .args .uses)))
 
@@ -36,9 +33,6 @@ mul-uses-2 c = omega (arith, inside (c .before))
 slice-write-uses : tie.Need-slice-write-uses
 slice-write-uses c = inside (c .before)
 
-same-length : tie.Need-same-length
-same-length c = search needs
-
 returns-2 : tie.Need-returns-2
 returns-2 c = rw (c .before .before .field .given .1) (count-child (now (c .before .before .before .before .args .uses)) (c .before .before .field .given .0 .0) (c .before .before .field .given .0 .1 .0))
 
@@ -46,12 +40,12 @@ pub count-field-spec : {M : Type 1} → statement M
 count-field-spec =
     tie.close
     (tie.spec
-    enum-known-field
+    (λ c. search needs)
     returns
     mul-uses
     slice-read-uses
     add-uses
     mul-uses-2
     slice-write-uses
-    same-length
+    (λ c. search needs)
     returns-2)

@@ -58,9 +58,6 @@ count-field-requires-3 c κs =
     let start = second .before .before .before .before .before .before .before in
     room-first 65535 (second .count-field2 .last .0) (three start) [] (last second) 65535 (omega arith)
 
-same-length : tie.Need-same-length
-same-length c = search needs
-
 returns : tie.Need-returns
 unfolding flatMap
 returns c =
@@ -74,4 +71,4 @@ returns c =
 pub count-fields-spec : {M : Type 1} → statement M
 count-fields-spec =
     tie.close
-    (tie.spec count-field-requires count-field-requires-2 count-field-requires-3 same-length returns)
+    (tie.spec count-field-requires count-field-requires-2 count-field-requires-3 (λ c. search needs) returns)

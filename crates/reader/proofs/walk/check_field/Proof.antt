@@ -5,20 +5,8 @@ use borrow.Author.Needs.{needs}
 use Rattle.reader.proofs.walk.check_field.Statement.{statement}
 use Rattle.reader.proofs.walk.check_field.Tie as tie
 
-enum-known-field : tie.Need-enum-known-field
-enum-known-field c = search needs
-
 returns : tie.Need-returns
 returns c = none-checked (now (c .before .before .before .args .table)) (now (c .before .before .before .args .index)) (c .before .before .before .args .at) (c .before .before .before .args .field) (c .match .keys2)
-
-offset-at-requires : tie.Need-offset-at-requires
-offset-at-requires c κs = search needs
-
-sort-at-requires : tie.Need-sort-at-requires
-sort-at-requires c κs = search needs
-
-check-sort-requires : tie.Need-check-sort-requires
-check-sort-requires c κs = search needs
 
 returns-2 : tie.Need-returns-2
 returns-2 c =
@@ -35,9 +23,9 @@ pub check-field-spec : {M : Type 1} → statement M
 check-field-spec =
     tie.close
     (tie.spec
-    enum-known-field
+    (λ c. search needs)
     returns
-    offset-at-requires
-    sort-at-requires
-    check-sort-requires
+    (λ c κs. search needs)
+    (λ c κs. search needs)
+    (λ c κs. search needs)
     returns-2)

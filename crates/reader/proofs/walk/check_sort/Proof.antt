@@ -10,28 +10,13 @@ use Rattle.reader.proofs.walk.check_sort.Tie as tie
 enum-told : tie.Need-enum-told
 enum-told c = search needs
 
-enum-told-2 : tie.Need-enum-told-2
-enum-told-2 c = search needs
-
 returns : tie.Need-returns
 unfolding checkedAs check sameSort
 returns c = rw (c .before .enum-told .given .1, not-numeric (c .before .before .before .args .sort) (c .match2 .keys2))
 
-enum-told-3 : tie.Need-enum-told-3
-enum-told-3 c = search needs
-
-enum-told-4 : tie.Need-enum-told-4
-enum-told-4 c = search needs
-
 returns-2 : tie.Need-returns-2
 unfolding checkedAs check sameSort
 returns-2 c = rw (c .before .enum-told3 .given .1, not-truth (c .before .before .before .args .sort) (c .match3 .keys2))
-
-enum-told-5 : tie.Need-enum-told-5
-enum-told-5 c = search needs
-
-enum-told-6 : tie.Need-enum-told-6
-enum-told-6 c = search needs
 
 returns-3 : tie.Need-returns-3
 unfolding checkedAs check sameSort
@@ -54,13 +39,13 @@ check-sort-spec =
     tie.close
     (tie.spec
     enum-told
-    enum-told-2
+    (λ c. search needs)
     returns
-    enum-told-3
-    enum-told-4
+    (λ c. search needs)
+    (λ c. search needs)
     returns-2
-    enum-told-5
-    enum-told-6
+    (λ c. search needs)
+    (λ c. search needs)
     returns-3
     returns-4
     returns-5

@@ -10,17 +10,8 @@ use borrow.Author.Needs.{needs}
 use Rattle.reader.proofs.walk.read_node.Statement.{statement}
 use Rattle.reader.proofs.walk.read_node.Tie as tie
 
-decoded-at-requires : tie.Need-decoded-at-requires
-decoded-at-requires c κs = search needs
-
-enum-known-node : tie.Need-enum-known-node
-enum-known-node c = search needs
-
 enum-told : tie.Need-enum-told
 enum-told c = search needs
-
-refuse-kind-requires : tie.Need-refuse-kind-requires
-refuse-kind-requires c κs = search needs
 
 returns : tie.Need-returns
 returns c =
@@ -33,14 +24,8 @@ returns c =
     let at = start .args .at in
     unknown-read s index vs arrs n at (c .refuse-kind .result) (sym (c .before .before .before .decoded-at .ensures) ∙ c .before .enum-told .given .1) (c .refuse-kind .ensures)
 
-size-of-requires : tie.Need-size-of-requires
-size-of-requires c κs = search needs
-
 frame-requires : tie.Need-frame-requires
 frame-requires c κs = omega (arith, c .size-of .ensures, head-fits (c .before .before .node .given .0 .0))
-
-enum-known-refusal : tie.Need-enum-known-refusal
-enum-known-refusal c = search needs
 
 returns-2 : tie.Need-returns-2
 returns-2 c =
@@ -54,15 +39,6 @@ returns-2 c =
     let m = c .before .before .before .before .before .before .node .given .0 .0 in
     let d = sym (c .before .before .before .before .before .before .before .before .decoded-at .ensures) ∙ c .before .before .before .before .before .before .node .given .1 in
     frame-refused-read s index vs arrs n at m d (c .before .refusal .given .0 .0) (rw (c .before .before .before .before .size-of .ensures) at (sym (c .before .before .before .frame .ensures) ∙ c .before .refusal .given .1))
-
-enum-told-2 : tie.Need-enum-told-2
-enum-told-2 c = search needs
-
-fields-of-requires : tie.Need-fields-of-requires
-fields-of-requires c κs = search needs
-
-in-range-requires : tie.Need-in-range-requires
-in-range-requires c κs = search needs
 
 returns-3 : tie.Need-returns-3
 returns-3 c =
@@ -78,12 +54,6 @@ returns-3 c =
     range-refused-read s index vs arrs n at m d (rw (c .before .before .before .before .before .before .size-of .ensures) at (sym (c .before .before .before .before .before .frame .ensures) ∙ c .before .before .before .enum-told2 .given .1)) (fieldsOf (c .before .before .fields-of .result)) (c .before .before .fields-of .ensures)
     (sym (c .before .in-range .ensures) ∙ not-true (c .before .in-range .result) (c .if1 .taken))
 
-check-fields-requires : tie.Need-check-fields-requires
-check-fields-requires c κs = search needs
-
-enum-known-refusal-2 : tie.Need-enum-known-refusal-2
-enum-known-refusal-2 c = search needs
-
 returns-4 : tie.Need-returns-4
 returns-4 c =
     let start = c .before .before .before .before .before .before .before .before .before .before .before .before .before .before .before .before .before in
@@ -98,9 +68,6 @@ returns-4 c =
     sort-refused-read s index vs arrs n at m d (rw (c .before .before .before .before .before .before .before .before .before .before .size-of .ensures) at (sym (c .before .before .before .before .before .before .before .before .before .frame .ensures) ∙ c .before .before .before .before .before .before .before .enum-told2 .given .1)) (fieldsOf (c .before .before .before .before .before .before .fields-of .result)) (c .before .before .before .before .before .before .fields-of .ensures)
     (sym (c .before .before .before .before .before .in-range .ensures) ∙ not-false (c .before .before .before .before .before .in-range .result) (c .before .before .before .before .if1 .left))
     (c .before .refusal2 .given .0 .0) (rw (c .before .refusal2 .given .1) at (c .before .before .before .check-fields .ensures))
-
-enum-told-3 : tie.Need-enum-told-3
-enum-told-3 c = search needs
 
 returns-5 : tie.Need-returns-5
 returns-5 c =
@@ -121,21 +88,21 @@ pub read-node-spec : {M : Type 1} → statement M
 read-node-spec =
     tie.close
     (tie.spec
-    decoded-at-requires
-    enum-known-node
+    (λ c κs. search needs)
+    (λ c. search needs)
     enum-told
-    refuse-kind-requires
+    (λ c κs. search needs)
     returns
-    size-of-requires
+    (λ c κs. search needs)
     frame-requires
-    enum-known-refusal
+    (λ c. search needs)
     returns-2
-    enum-told-2
-    fields-of-requires
-    in-range-requires
+    (λ c. search needs)
+    (λ c κs. search needs)
+    (λ c κs. search needs)
     returns-3
-    check-fields-requires
-    enum-known-refusal-2
+    (λ c κs. search needs)
+    (λ c. search needs)
     returns-4
-    enum-told-3
+    (λ c. search needs)
     returns-5)
