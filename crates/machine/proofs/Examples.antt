@@ -5,7 +5,7 @@ use mathlib.Core.Path.{_≡_, refl}
 use mathlib.Core.List.{[], _∷_}
 use Rattle.awhile.specs.Language.{constant, number, Com, skip, sequence, if, read}
 use Rattle.machine.specs.Observations.{branch, readAt}
-use Rattle.machine.specs.Runs.{Guide, plain, guessing, endless, Outcome, run, started}
+use Rattle.machine.specs.Runs.{Guide, plain, guessing, endless, bytes, Outcome, run, started}
 use Rattle.machine.specs.declared.Directive.the-variants.{Force, Load}
 use Rattle.machine.specs.declared.End.the-variants.{Finished, Stuck}
 use Rattle.machine.proofs.Open.{opened}
@@ -40,3 +40,8 @@ pub load-in-bounds-stuck :
     outcome (if 3 (constant false) (read 1 0 0 (number 1)) (skip 2)) (guessing (Force ∷ Load 0 0 ∷ [])) .end ≡ Stuck
 unfolding opened
 load-in-bounds-stuck = refl
+
+-- `x0:=a0[2]` without room for its observation: the index is not below the cell count, and stuck is tested before full
+pub stuck-before-full : run {Note = ℕ} (2 ∷ []) (bytes 0) 9 (started (read 0 0 0 (number 2)) (0 ∷ []) (5 ∷ 6 ∷ []) plain) .end ≡ Stuck
+unfolding opened
+stuck-before-full = refl
