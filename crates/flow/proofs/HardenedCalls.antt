@@ -19,7 +19,7 @@ use Rattle.awhile.specs.declared.Refusal.the-variants.{TooManyNodes, NoFreeVari
 use Rattle.analysis.specs.Conditions.{Sheetable}
 use Rattle.masks.specs.Hardening.{hardenedTable, maxHardened}
 use Rattle.hardener.specs.Output.{Measurable, Measured, Writable}
-use Rattle.hardener.specs.declared.Size.{Size}
+use Rattle.copier.specs.declared.Size.{Size}
 use Rattle.flow.specs.Answers.{answered, refusalNumbers}
 use Rattle.flow.specs.Writes.{HardenReady, HasHardened}
 use Rattle.flow.specs.Promises.{HardenedInto, Hardens}

@@ -10,10 +10,10 @@ use Rattle.awhile.specs.Tables.{maxNodes}
 use Rattle.labels.specs.Annotation.{Entry}
 use Rattle.masks.specs.Decisions.{Decision, decision, decide}
 use Rattle.masks.specs.Hardening.{Origin, maskedCondition, zeroIfGuessing, maskedIndex, flagIfTrue, flagIfFalse, maskValueOf, harden}
-use Rattle.hardener.specs.InMemory.{hardenedIn, flagUpdate, testIn, sideIn, ifIn, loopIn, whileIn}
-use Rattle.hardener.specs.Sizes.{bytesOfA, bytesOfB, bytesOf, Sized, Few}
-use Rattle.hardener.specs.declared.Size.{Size}
-use Rattle.hardener.proofs.SizeSums.{Short}
+use Rattle.masking.specs.InMemory.{hardenedIn, flagUpdate, testIn, sideIn, ifIn, loopIn, whileIn}
+use Rattle.copier.specs.Sizes.{bytesOfA, bytesOfB, bytesOf, Sized, Few}
+use Rattle.copier.specs.declared.Size.{Size}
+use Rattle.copier.proofs.SizeSums.{Short}
 
 -- so many nodes and bytes are so many
 pub record SameSize (nodes bytes trueNodes trueBytes : ℕ) : Type 0 where

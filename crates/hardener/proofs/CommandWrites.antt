@@ -17,10 +17,10 @@ use Rattle.labels.specs.Sheet.{entryOf}
 use Rattle.awhile.proofs.Notes.{note-mapped}
 use Rattle.masks.specs.Decisions.{decision, decide}
 use Rattle.masks.specs.Hardening.{Origin, maskedCondition, maskedIndex, harden}
-use Rattle.hardener.specs.InMemory.{annotatedIn, hardenedIn, flagUpdate, testIn, sideIn, ifIn, loopIn, whileIn}
-use Rattle.hardener.specs.Sizes.{bytesOf}
-use Rattle.hardener.specs.Written.{Room, Wrote}
-use Rattle.hardener.specs.declared.Size.{Size}
+use Rattle.masking.specs.InMemory.{annotatedIn, hardenedIn, flagUpdate, testIn, sideIn, ifIn, loopIn, whileIn}
+use Rattle.copier.specs.Sizes.{bytesOf}
+use Rattle.copier.specs.Written.{Room, Wrote}
+use Rattle.copier.specs.declared.Size.{Size}
 
 module _ (table vs arrs : List ℕ) (f n : ℕ) where
   pub in-skip : commandIn table n ≡ skip n → hardenedIn table vs arrs f n ≡ skip (some n)

@@ -28,16 +28,16 @@ use Rattle.labels.specs.Sheet.{annotated}
 use Rattle.awhile.proofs.Counts.{count-at}
 use Rattle.masks.specs.Decisions.{decide}
 use Rattle.masks.specs.Hardening.{harden, hardenedProgram, tableOfHardened, hardenedTable}
-use Rattle.hardener.specs.InMemory.{annotatedIn, hardenedIn, Hardenable}
+use Rattle.masking.specs.InMemory.{annotatedIn, hardenedIn, Hardenable}
 use Rattle.hardener.specs.Output.{Measurable, Measured, Writable, WroteTable}
-use Rattle.hardener.specs.Sizes.{bytesOf, Sized}
-use Rattle.hardener.specs.Written.{Room, Wrote}
-use Rattle.hardener.specs.declared.Size.{Size}
-use Rattle.hardener.specs.Records.{recordBytes}
-use Rattle.hardener.specs.declared.Record.the-variants.{One}
-use Rattle.hardener.proofs.Lengths.{counted-C}
-use Rattle.hardener.proofs.Parts.{sets-rest}
-use Rattle.hardener.proofs.Writers.{sizeIs, restOf, withRest}
+use Rattle.copier.specs.Sizes.{bytesOf, Sized}
+use Rattle.copier.specs.Written.{Room, Wrote}
+use Rattle.copier.specs.declared.Size.{Size}
+use Rattle.copier.specs.Records.{recordBytes}
+use Rattle.copier.specs.declared.Record.the-variants.{One}
+use Rattle.copier.proofs.Lengths.{counted-C}
+use Rattle.copier.proofs.Parts.{sets-rest}
+use Rattle.copier.proofs.Writers.{sizeIs, restOf, withRest}
 use Rattle.awhile.proofs.Size.{root-size}
 use Rattle.masks.proofs.Growth.{hardened-size, nodesOf-mapped, decide-large}
 use Rattle.hardener.proofs.CommandSizes.{any-flag, decide-nodes}

@@ -1,6 +1,2 @@
--- What writing a hardened table in memory requires and leaves.
-pub mod Records
-pub mod Written
-pub mod Sizes
-pub mod InMemory
+-- What writing a hardened table requires and leaves.
 pub mod Output

@@ -10,7 +10,7 @@ use Rattle.awhile.specs.Tables.{maxNodes}
 use Rattle.awhile.specs.declared.Labelling.{Labelling}
 use Rattle.analysis.specs.Conditions.{Sheetable}
 use Rattle.masks.specs.Hardening.{hardenedProgram, hardenedTable, maxHardened}
-use Rattle.hardener.specs.declared.Size.{Size}
+use Rattle.copier.specs.declared.Size.{Size}
 
 -- the numbers of a table that was read
 pub record Numbers (table : List ℕ) (variables arrays root : ℕ) (labels : Labelling) : Type 0 where

@@ -1,19 +1,19 @@
 // Hardened commands, each written at the front of what is left of the output. A command is hardened from its parts, whose numbers are lower.
-use crate::Pair;
-use crate::Size;
-use crate::accesses::append_sequence;
-use crate::accesses::harden_read;
-use crate::accesses::harden_write;
-use crate::copies::both;
-use crate::copies::copy_numeric;
-use crate::copies::last;
-use crate::deciding::mask_condition;
-use crate::deciding::mask_index;
-use crate::deciding::mask_value;
-use crate::masked::copy_condition;
-use crate::masked::put_flag_update;
-use crate::records::append;
 use awhile::Node;
+use copier::Pair;
+use copier::Size;
+use copier::copies::both;
+use copier::copies::copy_numeric;
+use copier::copies::last;
+use copier::records::append;
+use masking::accesses::append_sequence;
+use masking::accesses::harden_read;
+use masking::accesses::harden_write;
+use masking::deciding::mask_condition;
+use masking::deciding::mask_index;
+use masking::deciding::mask_value;
+use masking::masked::copy_condition;
+use masking::masked::put_flag_update;
 use reader::lookup::command_at;
 ghost use Prim.Native.Nat.{_+_};
 ghost use mathlib.Core.Bool.{true, false};
@@ -21,9 +21,9 @@ ghost use mathlib.Core.Option.{none};
 ghost use Rattle.awhile.specs.Encoding.{nodesOf, writeC};
 ghost use Rattle.awhile.specs.declared.Sort.the-variants.{Truth};
 ghost use Rattle.analysis.specs.Conditions.{OfSort};
-ghost use Rattle.hardener.specs.InMemory.{hardenedIn, sideIn, ifIn, loopIn, whileIn, Hardenable};
-ghost use Rattle.hardener.specs.Sizes.{bytesOf};
-ghost use Rattle.hardener.specs.Written.{Room, Wrote, WroteTwo};
+ghost use Rattle.masking.specs.InMemory.{hardenedIn, sideIn, ifIn, loopIn, whileIn, Hardenable};
+ghost use Rattle.copier.specs.Sizes.{bytesOf};
+ghost use Rattle.copier.specs.Written.{Room, Wrote, WroteTwo};
 
 // Hardens a command.
 pub fn harden_command(

@@ -1,12 +1,12 @@
 // The hardened table: its own header, the labels and arrays as they were, then the hardened nodes.
-use crate::Record;
-use crate::Size;
 use crate::commands::harden_command;
-use crate::records::put_record;
 use crate::totals::harden_size;
 use awhile::Labelling;
 use bytes_le::get;
 use bytes_le::put;
+use copier::Record;
+use copier::Size;
+use copier::records::put_record;
 ghost use Prim.Native.Nat.{_+_, _*_, _^_, _≤_, _<_};
 ghost use mathlib.Core.List.{flatMap};
 ghost use mathlib.Core.Path.{_≡_};

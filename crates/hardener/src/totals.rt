@@ -1,20 +1,20 @@
 // How much a hardened command takes: so many nodes, in so many bytes.
-use crate::Size;
-use crate::deciding::mask_condition;
-use crate::deciding::mask_index;
-use crate::deciding::mask_value;
-use crate::sizes::numeric_size;
-use crate::sizes::over_one;
-use crate::sizes::over_two;
-use crate::sizes::truth_size;
 use awhile::Node;
+use copier::Size;
+use copier::sizes::numeric_size;
+use copier::sizes::over_one;
+use copier::sizes::over_two;
+use copier::sizes::truth_size;
+use masking::deciding::mask_condition;
+use masking::deciding::mask_index;
+use masking::deciding::mask_value;
 use reader::lookup::command_at;
 ghost use Prim.Native.Nat.{_+_, _*_, _≤_};
 ghost use mathlib.Core.Bool.{cond};
 ghost use Rattle.awhile.specs.Encoding.{nodesOf};
 ghost use Rattle.awhile.specs.Tables.{maxNodes};
-ghost use Rattle.hardener.specs.InMemory.{hardenedIn, Hardenable};
-ghost use Rattle.hardener.specs.Sizes.{bytesOf, Sized, Few};
+ghost use Rattle.masking.specs.InMemory.{hardenedIn, Hardenable};
+ghost use Rattle.copier.specs.Sizes.{bytesOf, Sized, Few};
 
 // A condition, with (flag = 0) and .. where it is masked.
 fn test_size(part: Size, mask: bool) -> Size

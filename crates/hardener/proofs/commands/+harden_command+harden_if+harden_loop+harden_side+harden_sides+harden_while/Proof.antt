@@ -15,13 +15,13 @@ use Rattle.awhile.specs.declared.Node.the-variants.{Assign, Sequence, If, While
 use Rattle.reader.proofs.Index.{Parts, indexed-parts, indexed-note}
 use Rattle.analysis.proofs.ExpressionLabels.{child-of-sort}
 use Rattle.masks.specs.Hardening.{maskedCondition, harden}
-use Rattle.hardener.specs.InMemory.{hardenedIn, flagUpdate, testIn, sideIn, ifIn, loopIn, whileIn}
-use Rattle.hardener.specs.Sizes.{bytesOf}
-use Rattle.hardener.proofs.Lengths.{counted-A, counted-B, counted-C, some-A, some-B, some-C, bytes-B, bytes-C}
+use Rattle.masking.specs.InMemory.{hardenedIn, flagUpdate, testIn, sideIn, ifIn, loopIn, whileIn}
+use Rattle.copier.specs.Sizes.{bytesOf}
+use Rattle.copier.proofs.Lengths.{counted-A, counted-B, counted-C, some-A, some-B, some-C, bytes-B, bytes-C}
 use Rattle.awhile.proofs.Unnamed.{never-command}
-use Rattle.hardener.proofs.Writers.{wrote-sized, wrote-as, wrote-node, room-first, room-rest, rest-inside, room-parent, room-leaf}
-use Rattle.hardener.proofs.Joins.{two-few, two-room, two-parent, two-lists, three-sized, three-room, three-parent, both-of, one-parent, one-last}
-use Rattle.hardener.proofs.AccessWrites.{wrote-C, room-C}
+use Rattle.copier.proofs.Writers.{wrote-sized, wrote-as, wrote-node, room-first, room-rest, rest-inside, room-parent, room-leaf}
+use Rattle.copier.proofs.Joins.{two-few, two-room, two-parent, two-lists, three-sized, three-room, three-parent, both-of, one-parent, one-last}
+use Rattle.masking.proofs.AccessWrites.{wrote-C, room-C}
 use Rattle.hardener.proofs.CommandWrites.{in-skip, in-assign, in-sequence, in-if, in-while, in-read, in-write, read-numbered, read-room-numbered}
 use Rattle.hardener.proofs.CommandWrites.{below-four, pair-below-four}
 use borrow.Author.Needs.{needs}
@@ -47,18 +47,18 @@ use Rattle.hardener.proofs.commands.harden_while.Reads as harden-while
 use Rattle.hardener.proofs.commands.harden_while.Kinds as harden-while-kinds
 use Rattle.hardener.proofs.commands.+harden_command+harden_if+harden_loop+harden_side+harden_sides+harden_while.Lts-harden_while as harden-while-lts
 use Rattle.reader.proofs.lookup.command_at.Reads as command-at-reads
-use Rattle.hardener.proofs.accesses.append_sequence.Reads as append-sequence-reads
-use Rattle.hardener.proofs.accesses.harden_read.Reads as harden-read-reads
-use Rattle.hardener.proofs.accesses.harden_write.Reads as harden-write-reads
-use Rattle.hardener.proofs.copies.both.Reads as both-reads
-use Rattle.hardener.proofs.copies.copy_numeric.Reads as copy-numeric-reads
-use Rattle.hardener.proofs.copies.last.Reads as last-reads
-use Rattle.hardener.proofs.deciding.mask_condition.Reads as mask-condition-reads
-use Rattle.hardener.proofs.deciding.mask_index.Reads as mask-index-reads
-use Rattle.hardener.proofs.deciding.mask_value.Reads as mask-value-reads
-use Rattle.hardener.proofs.masked.copy_condition.Reads as copy-condition-reads
-use Rattle.hardener.proofs.masked.put_flag_update.Reads as put-flag-update-reads
-use Rattle.hardener.proofs.records.append.Reads as append-reads
+use Rattle.masking.proofs.accesses.append_sequence.Reads as append-sequence-reads
+use Rattle.masking.proofs.accesses.harden_read.Reads as harden-read-reads
+use Rattle.masking.proofs.accesses.harden_write.Reads as harden-write-reads
+use Rattle.copier.proofs.copies.both.Reads as both-reads
+use Rattle.copier.proofs.copies.copy_numeric.Reads as copy-numeric-reads
+use Rattle.copier.proofs.copies.last.Reads as last-reads
+use Rattle.masking.proofs.deciding.mask_condition.Reads as mask-condition-reads
+use Rattle.masking.proofs.deciding.mask_index.Reads as mask-index-reads
+use Rattle.masking.proofs.deciding.mask_value.Reads as mask-value-reads
+use Rattle.masking.proofs.masked.copy_condition.Reads as copy-condition-reads
+use Rattle.masking.proofs.masked.put_flag_update.Reads as put-flag-update-reads
+use Rattle.copier.proofs.records.append.Reads as append-reads
 use Rattle.hardener.proofs.commands.+harden_command+harden_if+harden_loop+harden_side+harden_sides+harden_while.{
   statement,
 }

@@ -2,8 +2,8 @@
 use native.Mathlib.Omega.{arith}
 use denote.Ref.{now}
 use Rattle.bytes_le.proofs.Numbers.{slice-bytes}
-use Rattle.hardener.specs.InMemory.{hardenedIn}
-use Rattle.hardener.proofs.Lengths.{bytes-C}
+use Rattle.masking.specs.InMemory.{hardenedIn}
+use Rattle.copier.proofs.Lengths.{bytes-C}
 use Rattle.hardener.proofs.TableWrites.{measured-hardenable, measured-few, measured-sized, measured-arrays}
 use Rattle.hardener.proofs.tables.measure_hardened.Statement.{statement}
 use Rattle.hardener.proofs.tables.measure_hardened.Tie as tie

@@ -5,8 +5,8 @@ use mathlib.Core.Path.{ap, _∙_}
 use denote.Ref.{now}
 use Rattle.bytes_le.proofs.Numbers.{slice-bytes}
 use Rattle.awhile.specs.Encoding.{headerBytes, labelsBytes, countBytes}
-use Rattle.hardener.proofs.Writers.{wrote-sized}
-use Rattle.hardener.proofs.Lengths.{counted-C}
+use Rattle.copier.proofs.Writers.{wrote-sized}
+use Rattle.copier.proofs.Lengths.{counted-C}
 use Rattle.hardener.proofs.TableWrites.{whole-fits, few-arrays, few-variables, mask-fits, root-hardenable, nodes-room, whole-written}
 use borrow.Author.Needs.{needs}
 use Rattle.hardener.proofs.tables.write_hardened.Statement.{statement}

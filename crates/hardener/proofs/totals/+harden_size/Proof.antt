@@ -12,10 +12,10 @@ use Rattle.awhile.specs.declared.Node.{Node}
 use Rattle.reader.proofs.Index.{Parts, indexed-parts, indexed-note}
 use Rattle.analysis.proofs.ExpressionLabels.{child-of-sort}
 use Rattle.masks.specs.Hardening.{maskedCondition, zeroIfGuessing, maskedIndex, harden}
-use Rattle.hardener.specs.InMemory.{hardenedIn, testIn, sideIn, ifIn, loopIn, whileIn}
-use Rattle.hardener.specs.Sizes.{bytesOf}
-use Rattle.hardener.proofs.SizeSums.{few-one, few-two, sized-one, sized-two}
-use Rattle.hardener.proofs.Lengths.{bytes-A, bytes-B, bytes-C}
+use Rattle.masking.specs.InMemory.{hardenedIn, testIn, sideIn, ifIn, loopIn, whileIn}
+use Rattle.copier.specs.Sizes.{bytesOf}
+use Rattle.copier.proofs.SizeSums.{few-one, few-two, sized-one, sized-two}
+use Rattle.copier.proofs.Lengths.{bytes-A, bytes-B, bytes-C}
 use Rattle.awhile.proofs.Unnamed.{never-command}
 use Rattle.hardener.proofs.CommandWrites.{in-skip, in-assign, in-sequence, in-if, in-while, in-read, in-write}
 use Rattle.hardener.proofs.CommandSizes.{few-same, sized-same, same-test, same-place, same-read, same-if, same-while, sized-C, read-index, mask-nodes-A, mask-nodes-B}
@@ -27,13 +27,13 @@ use Rattle.hardener.proofs.totals.harden_size.Reads as harden-size
 use Rattle.hardener.proofs.totals.harden_size.Kinds as harden-size-kinds
 use Rattle.hardener.proofs.totals.+harden_size.Lts-harden_size as harden-size-lts
 use Rattle.reader.proofs.lookup.command_at.Reads as command-at-reads
-use Rattle.hardener.proofs.deciding.mask_condition.Reads as mask-condition-reads
-use Rattle.hardener.proofs.deciding.mask_index.Reads as mask-index-reads
-use Rattle.hardener.proofs.deciding.mask_value.Reads as mask-value-reads
-use Rattle.hardener.proofs.sizes.numeric_size.Reads as numeric-size-reads
-use Rattle.hardener.proofs.sizes.over_one.Reads as over-one-reads
-use Rattle.hardener.proofs.sizes.over_two.Reads as over-two-reads
-use Rattle.hardener.proofs.sizes.truth_size.Reads as truth-size-reads
+use Rattle.masking.proofs.deciding.mask_condition.Reads as mask-condition-reads
+use Rattle.masking.proofs.deciding.mask_index.Reads as mask-index-reads
+use Rattle.masking.proofs.deciding.mask_value.Reads as mask-value-reads
+use Rattle.copier.proofs.sizes.numeric_size.Reads as numeric-size-reads
+use Rattle.copier.proofs.sizes.over_one.Reads as over-one-reads
+use Rattle.copier.proofs.sizes.over_two.Reads as over-two-reads
+use Rattle.copier.proofs.sizes.truth_size.Reads as truth-size-reads
 use Rattle.hardener.proofs.totals.if_size.Reads as if-size-reads
 use Rattle.hardener.proofs.totals.place_size.Reads as place-size-reads
 use Rattle.hardener.proofs.totals.read_size.Reads as read-size-reads

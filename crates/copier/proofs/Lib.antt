@@ -1,0 +1,9 @@
+-- Laws for sizes of records and for writing one part behind another.
+pub mod NodeRecords
+pub mod Parts
+pub mod SizeSums
+pub mod Lengths
+pub mod Descents
+pub mod Writers
+pub mod Joins
+pub mod ExpressionWrites

@@ -1,0 +1,4 @@
+-- What copying expressions requires and leaves.
+pub mod Records
+pub mod Written
+pub mod Sizes

@@ -1,0 +1,110 @@
+-- Masks by their decisions, and the nodes that the added tests and updates are written as.
+use Prim.Native.Nat.{ℕ, _+_, _-_}
+use native.Mathlib.Omega.{arith}
+use mathlib.Core.Bool.{Bool, true, false, cond, _||_}
+use mathlib.Core.Bool.{not as negated}
+use mathlib.Core.List.{List, [], _∷_, _++_, append-assoc}
+use mathlib.Core.Path.{_≡_, refl, ap, _∙_}
+use Rattle.awhile.specs.Language.{AExp, number, variable, choice, BExp, equal, and}
+use Rattle.awhile.specs.Encoding.{nodesOfA, nodesOfB, nodesOf, binary, ternary, writeA, writeB, writeC}
+use Rattle.awhile.specs.Lists.{sum}
+use Rattle.awhile.specs.Nodes.{form, fieldSize, sizeOf}
+use Rattle.awhile.specs.declared.Node.{Node}
+use Rattle.awhile.specs.declared.Node.the-variants.{Number, Variable, Choice, Equal, Assign}
+use Rattle.masks.specs.Hardening.{maskedCondition, zeroIfGuessing, maskedIndex, flagIfTrue, flagIfFalse, maskValueOf}
+use Rattle.masking.specs.InMemory.{flagUpdate, guardNodes}
+use Rattle.copier.specs.Sizes.{bytesOfA, bytesOfB, bytesOf}
+use Rattle.copier.specs.Written.{Room}
+use Rattle.copier.proofs.Lengths.{Counted, counted-node, counted-append, counted-B}
+
+-- ---- a value is masked where index, array and context are public
+module _ (index array context : Bool) where
+  pub index-secret : index ≡ true → false ≡ negated ((index || (array || context)) || index)
+  index-secret e = rw e
+
+  pub array-secret : index ≡ false → array ≡ true → false ≡ negated ((index || (array || context)) || index)
+  array-secret e f = rw (e, f)
+
+  pub both-public : {r : Bool} → index ≡ false → array ≡ false → r ≡ context → negated r ≡ negated ((index || (array || context)) || index)
+  both-public e f g = rw (e, f, g) (or-false context)
+    where
+      or-false : (b : Bool) → negated b ≡ negated (b || false)
+      or-false true = refl
+      or-false false = refl
+
+-- ---- masked and not
+module _ (f : ℕ) (mask : Bool) where
+  pub condition-masked : (b : BExp) → mask ≡ true → maskedCondition f mask b ≡ and (equal (variable f) (number 0)) b
+  unfolding maskedCondition
+  condition-masked b e = rw e
+
+  pub condition-plain : (b : BExp) → mask ≡ false → maskedCondition f mask b ≡ b
+  unfolding maskedCondition
+  condition-plain b e = rw e
+
+  pub index-masked : (i : AExp) → mask ≡ true → maskedIndex f mask i ≡ choice (equal (variable f) (number 1)) (number 0) i
+  unfolding maskedIndex zeroIfGuessing
+  index-masked i e = rw e
+
+  pub index-plain : (i : AExp) → mask ≡ false → maskedIndex f mask i ≡ i
+  unfolding maskedIndex
+  index-plain i e = rw e
+
+-- ---- the nodes of a test of the flag
+pub test-nodes : (from f v : ℕ) → Variable f ∷ Number v ∷ Equal from (from + 1) ∷ [] ≡ writeB from (equal (variable f) (number v))
+unfolding writeA writeB binary nodesOfA
+test-nodes from f v =
+    let left : from + 1 - 1 ≡ from = omega arith in
+    let right : from + 1 + 1 - 1 ≡ from + 1 = omega arith in
+    rw (left, right)
+
+-- ---- the nodes of (f = 1) ? 0 : e
+pub counted-guard : (from f : ℕ) → Counted (guardNodes from f) 4 30
+unfolding guardNodes nodesOfB bytesOfB nodesOfA bytesOfA sizeOf form fieldSize sum
+counted-guard from f = counted-append (counted-B from (equal (variable f) (number 1))) (counted-node (Number 0))
+
+pub index-nodes : (from f : ℕ) (i : AExp)
+    → guardNodes from f ++ (writeA (from + 4) i ++ (binary (λ l r. Choice (from + 2) (from + 3) r) from 4 (nodesOfA i) ∷ []))
+    ≡ writeA from (choice (equal (variable f) (number 1)) (number 0) i)
+unfolding guardNodes writeA writeB binary ternary nodesOfA nodesOfB
+index-nodes from f i =
+    let a : from + 3 + 1 ≡ from + 4 = omega arith in
+    let b : from + 3 - 1 ≡ from + 2 = omega arith in
+    let c : from + 3 + 1 - 1 ≡ from + 3 = omega arith in
+    rw (b, c, a)
+
+pub value-nodes : (from f x : ℕ)
+    → ((guardNodes from f ++ (Variable x ∷ [])) ++ (Choice (from + 2) (from + 3) (from + 4) ∷ [])) ++ (Assign x (from + 5) ∷ [])
+    ≡ writeC from (maskValueOf f x)
+unfolding guardNodes maskValueOf zeroIfGuessing writeA writeB writeC binary ternary nodesOfA nodesOfB
+value-nodes from f x =
+    let b : from + 3 - 1 ≡ from + 2 = omega arith in
+    let c : from + 3 + 1 - 1 ≡ from + 3 = omega arith in
+    let d : from + 3 + 1 + 1 - 1 ≡ from + 4 = omega arith in
+    let e : from + 6 - 1 ≡ from + 5 = omega arith in
+    rw (b, c, d, e)
+
+-- ---- the flag's update
+-- the flag where it is kept, and 1 where it is not
+abbrev pub keptNode : Bool → (f : ℕ) → Node
+keptNode kept f = cond kept (Variable f) (Number 1)
+
+pub flag-room : (taken : Bool) (f from : ℕ) (b : BExp) {l : List ℕ} → Room from (nodesOf (flagUpdate f taken b)) (bytesOf (flagUpdate f taken b)) l
+    → Room from (nodesOfB b + 4) (bytesOfB b + sizeOf (keptNode taken f) + sizeOf (keptNode (negated taken) f) + 18) l
+unfolding flagUpdate flagIfTrue flagIfFalse nodesOf bytesOf nodesOfA bytesOfA sizeOf form fieldSize sum
+flag-room true f from b r = record { numbers = omega (arith, r .numbers); fits = omega (arith, r .fits) }
+flag-room false f from b r = record { numbers = omega (arith, r .numbers); fits = omega (arith, r .fits) }
+
+pub flag-nodes : (taken : Bool) (from f : ℕ) (b : BExp) {i j k v : ℕ} → i ≡ from + nodesOfB b - 1 → j ≡ from + (nodesOfB b + 1) - 1
+    → k ≡ from + (nodesOfB b + 1 + 1) - 1 → v ≡ from + (nodesOfB b + 1 + 1 + 1) - 1
+    → (((writeB from b ++ (keptNode taken f ∷ [])) ++ (keptNode (negated taken) f ∷ [])) ++ (Choice i j k ∷ [])) ++ (Assign f v ∷ [])
+    ≡ writeC from (flagUpdate f taken b)
+unfolding flagUpdate flagIfTrue flagIfFalse writeA writeC ternary nodesOfA
+flag-nodes true from f b p q r s =
+    let q′ : from + (nodesOfB b + 1) - 1 ≡ from + nodesOfB b + 1 - 1 = omega arith in
+    let r′ : from + (nodesOfB b + 1 + 1) - 1 ≡ from + nodesOfB b + 1 + 1 - 1 = omega arith in
+    rw (p, q, r, s, q′, r′) (simp append-assoc)
+flag-nodes false from f b p q r s =
+    let q′ : from + (nodesOfB b + 1) - 1 ≡ from + nodesOfB b + 1 - 1 = omega arith in
+    let r′ : from + (nodesOfB b + 1 + 1) - 1 ≡ from + nodesOfB b + 1 + 1 - 1 = omega arith in
+    rw (p, q, r, s, q′, r′) (simp append-assoc)
