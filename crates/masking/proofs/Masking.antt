@@ -58,10 +58,15 @@ test-nodes from f v =
     let right : from + 1 + 1 - 1 ≡ from + 1 = omega arith in
     rw (left, right)
 
+-- they are three, whatever the flag is compared with
+pub counted-test : (from f v : ℕ) → Counted (writeB from (equal (variable f) (number v))) 3 22
+unfolding nodesOfA nodesOfB bytesOfA bytesOfB
+counted-test from f v = counted-B from (equal (variable f) (number v))
+
 -- ---- the nodes of (f = 1) ? 0 : e
 pub counted-guard : (from f : ℕ) → Counted (guardNodes from f) 4 30
-unfolding guardNodes nodesOfB bytesOfB nodesOfA bytesOfA sizeOf form fieldSize sum
-counted-guard from f = counted-append (counted-B from (equal (variable f) (number 1))) (counted-node (Number 0))
+unfolding guardNodes sizeOf form fieldSize sum
+counted-guard from f = counted-append (counted-test from f 1) (counted-node (Number 0))
 
 pub index-nodes : (from f : ℕ) (i : AExp)
     → guardNodes from f ++ (writeA (from + 4) i ++ (binary (λ l r. Choice (from + 2) (from + 3) r) from 4 (nodesOfA i) ∷ []))

@@ -44,6 +44,13 @@ mutual
   truth-withFlag (not b) vs = rw (truth-withFlag b vs)
   truth-withFlag (and b c) vs = rw (truth-withFlag b vs, truth-withFlag c vs)
 
+-- The flag's updates, with any number for the 1: without guessing it does not matter what a wrong guess would set.
+abbrev setUnless : (f : ℕ) → BExp → (v : ℕ) → Com Origin
+setUnless f b v = assign none f (choice b (variable f) (number v))
+
+abbrev setWhere : (f : ℕ) → BExp → (v : ℕ) → Com Origin
+setWhere f b v = assign none f (choice b (number v) (variable f))
+
 module _ (f : ℕ) (vs : List ℕ) (width : length vs ≡ f) where
   pub flag-zero : getD (withFlag vs) f 0 ≡ 0
   flag-zero = getD-at vs 0 [] 0 f width
@@ -69,13 +76,13 @@ module _ (f : ℕ) (vs : List ℕ) (width : length vs ≡ f) where
     unfolding look maskValueOf zeroIfGuessing valueOf truthOf
     value-kept x = rw flag-zero (ap (quiet rest) (set-getD (withFlag vs) x 0))
 
-    flag-kept-true : (b : BExp) → truthOf b (withFlag vs) ≡ true → look (flagIfTrue f b) rest (withFlag vs) ≡ quiet rest (withFlag vs)
-    unfolding look flagIfTrue valueOf
-    flag-kept-true b e = rw e (ap (quiet rest) (set-getD (withFlag vs) f 0))
+    flag-kept-true : (b : BExp) (v : ℕ) → truthOf b (withFlag vs) ≡ true → look (setUnless f b v) rest (withFlag vs) ≡ quiet rest (withFlag vs)
+    unfolding look valueOf
+    flag-kept-true b v e = rw e (ap (quiet rest) (set-getD (withFlag vs) f 0))
 
-    flag-kept-false : (b : BExp) → truthOf b (withFlag vs) ≡ false → look (flagIfFalse f b) rest (withFlag vs) ≡ quiet rest (withFlag vs)
-    unfolding look flagIfFalse valueOf
-    flag-kept-false b e = rw e (ap (quiet rest) (set-getD (withFlag vs) f 0))
+    flag-kept-false : (b : BExp) (v : ℕ) → truthOf b (withFlag vs) ≡ false → look (setWhere f b v) rest (withFlag vs) ≡ quiet rest (withFlag vs)
+    unfolding look valueOf
+    flag-kept-false b v e = rw e (ap (quiet rest) (set-getD (withFlag vs) f 0))
 
 -- a few silent steps that change no variable, and then R
 pub data Silently (vs : List ℕ) (R : List (Com Origin) → Type 0) : List (Com Origin) → Type 0 where
@@ -97,8 +104,8 @@ abbrev indexCopy : (f : ℕ) → Decision → AExp → AExp
 indexCopy f n i = maskedIndex f (n .maskIndex) i
 
 -- a loop's copy, without the flag update after it
-abbrev loopCopy : (f : ℕ) → Decision → BExp → Com Decision → Com Origin
-loopCopy f n b c = while (some (n .node)) (conditionCopy f n b) (sequence none (flagIfTrue f (conditionCopy f n b)) (harden f c))
+abbrev loopCopy : (f : ℕ) → Decision → BExp → (v : ℕ) → Com Decision → Com Origin
+loopCopy f n b v c = while (some (n .node)) (conditionCopy f n b) (sequence none (setUnless f (conditionCopy f n b) v) (harden f c))
 
 -- a hardened pending list: each command hardened, or a loop that is under way with the flag update that comes after it
 pub data Copies (f : ℕ) : List (Com Decision) → List (Com Origin) → Type 0 where
@@ -107,8 +114,8 @@ pub data Copies (f : ℕ) : List (Com Decision) → List (Com Origin) → Type 0
       {c : Com Decision} {cs : List (Com Decision)} {hs : List (Com Origin)} → AssignsBelow f c → Copies f cs hs
       → Copies f (c ∷ cs) (harden f c ∷ hs)
   underway :
-      {n : Decision} {b : BExp} {c : Com Decision} {cs : List (Com Decision)} {hs : List (Com Origin)} → AssignsBelow f c → Copies f cs hs
-      → Copies f (while n b c ∷ cs) (loopCopy f n b c ∷ flagIfFalse f (conditionCopy f n b) ∷ hs)
+      {n : Decision} {b : BExp} {c : Com Decision} {v w : ℕ} {cs : List (Com Decision)} {hs : List (Com Origin)} → AssignsBelow f c → Copies f cs hs
+      → Copies f (while n b c ∷ cs) (loopCopy f n b v c ∷ setWhere f (conditionCopy f n b) w ∷ hs)
 
 -- the hardened program's next step does what the original's does, and its pending list is then, after added commands, a hardened one
 pub data LookCopied (f : ℕ) (vs : List ℕ) : Look Decision → Look Origin → Type 0 where
@@ -135,16 +142,16 @@ pub data Ready (f : ℕ) (vs : List ℕ) : List (Com Decision) → List (Com Ori
 module _ (f : ℕ) (vs : List ℕ) (width : length vs ≡ f) {cs : List (Com Decision)} {hs : List (Com Origin)} (rest : Copies f cs hs) where
   -- right after a branch its condition has the value that was shown, so the added commands keep the flag
   sides-copied :
-      (b : BExp) (c d : Com Decision) → AssignsBelow f c → AssignsBelow f d → (v : Bool) → truthOf b (withFlag vs) ≡ v
+      (b : BExp) (c d : Com Decision) (u w : ℕ) → AssignsBelow f c → AssignsBelow f d → (v : Bool) → truthOf b (withFlag vs) ≡ v
       → Silently
       (withFlag vs)
       (Copies f (cond v (c ∷ cs) (d ∷ cs)))
-      (cond v (sequence none (flagIfTrue f b) (harden f c) ∷ hs) (sequence none (flagIfFalse f b) (harden f d) ∷ hs))
+      (cond v (sequence none (setUnless f b u) (harden f c) ∷ hs) (sequence none (setWhere f b w) (harden f d) ∷ hs))
   unfolding look
-  sides-copied b c d below below′ true e = soon refl (soon (flag-kept-true f vs width _ b e) (now (whole below rest)))
-  sides-copied b c d below below′ false e = soon refl (soon (flag-kept-false f vs width _ b e) (now (whole below′ rest)))
+  sides-copied b c d u w below below′ true e = soon refl (soon (flag-kept-true f vs width _ b u e) (now (whole below rest)))
+  sides-copied b c d u w below below′ false e = soon refl (soon (flag-kept-false f vs width _ b w e) (now (whole below′ rest)))
 
-  module _ (n : Decision) (b : BExp) (c : Com Decision) (below : AssignsBelow f c) where
+  module _ (n : Decision) (b : BExp) (c : Com Decision) (u w : ℕ) (below : AssignsBelow f c) where
     passes-copied :
         (v : Bool) → truthOf (conditionCopy f n b) (withFlag vs) ≡ v
         → Silently
@@ -152,13 +159,13 @@ module _ (f : ℕ) (vs : List ℕ) (width : length vs ≡ f) {cs : List (Com Dec
         (Copies f (cond v (c ∷ while n b c ∷ cs) cs))
         (cond
         v
-        (sequence none (flagIfTrue f (conditionCopy f n b)) (harden f c) ∷ loopCopy f n b c ∷ flagIfFalse f (conditionCopy f n b) ∷ hs)
-        (flagIfFalse f (conditionCopy f n b) ∷ hs))
+        (sequence none (setUnless f (conditionCopy f n b) u) (harden f c) ∷ loopCopy f n b u c ∷ setWhere f (conditionCopy f n b) w ∷ hs)
+        (setWhere f (conditionCopy f n b) w ∷ hs))
     unfolding look
-    passes-copied true e = soon refl (soon (flag-kept-true f vs width _ _ e) (now (whole below (underway below rest))))
-    passes-copied false e = soon (flag-kept-false f vs width _ _ e) (now rest)
+    passes-copied true e = soon refl (soon (flag-kept-true f vs width _ _ u e) (now (whole below (underway below rest))))
+    passes-copied false e = soon (flag-kept-false f vs width _ _ w e) (now rest)
 
-    loop-ready : Ready f vs (while n b c ∷ cs) (loopCopy f n b c ∷ flagIfFalse f (conditionCopy f n b) ∷ hs)
+    loop-ready : Ready f vs (while n b c ∷ cs) (loopCopy f n b u c ∷ setWhere f (conditionCopy f n b) w ∷ hs)
     unfolding look noteOf
     loop-ready =
         let value : truthOf (conditionCopy f n b) (withFlag vs) ≡ truthOf b vs = condition-masked f vs width (n .maskCondition) b in
@@ -189,7 +196,7 @@ module _ (f : ℕ) (vs : List ℕ) (width : length vs ≡ f) {cs : List (Com Dec
 
   -- a command's hardened form comes, after added commands that change nothing, to its copy
   whole-ready : (c : Com Decision) → AssignsBelow f c → Silently (withFlag vs) (Ready f vs (c ∷ cs)) (harden f c ∷ hs)
-  unfolding harden look noteOf
+  unfolding harden flagIfTrue flagIfFalse look noteOf
   whole-ready (skip n) below = now (copied refl (quiets refl width (now rest)))
   whole-ready (assign n x e) below =
       let assigned : set (withFlag vs) x (valueOf e (withFlag vs)) ≡ withFlag (set vs x (valueOf e vs)) =
@@ -199,8 +206,8 @@ module _ (f : ℕ) (vs : List ℕ) (width : length vs ≡ f) {cs : List (Com Dec
   whole-ready (sequence n c d) below = now (copied refl (quiets refl width (now (whole (below .0) (whole (below .1) rest)))))
   whole-ready (if n b c d) below =
       let value : truthOf (conditionCopy f n b) (withFlag vs) ≡ truthOf b vs = condition-masked f vs width (n .maskCondition) b in
-      now (copied refl (forks value (sides-copied (conditionCopy f n b) c d (below .0) (below .1) (truthOf b vs) value)))
-  whole-ready (while n b c) below = soon refl (now (loop-ready n b c below))
+      now (copied refl (forks value (sides-copied (conditionCopy f n b) c d _ _ (below .0) (below .1) (truthOf b vs) value)))
+  whole-ready (while n b c) below = soon refl (now (loop-ready n b c _ _ below))
   whole-ready (read n x a i) below = read-ready n x a i below (n .maskValue)
   whole-ready (write n a i e) below = now (copied refl (puts (index-masked f vs width (n .maskIndex) i) (value-withFlag e vs) (now rest)))
 
@@ -210,4 +217,4 @@ pub copies-ready :
     → Silently (withFlag vs) (Ready f vs cs) hs
 copies-ready f vs width done = now nothing
 copies-ready f vs width (whole {c} below rest) = whole-ready f vs width rest c below
-copies-ready f vs width (underway {n} {b} {c} below rest) = now (loop-ready f vs width rest n b c below)
+copies-ready f vs width (underway {n} {b} {c} {v} {w} below rest) = now (loop-ready f vs width rest n b c v w below)

@@ -13,7 +13,7 @@ use Rattle.awhile.specs.Lists.{all}
 use Rattle.awhile.specs.Refusals.{refused, got, check}
 use Rattle.awhile.specs.Nodes.{Field, word, child, form, sizeOf, sortOf, decodeAt, fieldInRange, inRange, sameSort, fieldSorted, sorted, fieldChildren}
 use Rattle.awhile.specs.Tables.{framed, readNode}
-use Rattle.reader.specs.Reader.{checkedAs, fieldOf, padded, nodeAs, SortAt, Leads, SortsChecked, NodeChecked}
+use Rattle.reader.specs.Reader.{checkedAs, firstRefusal, fieldOf, padded, nodeAs, passedNode, SortAt, Leads, SortsChecked, NodeChecked}
 use Rattle.awhile.proofs.Lists.{all-head, all-tail, all-cons}
 use Rattle.awhile.proofs.Cases.{node-known, node-unknown}
 use Rattle.reader.proofs.Passing.{framed-refused, framed-passed-on}
@@ -75,17 +75,12 @@ no-children (Variable x) h = refl
 no-children (Array a) h = refl
 no-children (Child s n) h = absurd (never-child s n h)
 
--- ---- fields checked one after the other
-module _ (x r : Refusal) (c : Bool) where
-  first-fails : (b : Bool) → Refused x ≡ checkedAs (check (b && true) r (got tt)) → Refused x ≡ checkedAs (check (b && c) r (got tt))
-  unfolding checkedAs check
-  first-fails true e = cc
-  first-fails false e = e
-
-first-passes : (a : Checked) (r : Refusal) (b c : Bool) → Passed ≡ checkedAs (check (b && true) r (got tt)) → a ≡ checkedAs (check c r (got tt)) → a ≡ checkedAs (check (b && c) r (got tt))
-unfolding checkedAs check
-first-passes a r true c e rest = rest
-first-passes a r false c e rest = cc
+-- ---- two checks in their order
+both-checked : (a b : Checked) (r : Refusal) (p q : Bool) → a ≡ checkedAs (check p r (got tt)) → b ≡ checkedAs (check q r (got tt))
+    → firstRefusal a b ≡ checkedAs (check (p && q) r (got tt))
+unfolding checkedAs check firstRefusal
+both-checked a b r true q e f = rw e f
+both-checked a b r false q e f = rw e
 
 module _ (s index : List ℕ) (at : ℕ) where
   -- a field that names no child passes
@@ -105,28 +100,18 @@ module _ (s index : List ℕ) (at : ℕ) where
             rw (and-true, ← same) e;
       }
 
-  module _ (f : Field) (fs : List Field) where
-    -- a field that fails refuses them all
-    pub sorts-refused : (x : Refusal) → SortsChecked s index at (f ∷ []) (Refused x) → SortsChecked s index at (f ∷ fs) (Refused x)
-    unfolding all
-    sorts-refused x h =
-        record {
-          isChecked = λ vs arrs ns leads ranged.
-              let range = fieldInRange vs arrs (length ns) in
-              first-fails x (WrongSort at) (all (fieldSorted ns) fs) (fieldSorted ns f) (h .isChecked vs arrs ns leads (all-cons range f [] (all-head range f fs ranged) refl));
-        }
-
-    -- a field that passes leaves it to the others
-    pub sorts-passed : (a : Checked) → SortsChecked s index at (f ∷ []) Passed → SortsChecked s index at fs a → SortsChecked s index at (f ∷ fs) a
-    unfolding all
-    sorts-passed a h rest =
-        record {
-          isChecked = λ vs arrs ns leads ranged.
-              let range = fieldInRange vs arrs (length ns) in
-              first-passes a (WrongSort at) (fieldSorted ns f) (all (fieldSorted ns) fs)
-              (h .isChecked vs arrs ns leads (all-cons range f [] (all-head range f fs ranged) refl))
-              (rest .isChecked vs arrs ns leads (all-tail range f fs ranged));
-        }
+  -- a field is checked before the others
+  pub sorts-checked : (f : Field) (fs : List Field) (a b : Checked) → SortsChecked s index at (f ∷ []) a → SortsChecked s index at fs b
+      → SortsChecked s index at (f ∷ fs) (firstRefusal a b)
+  unfolding all
+  sorts-checked f fs a b h rest =
+      record {
+        isChecked = λ vs arrs ns leads ranged.
+            let range = fieldInRange vs arrs (length ns) in
+            let one = h .isChecked vs arrs ns leads (all-cons range f [] (all-head range f fs ranged) refl) in
+            both-checked a b (WrongSort at) (fieldSorted ns f) (all (fieldSorted ns) fs) (rw and-true at one)
+            (rest .isChecked vs arrs ns leads (all-tail range f fs ranged));
+      }
 
 -- ---- fields and the words after them
 module _ (test : Field → Bool) (words : test (word 0) ≡ true) where
@@ -144,17 +129,13 @@ padded-children zero fs = refl
 padded-children (suc count) [] = padded-children count []
 padded-children (suc count) (f ∷ fs) = rw (padded-children count fs)
 
--- ---- what a check says of a node
-module _ (m : Node) where
-  fails : (x r : Refusal) (b : Bool) → Refused x ≡ checkedAs (check b r (got tt)) → NodeRefused x ≡ nodeAs (check b r (got m))
-  unfolding checkedAs nodeAs check
-  fails x r true e = cc
-  fails x r false e = cc
-
-  passes : (r : Refusal) (b : Bool) → Passed ≡ checkedAs (check b r (got tt)) → NodeGot m ≡ nodeAs (check b r (got m))
-  unfolding checkedAs nodeAs check
-  passes r true e = refl
-  passes r false e = cc
+-- ---- what two checks say of a node
+node-checked : (m : Node) (a b : Checked) (x y : Refusal) (p q : Bool) → a ≡ checkedAs (check p x (got tt)) → (p ≡ true → b ≡ checkedAs (check q y (got tt)))
+    → passedNode m (firstRefusal a b) ≡ nodeAs (check p x (check q y (got m)))
+unfolding checkedAs nodeAs passedNode firstRefusal check
+node-checked m a b x y true true e f = rw (e, f refl)
+node-checked m a b x y true false e f = rw (e, f refl)
+node-checked m a b x y false q e f = rw e
 
 -- ---- a node's record, read with an index of the nodes before
 module _ (s index : List ℕ) (vs arrs n at : ℕ) where
@@ -191,40 +172,13 @@ module _ (s index : List ℕ) (vs arrs n at : ℕ) where
           ∙ framed-passed-on s at (sizeOf m) _ e
           ∙ rw (counted, range-same, sorts-same before)
 
-      -- a field out of range refuses the record
-      pub range-refused-read : all (fieldInRange vs arrs n) fs ≡ false → NodeChecked s index vs arrs n at (NodeRefused (OutOfRange at))
-      unfolding nodeAs check
-      range-refused-read out =
+      -- ranges come before sorts
+      pub fields-read : (ranges sorts : Checked) → ranges ≡ checkedAs (check (all (fieldInRange vs arrs n) fs) (OutOfRange at) (got tt)) → SortsChecked s index at fs sorts
+          → NodeChecked s index vs arrs n at (passedNode m (firstRefusal ranges sorts))
+      fields-read ranges sorts r h =
           record {
             isRead = λ before counted leads nodes.
-                let refuses : readNode (record { variables = vs; arrays = arrs; nodes = nodes }) s at before ≡ refused (OutOfRange at) = framed-read before counted nodes ∙ rw out in
-                sym (ap nodeAs refuses);
+                node-checked m ranges sorts (OutOfRange at) (WrongSort at) (all (fieldInRange vs arrs n) fs) (all (fieldSorted before) fs) r
+                (λ within. h .isChecked vs arrs before leads (rw counted within))
+                ∙ sym (ap nodeAs (framed-read before counted nodes));
           }
-
-      module _ (within : all (fieldInRange vs arrs n) fs ≡ true) where
-        ranged-read : (before : List Node) → length before ≡ n → (nodes : ℕ)
-            → readNode (record { variables = vs; arrays = arrs; nodes = nodes }) s at before ≡ check (all (fieldSorted before) fs) (WrongSort at) (got m)
-        unfolding check
-        ranged-read before counted nodes = framed-read before counted nodes ∙ rw within
-
-        sorted-as : (a : Checked) → SortsChecked s index at fs a → (before : List Node) → length before ≡ n → Leads s index before
-            → a ≡ checkedAs (check (all (fieldSorted before) fs) (WrongSort at) (got tt))
-        sorted-as a h before counted leads = h .isChecked vs arrs before leads (rw counted within)
-
-        -- a child is of the wrong sort
-        pub sort-refused-read : (x : Refusal) → SortsChecked s index at fs (Refused x) → NodeChecked s index vs arrs n at (NodeRefused x)
-        sort-refused-read x h =
-            record {
-              isRead = λ before counted leads nodes.
-                  fails m x (WrongSort at) (all (fieldSorted before) fs) (sorted-as (Refused x) h before counted leads)
-                  ∙ sym (ap nodeAs (ranged-read before counted nodes));
-            }
-
-        -- the record is a node's
-        pub node-got-read : SortsChecked s index at fs Passed → NodeChecked s index vs arrs n at (NodeGot m)
-        node-got-read h =
-            record {
-              isRead = λ before counted leads nodes.
-                  passes m (WrongSort at) (all (fieldSorted before) fs) (sorted-as Passed h before counted leads)
-                  ∙ sym (ap nodeAs (ranged-read before counted nodes));
-            }

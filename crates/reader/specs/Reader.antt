@@ -41,6 +41,11 @@ unfoldable pub checkedAs : Answer (Unit {0}) → Checked
 checkedAs (refused r) = CheckRefused r
 checkedAs (got w) = Passed
 
+-- of two checks in their order, what the first that refuses says
+unfoldable pub firstRefusal : Checked → Checked → Checked
+firstRefusal (CheckRefused r) second = CheckRefused r
+firstRefusal Passed second = second
+
 -- the header
 unfoldable pub headerAs : Answer Header → HeaderRead
 headerAs (refused r) = HeaderRefused r
@@ -85,6 +90,11 @@ padded (suc count) (f ∷ fs) = f ∷ padded count fs
 unfoldable pub nodeAs : Answer Node → NodeRead
 nodeAs (refused r) = NodeRefused r
 nodeAs (got n) = NodeGot n
+
+-- the node where a check passed
+unfoldable pub passedNode : Node → Checked → NodeRead
+passedNode n (CheckRefused r) = NodeRefused r
+passedNode n Passed = NodeGot n
 
 -- the sort of the node that the record at an offset decodes to
 pub record SortAt (s : List ℕ) (at : ℕ) (r : Sort) : Type 0 where

@@ -4,11 +4,12 @@ ghost use mathlib.Core.Path.{_≡_};
 ghost use mathlib.Core.List.{[], _∷_};
 ghost use lib.ListN.{length, getD};
 ghost use Rattle.awhile.specs.Refusals.{refused, got, check};
-ghost use Rattle.awhile.specs.Nodes.{sameSort};
+ghost use Rattle.awhile.specs.Lists.{all};
+ghost use Rattle.awhile.specs.Nodes.{fieldInRange, sameSort};
 ghost use Rattle.awhile.specs.Tables.{maxArrays, maxNodes, framed};
 ghost use Rattle.reader.specs.Reader.{checkedAs, fieldOf, fieldsOf, SortAt, SortsChecked, NodeChecked, CountsBelow, NodesWalked};
 ghost use Rattle.awhile.specs.declared.Node.the-variants.{Skip};
-ghost use Rattle.awhile.specs.declared.Refusal.the-variants.{WrongSort};
+ghost use Rattle.awhile.specs.declared.Refusal.the-variants.{OutOfRange, WrongSort};
 use crate::checks;
 use crate::checks::Checked;
 use crate::decode;
@@ -95,20 +96,30 @@ fn check_field(table: &[u8], index: &[u16], field: Field, at: usize) -> Checked
     check_sort(sort_at(table, offset_at(index, node)), sort, at)
 }
 
+// The fields name variables, arrays and nodes that there are.
+fn check_ranges(fields: Fields, variables: usize, arrays: usize, n: usize, at: usize) -> Checked
+    ensures { λ r. ⌜ r ≡ checkedAs (check (all (fieldInRange variables arrays n) (fieldsOf fields)) (OutOfRange at) (got tt)) ⌝ }
+{
+    if fields::in_range(fields, variables, arrays, n) {
+        return Checked::Passed;
+    }
+    Checked::Refused {
+        refusal: Refusal::OutOfRange { at },
+    }
+}
+
 // All children that the fields name are of the wanted sorts.
-fn check_fields(table: &[u8], index: &[u16], fields: Fields, at: usize) -> Checked
+fn check_sorts(table: &[u8], index: &[u16], fields: Fields, at: usize) -> Checked
     ensures { λ r. ⌜ SortsChecked (now (table .entry)) (now (index .entry)) at (fieldsOf fields) r ⌝ }
 {
     let first = fields.first;
     let second = fields.second;
     let third = fields.third;
-    if let Checked::Refused { refusal } = check_field(table, index, first, at) {
-        return Checked::Refused { refusal };
-    }
-    if let Checked::Refused { refusal } = check_field(table, index, second, at) {
-        return Checked::Refused { refusal };
-    }
-    check_field(table, index, third, at)
+    let later = checks::first_refusal(
+        check_field(table, index, second, at),
+        check_field(table, index, third, at),
+    );
+    checks::first_refusal(check_field(table, index, first, at), later)
 }
 
 // Why a record of no kind is refused: its head is cut, or it is the wrong record.
@@ -144,12 +155,9 @@ fn read_node(
         return NodeRead::Refused { refusal };
     }
     let fields = fields::fields_of(node);
-    if !fields::in_range(fields, variables, arrays, n) {
-        return NodeRead::Refused {
-            refusal: Refusal::OutOfRange { at },
-        };
-    }
-    if let Checked::Refused { refusal } = check_fields(table, index, fields, at) {
+    let ranges = check_ranges(fields, variables, arrays, n, at);
+    let sorts = check_sorts(table, index, fields, at);
+    if let Checked::Refused { refusal } = checks::first_refusal(ranges, sorts) {
         return NodeRead::Refused { refusal };
     }
     NodeRead::Node { node }

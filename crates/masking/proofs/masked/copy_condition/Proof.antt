@@ -1,19 +1,17 @@
 -- `copy_condition` copies the condition, behind a test of the flag where it is masked.
-use Prim.Native.Nat.{_+_, _≤_}
 use native.Mathlib.Omega.{arith}
 use denote.Ref.{now}
 use Rattle.awhile.specs.Lists.{sum}
 use Rattle.awhile.specs.Nodes.{sizeOf, form, fieldSize}
-use Rattle.awhile.specs.Language.{number, variable, BExp, equal}
-use Rattle.awhile.specs.Encoding.{nodesOfA, nodesOfB, writeB}
+use Rattle.awhile.specs.Encoding.{nodesOfB, writeB}
 use Rattle.reader.specs.Index.{truthIn}
 use Rattle.awhile.specs.declared.Node.the-variants.{And}
-use Rattle.copier.specs.Sizes.{bytesOfA, bytesOfB}
-use Rattle.copier.proofs.Lengths.{counted-B, some-B, bytes-B}
+use Rattle.copier.specs.Sizes.{bytesOfB}
+use Rattle.copier.proofs.Lengths.{counted-B, bytes-B}
 use Rattle.copier.proofs.Writers.{wrote-sized, room-first, room-rest, rest-inside}
 use Rattle.copier.proofs.Joins.{two-few, two-room, two-parent}
 use Rattle.copier.proofs.ExpressionWrites.{wrote-B, room-B}
-use Rattle.masking.proofs.Masking.{condition-masked, condition-plain}
+use Rattle.masking.proofs.Masking.{condition-masked, condition-plain, counted-test}
 use borrow.Author.Needs.{needs}
 use Rattle.masking.proofs.masked.copy_condition.Statement.{statement}
 use Rattle.masking.proofs.masked.copy_condition.Tie as tie
@@ -34,10 +32,8 @@ add-copy-truth c =
     let part = truthIn (now (start .args .table)) (start .args .n) in
     let masked = condition-masked (start .args .flag) (start .args .mask) part (c .before .before .before .before .before .if1 .taken) in
     let room = room-B masked (start .pre .1) in
-    let test : BExp = equal (variable (start .args .flag)) (number 0) in
-    let tested = counted-B (start .args .from) test in
     let first = c .before .before .before .put-test .ensures in
-    omega (arith, room .numbers, wrote-sized first tested .nodesCounted)
+    omega (arith, room .numbers, wrote-sized first (counted-test _ _ _) .nodesCounted)
 
 sub-copy-truth : tie.Need-sub-copy-truth
 unfolding nodesOfB bytesOfB
@@ -46,10 +42,8 @@ sub-copy-truth c =
     let part = truthIn (now (start .args .table)) (start .args .n) in
     let masked = condition-masked (start .args .flag) (start .args .mask) part (c .before .before .before .before .before .if1 .taken) in
     let room = room-B masked (start .pre .1) in
-    let test : BExp = equal (variable (start .args .flag)) (number 0) in
-    let tested = counted-B (start .args .from) test in
     let first = c .before .before .before .put-test .ensures in
-    rest-inside first tested room (omega arith)
+    rest-inside first (counted-test _ _ _) room (omega arith)
 
 part-copy-truth-start : tie.Need-part-copy-truth-start
 unfolding nodesOfB bytesOfB
@@ -58,10 +52,8 @@ part-copy-truth-start c =
     let part = truthIn (now (start .args .table)) (start .args .n) in
     let masked = condition-masked (start .args .flag) (start .args .mask) part (c .before .before .before .before .before .if1 .taken) in
     let room = room-B masked (start .pre .1) in
-    let test : BExp = equal (variable (start .args .flag)) (number 0) in
-    let tested = counted-B (start .args .from) test in
     let first = c .before .before .before .put-test .ensures in
-    rest-inside first tested room (omega arith)
+    rest-inside first (counted-test _ _ _) room (omega arith)
 
 copy-truth-requires : tie.Need-copy-truth-requires
 unfolding nodesOfB bytesOfB
@@ -70,10 +62,8 @@ copy-truth-requires c κs =
     let part = truthIn (now (start .args .table)) (start .args .n) in
     let masked = condition-masked (start .args .flag) (start .args .mask) part (c .before .before .before .before .before .before .if1 .taken) in
     let room = room-B masked (start .pre .1) in
-    let test : BExp = equal (variable (start .args .flag)) (number 0) in
-    let tested = counted-B (start .args .from) test in
     let first = c .before .before .before .before .put-test .ensures in
-    (start .pre .0, room-rest first tested room (omega arith) (omega arith))
+    (start .pre .0, room-rest first (counted-test _ _ _) room (omega arith) (omega arith))
 
 both-requires : tie.Need-both-requires
 unfolding nodesOfB bytesOfB
@@ -82,11 +72,9 @@ both-requires c κs =
     let part = truthIn (now (start .args .table)) (start .args .n) in
     let masked = condition-masked (start .args .flag) (start .args .mask) part (c .before .before .before .before .before .before .before .before .before .if1 .taken) in
     let room = room-B masked (start .pre .1) in
-    let test : BExp = equal (variable (start .args .flag)) (number 0) in
-    let tested = counted-B (start .args .from) test in
     let first = c .before .before .before .before .before .before .before .put-test .ensures in
-    two-few (start .args .from) (λ k. writeB k part) first tested (c .before .before .copy-truth .ensures) (λ k. counted-B k part) room (omega arith)
-    (omega arith) (bytes-B test) (bytes-B part)
+    two-few (start .args .from) (λ k. writeB k part) first (counted-test _ _ _) (c .before .before .copy-truth .ensures) (λ k. counted-B k part) room (omega arith)
+    (omega arith) (record { short = omega arith }) (bytes-B part)
 
 append-requires : tie.Need-append-requires
 unfolding nodesOfB bytesOfB sizeOf form fieldSize sum
@@ -95,10 +83,8 @@ append-requires c κs =
     let part = truthIn (now (start .args .table)) (start .args .n) in
     let masked = condition-masked (start .args .flag) (start .args .mask) part (c .before .before .before .before .before .before .before .before .before .before .before .if1 .taken) in
     let room = room-B masked (start .pre .1) in
-    let test : BExp = equal (variable (start .args .flag)) (number 0) in
-    let tested = counted-B (start .args .from) test in
     let first = c .before .before .before .before .before .before .before .before .before .put-test .ensures in
-    two-room (start .args .from) (λ k. writeB k part) first tested (c .before .before .before .before .copy-truth .ensures) (λ k. counted-B k part) (c .before .both .ensures) 8 room
+    two-room (start .args .from) (λ k. writeB k part) first (counted-test _ _ _) (c .before .before .before .before .copy-truth .ensures) (λ k. counted-B k part) (c .before .both .ensures) 8 room
     (omega arith) (omega arith)
 
 copy-truth-requires-2 : tie.Need-copy-truth-requires-2
@@ -114,11 +100,9 @@ returns c =
     let part = truthIn (now (start .args .table)) (start .args .n) in
     let masked = condition-masked (start .args .flag) (start .args .mask) part (c .before .before .before .before .before .before .before .before .before .before .before .before .before .before .if1 .taken) in
     let room = room-B masked (start .pre .1) in
-    let test : BExp = equal (variable (start .args .flag)) (number 0) in
-    let tested = counted-B (start .args .from) test in
     let first = c .before .before .before .before .before .before .before .before .before .before .before .before .put-test .ensures in
     wrote-B (start .args .from) masked
-    (two-parent (start .args .from) (λ k. writeB k part) first tested (c .before .before .before .before .before .before .before .copy-truth .ensures) (λ k. counted-B k part) (c .before .before .before .before .both .ensures) And
+    (two-parent (start .args .from) (λ k. writeB k part) first (counted-test _ _ _) (c .before .before .before .before .before .before .before .copy-truth .ensures) (λ k. counted-B k part) (c .before .before .before .before .both .ensures) And
     (omega (arith, room .fits)) (c .before .before .append .ensures))
 
 returns-2 : tie.Need-returns-2
