@@ -19,7 +19,7 @@ use Rattle.machine.specs.declared.Directive.{Directive}
 use Rattle.masks.specs.Security.{AgreeingStates, ShowsTheSame, plainlyShown, guessingShown}
 use Rattle.flow.specs.Answers.{answered}
 use Rattle.flow.specs.Running.{Lent, Ran, ranAll, runIn, guessEntry}
-use Rattle.flow.specs.Security.{Reports, Holds, ReportsRelated, CallsShowTheSame}
+use Rattle.flow.specs.Security.{reportedBy, reported, Reports, Holds, CallsShowTheSame}
 use Rattle.flow.proofs.Accepted.{GuessAccepted, guess-accepted}
 
 -- observations of which one list begins the other have bytes of which one list begins the other
@@ -54,9 +54,20 @@ accepted-same e = cc
 some-same : {ds es : List Directive} → some ds ≡ some es → ds ≡ es
 some-same e = cc
 
+module _ (place : ℕ) (table directives : List ℕ) (lent : Lent) (budget : ℕ) (answer : List ℕ) (a : GuessAccepted place table directives lent budget answer) where
+  -- an accepted call runs the table and the list that its bytes are read as
+  run-reported : reported table directives lent budget ≡ shownBytes (runIn (a .read) lent budget (guessing (a .script)) .machine .shown)
+  unfolding reported reportedBy
+  run-reported = rw (a .reads, a .scripted)
+
+  call-reports : Reports (guessEntry place table directives lent budget answer) lent answer (reported table directives lent budget)
+  call-reports =
+      subst₂ (λ (ran : Ran) (shown : List ℕ). Reports ran lent answer shown) (sym (a .exit)) (sym run-reported)
+      (ran-reports (a .read) lent answer (runIn (a .read) lent budget (guessing (a .script))))
+
 module _ (t hardened : Table) (table : List ℕ) (reads : readTable table ≡ accepted hardened) (declared : hardened .variables ≡ t .variables + 1)
     (cells : hardened .counts ≡ t .counts) where
-  -- an accepted call on the hardened bytes runs the hardened table from the state that its slices hold
+  -- from the state that its slices hold
   shown-by-run : (lent : Lent) (budget : ℕ) (vs cs : List ℕ) (ds : List Directive) → Holds t lent vs cs
       → runIn hardened lent budget (guessing ds) .machine .shown
       ≡ guessingShown hardened (bytes (length (lent .observations))) ds (vs ++ (0 ∷ [])) cs budget
@@ -67,44 +78,25 @@ module _ (t hardened : Table) (table : List ℕ) (reads : readTable table ≡ ac
       (ap (λ (n : ℕ). fromWords n (lent .variables)) declared ∙ h .variables)
       (ap (λ (ns : List ℕ). fromWords (sum ns) (lent .cells)) cells ∙ h .cells))
 
-  reported : (place : ℕ) (directives : List ℕ) (lent : Lent) (budget : ℕ) (answer vs cs : List ℕ) → Holds t lent vs cs
-      → (a : GuessAccepted place table directives lent budget answer)
-      → Reports (guessEntry place table directives lent budget answer) lent answer
-      (shownBytes (guessingShown hardened (bytes (length (lent .observations))) (a .script) (vs ++ (0 ∷ [])) cs budget))
-  reported place directives lent budget answer vs cs h a =
-      subst₂ (λ (ran : Ran) (os : List Observation). Reports ran lent answer (shownBytes os)) (sym exits) (shown-by-run lent budget vs cs (a .script) h)
-      (ran-reports hardened lent answer (runIn hardened lent budget (guessing (a .script))))
-    where
-      same : a .read ≡ hardened
-      same = accepted-same (sym (a .reads) ∙ reads)
-
-      exits : guessEntry place table directives lent budget answer ≡ ranAll hardened lent answer (runIn hardened lent budget (guessing (a .script)))
-      exits = a .exit ∙ ap (λ (x : Table). ranAll x lent answer (runIn x lent budget (guessing (a .script)))) same
-
-  -- one list of bytes is read as one list of directives
-  same-script : {place₁ place₂ : ℕ} {directives : List ℕ} {lent₁ lent₂ : Lent} {budget₁ budget₂ : ℕ} {answer₁ answer₂ : List ℕ}
-      (a : GuessAccepted place₁ table directives lent₁ budget₁ answer₁) (b : GuessAccepted place₂ table directives lent₂ budget₂ answer₂) → a .script ≡ b .script
-  same-script a b = some-same (sym (a .scripted) ∙ b .scripted)
+  state-reported : {place : ℕ} {directives : List ℕ} {lent : Lent} {budget : ℕ} {answer : List ℕ} (vs cs : List ℕ) (script : List Directive)
+      → (a : GuessAccepted place table directives lent budget answer) → a .script ≡ script → Holds t lent vs cs
+      → reported table directives lent budget ≡ shownBytes (guessingShown hardened (bytes (length (lent .observations))) script (vs ++ (0 ∷ [])) cs budget)
+  state-reported {place} {directives} {lent} {budget} {answer} vs cs script a same h =
+      run-reported place table directives lent budget answer a
+      ∙ ap₂ (λ (x : Table) (s : List Directive). shownBytes (runIn x lent budget (guessing s) .machine .shown)) (accepted-same (sym (a .reads) ∙ reads)) same
+      ∙ ap shownBytes (shown-by-run lent budget vs cs script h)
 
   -- demand 3 for the calls, from demand 3 for the runs
   pub calls-related : ShowsTheSame t hardened → CallsShowTheSame t table
   calls-related secure =
       record {
+        reports = λ directives place lent budget answer zero. call-reports place table directives lent budget answer (guess-accepted place table directives lent budget answer zero);
         related = λ vs cs ws ds agree plainly directives place₁ place₂ lent₁ lent₂ budget₁ budget₂ answer₁ answer₂ h₁ h₂ zero₁ zero₂.
-            let a : GuessAccepted place₁ table directives lent₁ budget₁ answer₁ = guess-accepted place₁ table directives lent₁ budget₁ answer₁ zero₁ in
-            let b : GuessAccepted place₂ table directives lent₂ budget₂ answer₂ = guess-accepted place₂ table directives lent₂ budget₂ answer₂ zero₂ in
-            record {
-              first = _;
-              second = _;
-              firstReported = reported place₁ directives lent₁ budget₁ answer₁ vs cs h₁ a;
-              secondReported =
-                  subst (λ (s : List Directive).
-                  Reports (guessEntry place₂ table directives lent₂ budget₂ answer₂) lent₂ answer₂
-                  (shownBytes (guessingShown hardened (bytes (length (lent₂ .observations))) s (ws ++ (0 ∷ [])) ds budget₂)))
-                  (sym (same-script a b))
-                  (reported place₂ directives lent₂ budget₂ answer₂ ws ds h₂ b);
-              related =
-                  bytes-related
-                  (secure .related vs cs ws ds agree plainly (a .script) budget₁ budget₂ (bytes (length (lent₁ .observations))) (bytes (length (lent₂ .observations))));
-            };
+            let a = guess-accepted place₁ table directives lent₁ budget₁ answer₁ zero₁ in
+            let b = guess-accepted place₂ table directives lent₂ budget₂ answer₂ zero₂ in
+            subst₂ OneBegins
+            (sym (state-reported vs cs (a .script) a refl h₁))
+            (sym (state-reported ws ds (a .script) b (some-same (sym (b .scripted) ∙ a .scripted)) h₂))
+            (bytes-related
+            (secure .related vs cs ws ds agree plainly (a .script) budget₁ budget₂ (bytes (length (lent₁ .observations))) (bytes (length (lent₂ .observations)))));
       }
