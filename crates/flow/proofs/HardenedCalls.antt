@@ -20,13 +20,13 @@ use Rattle.analysis.specs.Conditions.{Sheetable}
 use Rattle.masks.specs.Hardening.{hardenedTable, maxHardened}
 use Rattle.hardener.specs.Output.{Measurable, Measured, Writable}
 use Rattle.copier.specs.declared.Size.{Size}
-use Rattle.flow.specs.Answers.{answered, refusalNumbers}
+use Rattle.entries.specs.Answers.{answered, refusalNumbers}
 use Rattle.flow.specs.Writes.{HardenReady, HasHardened}
-use Rattle.flow.specs.Promises.{HardenedInto, Hardens}
+use Rattle.entries.specs.Promises.{HardenedInto, Hardens}
 use Rattle.flow.specs.Writes.{Writes}
-use Rattle.flow.specs.Promises.{WritesAs}
-use Rattle.flow.specs.Writing.{notWritten, writing, hardenedIn, hardenEntry}
-use Rattle.flow.proofs.Hardened.{hardened-into}
+use Rattle.entries.specs.Promises.{WritesAs}
+use Rattle.entries.specs.Writing.{notWritten, writing, hardenedIn, hardenEntry}
+use Rattle.entries.proofs.Hardened.{hardened-into}
 
 -- ---- the table that was read
 -- where the reader answers an accepted table, it is ready

@@ -1,8 +1,4 @@
--- Laws and computed theorems of this crate.
-pub mod Open
-pub mod Accepted
-pub mod Security
-pub mod Hardened
+-- Laws of this crate.
 pub mod Answers
 pub mod Reading
 pub mod HardenedCalls

@@ -16,11 +16,11 @@ use Rattle.reader.specs.declared.Read.the-variants.{Refused, Accepted}
 use Rattle.awhile.specs.declared.Refusal.{Refusal}
 use Rattle.awhile.specs.declared.Refusal.the-variants.{NotATree, ShortBuffer}
 use Rattle.machine.specs.Memory.{writtenOver}
-use Rattle.flow.specs.Answers.{answered, refusalNumbers, tableIn}
-use Rattle.flow.specs.Writing.{Written, notWritten, writtenAll, writing}
-use Rattle.flow.specs.Promises.{Placed, WritesAs}
+use Rattle.entries.specs.Answers.{answered, refusalNumbers, tableIn}
+use Rattle.entries.specs.Writing.{Written, notWritten, writtenAll, writing}
+use Rattle.entries.specs.Promises.{Placed, WritesAs}
 use Rattle.flow.specs.Writes.{Writes}
-use Rattle.flow.proofs.Hardened.{table-in}
+use Rattle.entries.proofs.Hardened.{table-in}
 
 -- ---- a buffer and what is to be written
 -- bytes stored at the front are written over what was there

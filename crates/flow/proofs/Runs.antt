@@ -31,10 +31,10 @@ use Rattle.interpreter.specs.Stepping.{cellsIn}
 use Rattle.interpreter.specs.Guiding.{Readable, orNone, directivesFrom, guideOf}
 use Rattle.interpreter.specs.Running.{runOf, reportOf, RunAsked, RunLeaves}
 use Rattle.interpreter.specs.declared.run.Report.{Report}
-use Rattle.flow.specs.Answers.{answered, refusalNumbers, tableIn}
-use Rattle.flow.specs.Running.{Lent, Ran, notRun, lentFor, ranAll, runIn, running, runEntry, guessWith, guessEntry}
-use Rattle.flow.specs.Promises.{Placed}
-use Rattle.flow.specs.Promises.{lentAt, runCall, guessCall, RunsAs}
+use Rattle.entries.specs.Answers.{answered, refusalNumbers, tableIn}
+use Rattle.entries.specs.Running.{Lent, Ran, notRun, lentFor, ranAll, runIn, running, runEntry, guessWith, guessEntry}
+use Rattle.entries.specs.Promises.{Placed}
+use Rattle.entries.specs.Promises.{lentAt, runCall, guessCall, RunsAs}
 use Rattle.flow.specs.Runs.{reportNumbers, resultOf, numbersOf, RunReady, runnable, CameTo, not-run, has-run, DoneAs, ReadDone}
 use Rattle.flow.specs.declared.machines.Done.{Done}
 use Rattle.flow.specs.declared.machines.Done.the-variants.{Refused, Ended}

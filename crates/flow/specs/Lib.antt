@@ -1,9 +1,3 @@
--- The entries: from all memory at entry and the numbers passed, to all memory at exit and the answer. In reading order.
-pub mod Answers
-pub mod Writing
-pub mod Running
-pub mod Security
-pub mod Promises
--- what the code inside the entries asks and answers
+-- What the code inside the entries asks and answers.
 pub mod Writes
 pub mod Runs

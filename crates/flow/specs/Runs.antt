@@ -16,9 +16,9 @@ use Rattle.machine.specs.Runs.{endNumber}
 use Rattle.interpreter.specs.Guiding.{guideOf}
 use Rattle.interpreter.specs.Running.{reportOf}
 use Rattle.interpreter.specs.declared.run.Report.{Report}
-use Rattle.flow.specs.Answers.{refusalNumbers, tableIn}
-use Rattle.flow.specs.Running.{Lent, Ran, lentFor, runIn, ranAll, runEntry, guessEntry}
-use Rattle.flow.specs.Promises.{Placed}
+use Rattle.entries.specs.Answers.{refusalNumbers, tableIn}
+use Rattle.entries.specs.Running.{Lent, Ran, lentFor, runIn, ranAll, runEntry, guessEntry}
+use Rattle.entries.specs.Promises.{Placed}
 use Rattle.flow.specs.declared.machines.Done.{Done}
 use Rattle.flow.specs.declared.machines.Done.the-variants.{Refused, Ended}
 

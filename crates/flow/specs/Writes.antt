@@ -11,7 +11,7 @@ use Rattle.awhile.specs.Tables.{maxVariables}
 use Rattle.awhile.specs.declared.Labelling.{Labelling}
 use Rattle.reader.specs.Index.{Indexed, tableOf, nodesIn}
 use Rattle.masks.specs.Hardening.{maxHardened}
-use Rattle.flow.specs.Writing.{Written}
+use Rattle.entries.specs.Writing.{Written}
 
 -- one 8-byte number at an offset, if it fits whole
 unfoldable pub numberPut : List ℕ → (at number : ℕ) → List ℕ

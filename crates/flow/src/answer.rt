@@ -3,7 +3,7 @@ ghost use Prim.Native.Nat.{_≤_};
 ghost use mathlib.Core.Path.{_≡_};
 ghost use mathlib.Core.List.{[], _∷_};
 ghost use Rattle.awhile.specs.Refusals.{refusalNumber, refusalPlace};
-ghost use Rattle.flow.specs.Answers.{answered, refusalNumbers};
+ghost use Rattle.entries.specs.Answers.{answered, refusalNumbers};
 ghost use Rattle.flow.specs.Writes.{numberPut};
 use awhile::Refusal;
 

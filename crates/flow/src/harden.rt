@@ -15,9 +15,9 @@ ghost use Rattle.reader.specs.Index.{tableOf};
 ghost use Rattle.awhile.specs.Refusals.{got};
 ghost use Rattle.masks.specs.Hardening.{hardenedTable};
 ghost use Rattle.flow.specs.Writes.{HardenReady, HasHardened};
-ghost use Rattle.flow.specs.Promises.{Hardens};
+ghost use Rattle.entries.specs.Promises.{Hardens};
 ghost use Rattle.flow.specs.Writes.{Writes};
-ghost use Rattle.flow.specs.Writing.{writing, hardenedIn};
+ghost use Rattle.entries.specs.Writing.{writing, hardenedIn};
 
 // The most nodes that are hardened: eight come out per node at most, and a table has no more than MAX_NODES.
 const MAX_HARDENED: usize = 512;

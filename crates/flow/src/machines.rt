@@ -14,9 +14,9 @@ ghost use mathlib.Core.Bool.{cond};
 ghost use mathlib.Core.Path.{_≡_};
 ghost use lib.ListN.{length};
 ghost use Rattle.machine.specs.Runs.{endNumber};
-ghost use Rattle.flow.specs.Answers.{answered};
+ghost use Rattle.entries.specs.Answers.{answered};
 ghost use Rattle.flow.specs.Runs.{resultOf, numbersOf, RunReady, DoneAs, ReadDone};
-ghost use Rattle.flow.specs.Promises.{lentAt, RunsAs, runCall, guessCall};
+ghost use Rattle.entries.specs.Promises.{lentAt, RunsAs, runCall, guessCall};
 
 // What a call that runs came to.
 pub enum Done {

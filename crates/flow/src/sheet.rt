@@ -16,10 +16,10 @@ ghost use lib.Seq.{sets};
 ghost use Rattle.reader.specs.Index.{Indexed, tableOf, nodesIn};
 ghost use Rattle.labels.specs.Sheet.{sheetBytes};
 ghost use Rattle.analysis.specs.Conditions.{Fresh};
-ghost use Rattle.flow.specs.Promises.{WritesAs};
+ghost use Rattle.entries.specs.Promises.{WritesAs};
 ghost use Rattle.flow.specs.Writes.{Writes};
 ghost use Rattle.awhile.specs.Refusals.{got};
-ghost use Rattle.flow.specs.Writing.{writing, sheetEntry};
+ghost use Rattle.entries.specs.Writing.{writing, sheetEntry};
 
 // A table with no more nodes is small.
 const FEW_NODES: usize = 512;

@@ -8,9 +8,8 @@ use mathlib.Core.Logic.{inl, inr}
 use mathlib.Core.Path.{_≡_, refl, sym, ap, subst, subst₂, _∙_}
 use lib.ListN.{length, getD, replicate, List·getD-append}
 use borrow.Author.Tests.{ltb-true}
-use Rattle.awhile.specs.Tables.{Table, readTable, accepted}
+use Rattle.awhile.specs.Tables.{Table, readTable, rejected, notATree, accepted}
 use Rattle.awhile.specs.Trees.{rootOf}
-use Rattle.reader.specs.Index.{tableOf}
 use Rattle.labels.specs.Labellings.{arrayMark, labelOf}
 use Rattle.machine.specs.Observations.{Observation, branch, readAt}
 use Rattle.machine.specs.Steps.{inside, cellPlace}
@@ -22,7 +21,7 @@ use Rattle.machine.specs.declared.End.the-variants.{Finished, Spent}
 use Rattle.machine.proofs.Prefixes.{one-begins-cons, nil-begins, begins-refl}
 use Rattle.machine.proofs.Runs.{ends-differ, run-ended}
 use Rattle.masks.specs.Security.{AgreeingStates, ShowsTheSame, plainlyShown, guessingShown}
-use Rattle.flow.proofs.Open.{opened}
+use Rattle.entries.proofs.Open.{opened}
 use Rattle.marked_cases.specs.BoundsCheck.{boundsCheck}
 
 -- i = 4, j = 0, x = 0
@@ -37,11 +36,16 @@ abbrev script : List Directive
 script = Force ∷ Load 2 0 ∷ Step ∷ []
 
 -- the table that the bytes read as
-abbrev original : Table
-original = tableOf boundsCheck
+unfoldable original : Table
+original =
+    elim (readTable boundsCheck) [
+      | rejected r ↦ record { variables = 0; labels = record { variables = 0; arrays = 0 }; counts = []; nodes = [] }
+      | notATree t ↦ t
+      | accepted t ↦ t
+    ]
 
 reads : readTable boundsCheck ≡ accepted original
-unfolding opened tableOf
+unfolding opened original
 reads = refl
 
 -- the cells of the public arrays are zeros, whatever the secret is
@@ -53,7 +57,7 @@ public-cells k h = public-cell 77 k h ∙ sym (public-cell 78 k h)
 
 agree-arrays : (a i : ℕ) → labelOf (original .labels) (arrayMark a) ≡ false → inside (original .counts) a i ≡ true
     → getD (cells 77) (cellPlace (original .counts) a i) 0 ≡ getD (cells 78) (cellPlace (original .counts) a i) 0
-unfolding opened tableOf
+unfolding opened original
 agree-arrays zero i e p = public-cells (0 + i) (omega (arith, ltb-true i 4 p))
 agree-arrays (suc zero) i e p = public-cells (4 + i) (omega (arith, ltb-true i 256 p))
 agree-arrays (suc (suc zero)) i e p = absurd (true≢false e)
@@ -63,7 +67,7 @@ agree-arrays (suc (suc (suc a))) i e p = absurd (nothing-inside i (ltb-true i 0 
     nothing-inside k h = omega arith
 
 agreeing : AgreeingStates original variables (cells 77) variables (cells 78)
-unfolding opened tableOf
+unfolding opened original
 agreeing =
     record {
       leftVariables = refl;
@@ -76,7 +80,7 @@ agreeing =
 
 -- without guessing both states show that i is not below 4, and nothing else
 shown-plainly : (secret n : ℕ) → plainlyShown original variables (cells secret) (suc n) ≡ branch false ∷ []
-unfolding opened tableOf plainlyShown
+unfolding opened original plainlyShown
 shown-plainly secret zero = refl
 shown-plainly secret (suc n) =
     ap (λ (k : ℕ). run (original .counts) endless k (started (rootOf original) variables (cells secret) plain) .machine .shown) (add-two n)
@@ -98,7 +102,7 @@ guessed secret = branch false ∷ readAt 0 4 ∷ readAt 1 secret ∷ []
 
 shown-guessing : (guessingShown original endless script (variables ++ (0 ∷ [])) (cells 77) 10 ≡ guessed 77)
     × (guessingShown original endless script (variables ++ (0 ∷ [])) (cells 78) 10 ≡ guessed 78)
-unfolding opened tableOf guessingShown
+unfolding opened original guessingShown
 shown-guessing = (refl, refl)
 
 not-related : OneBegins (guessed 77) (guessed 78) → ⊥

@@ -9,9 +9,9 @@ use Rattle.awhile.specs.Refusals.{got}
 use Rattle.awhile.specs.Tables.{Table}
 use Rattle.awhile.specs.Trees.{rootOf}
 use Rattle.machine.specs.Runs.{Guide}
-use Rattle.flow.specs.Answers.{answered}
-use Rattle.flow.specs.Running.{Lent, running, runEntry, guessEntry}
-use Rattle.flow.proofs.Open.{opened}
+use Rattle.entries.specs.Answers.{answered}
+use Rattle.entries.specs.Running.{Lent, running, runEntry, guessEntry}
+use Rattle.entries.proofs.Open.{opened}
 use Rattle.marked_cases.specs.Claims.{HardensTo, written}
 
 -- `if i<4 then (j:=a0[i]; x:=a1[j]) else skip`: i, j, x are the variables 0 to 2; cells 4, 256, 1; only array 2 is secret

@@ -1,7 +1,7 @@
 -- Labels that settle only after as many passes as there are variables.
 use Prim.Native.Nat.{ℕ}
 use mathlib.Core.List.{List, [], _∷_}
-use Rattle.flow.proofs.Open.{opened}
+use Rattle.entries.proofs.Open.{opened}
 use Rattle.marked_cases.specs.Claims.{HasSheet, HardensTo, written}
 
 -- `(while x0<3 do (x0:=x1; (x1:=x2; .. x29:=x30))); x0:=a0[x0]`, 31 variables, x30 secret

@@ -6,8 +6,8 @@ use lib.ListN.{length}
 use borrow.Author.Tests.{le-leb}
 use Rattle.bytes_le.specs.Numbers.{leAt}
 use Rattle.awhile.specs.Refusals.{got}
-use Rattle.flow.specs.Answers.{answered}
-use Rattle.flow.specs.Writing.{Written, writing, writtenAll, sheetEntry, hardenEntry}
+use Rattle.entries.specs.Answers.{answered}
+use Rattle.entries.specs.Writing.{Written, writing, writtenAll, sheetEntry, hardenEntry}
 
 -- the table is of so many nodes and so many bytes
 pub record Sized (table : List ℕ) (nodes bytes : ℕ) : Type 0 where

@@ -1,7 +1,7 @@
 -- `if x=0 then skip else skip` hardened, with x secret and with x public.
 use Prim.Native.Nat.{ℕ}
 use mathlib.Core.List.{List, [], _∷_}
-use Rattle.flow.proofs.Open.{opened}
+use Rattle.entries.proofs.Open.{opened}
 use Rattle.marked_cases.specs.Claims.{Sized, HardensTo, sized, written}
 
 -- `if x=0 then skip else skip`, x secret

@@ -1,7 +1,7 @@
 -- Label sheets of loops, sequences and branches.
 use Prim.Native.Nat.{ℕ}
 use mathlib.Core.List.{List, [], _∷_}
-use Rattle.flow.proofs.Open.{opened}
+use Rattle.entries.proofs.Open.{opened}
 use Rattle.marked_cases.specs.Claims.{HasSheet, written}
 
 -- `while x<3 do (x:=y; (y:=z; z:=s))`: x, y, z, s are the variables 0 to 3, s secret

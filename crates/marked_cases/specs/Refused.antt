@@ -2,10 +2,10 @@
 use Prim.Native.Nat.{ℕ}
 use mathlib.Core.Path.{_≡_, refl}
 use mathlib.Core.List.{List, [], _∷_}
-use Rattle.flow.specs.Answers.{answered}
-use Rattle.flow.specs.Writing.{sheetEntry, hardenEntry}
-use Rattle.flow.specs.Running.{Lent, runEntry, guessEntry}
-use Rattle.flow.proofs.Open.{opened}
+use Rattle.entries.specs.Answers.{answered}
+use Rattle.entries.specs.Writing.{sheetEntry, hardenEntry}
+use Rattle.entries.specs.Running.{Lent, runEntry, guessEntry}
+use Rattle.entries.proofs.Open.{opened}
 use Rattle.marked_cases.specs.Claims.{HardensTo, Refuses, written}
 
 -- P: no bytes are refused by 1 at 0, by each entry; all lent memory is unchanged

@@ -9,8 +9,8 @@ use Rattle.awhile.specs.Refusals.{Answer, refused, got, andThen}
 use Rattle.awhile.specs.Tables.{Table, Reading, rejected, notATree, accepted, longestTable}
 use Rattle.awhile.specs.declared.Refusal.the-variants.{NotATree}
 use Rattle.awhile.proofs.LongInput.{long-input}
-use Rattle.flow.specs.Answers.{tableIn}
-use Rattle.flow.specs.Writing.{hardenedIn}
+use Rattle.entries.specs.Answers.{tableIn}
+use Rattle.entries.specs.Writing.{hardenedIn}
 use Rattle.program.specs.Program.{refusalRecord, hardenedInput, AnswersInput, AnswersRead}
 
 -- an input is read as its first bytes are, if these are more than the longest table has

@@ -8,9 +8,9 @@ use Rattle.bytes_le.proofs.Numbers.{Below}
 use Rattle.awhile.specs.Refusals.{refused, got, andThen, refusalNumber, refusalPlace}
 use Rattle.awhile.specs.Tables.{longestTable}
 use Rattle.awhile.specs.declared.Refusal.{Refusal}
-use Rattle.flow.specs.Answers.{tableIn}
-use Rattle.flow.specs.Promises.{Placed}
-use Rattle.flow.specs.Writing.{hardenedIn}
+use Rattle.entries.specs.Answers.{tableIn}
+use Rattle.entries.specs.Promises.{Placed}
+use Rattle.entries.specs.Writing.{hardenedIn}
 
 -- kind 240
 unfoldable pub refusalBytes : (refusal place : ℕ) → List ℕ

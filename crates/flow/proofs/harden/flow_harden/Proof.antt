@@ -6,7 +6,7 @@ use Rattle.bytes_le.proofs.Numbers.{slice-bytes}
 use Rattle.awhile.specs.declared.Labelling.{Labelling}
 use Rattle.reader.specs.declared.Read.the-variants.{Accepted}
 use Rattle.flow.specs.Writes.{HardenReady}
-use Rattle.flow.specs.Writing.{hardenedIn, hardenEntry}
+use Rattle.entries.specs.Writing.{hardenedIn, hardenEntry}
 use Rattle.flow.proofs.HardenedCalls.{reader-ready, entry-hardens}
 use Rattle.flow.proofs.Reading.{read-refused, read-accepted}
 use borrow.Author.Needs.{needs}

@@ -11,7 +11,7 @@ use Rattle.reader.proofs.Index.{indexed-some}
 use Rattle.analysis.proofs.WholeProgram.{fresh-zeros}
 use Rattle.masks.specs.Hardening.{hardenedTable}
 use Rattle.hardener.specs.Output.{Measurable}
-use Rattle.flow.specs.Answers.{answered}
+use Rattle.entries.specs.Answers.{answered}
 use Rattle.flow.proofs.HardenedCalls.{measurable, writable}
 use Rattle.flow.proofs.Reading.{writes-all, writes-nothing}
 use borrow.Author.Needs.{needs}

@@ -5,7 +5,7 @@ use mathlib.Core.Path.{ap, _∙_}
 use mathlib.Core.List.{[], _∷_}
 use Rattle.reader.specs.Index.{tableOf}
 use Rattle.labels.specs.Sheet.{sheetBytes}
-use Rattle.flow.specs.Answers.{answered}
+use Rattle.entries.specs.Answers.{answered}
 use Rattle.flow.proofs.Reading.{writes-all, writes-nothing}
 use borrow.Author.Needs.{needs}
 use Rattle.flow.proofs.sheet.answer_sheet.Statement.{statement}

@@ -6,7 +6,7 @@ use denote.Ref.{now}
 use mathlib.Core.Path.{_≡_}
 use Rattle.awhile.specs.Refusals.{got}
 use Rattle.labels.specs.Sheet.{sheetBytes}
-use Rattle.flow.specs.Writing.{sheetEntry}
+use Rattle.entries.specs.Writing.{sheetEntry}
 use Rattle.flow.proofs.Reading.{Accepts, read-refused, read-accepted, reader-accepts}
 use borrow.Author.Needs.{needs}
 use Rattle.flow.proofs.sheet.flow_sheet.Statement.{statement}

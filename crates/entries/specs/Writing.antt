@@ -12,7 +12,7 @@ use Rattle.awhile.specs.declared.Refusal.the-variants.{TooManyNodes, NoFreeVari
 use Rattle.labels.specs.Sheet.{sheetBytes}
 use Rattle.machine.specs.Memory.{writtenOver}
 use Rattle.masks.specs.Hardening.{hardenedTable, maxHardened}
-use Rattle.flow.specs.Answers.{answered, refusalNumbers, tableIn}
+use Rattle.entries.specs.Answers.{answered, refusalNumbers, tableIn}
 
 -- the result (the answer's first number), the buffer and the answer slice at exit
 pub record Written : Type 0 where

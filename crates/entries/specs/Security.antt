@@ -14,8 +14,8 @@ use Rattle.machine.specs.Runs.{guessing}
 use Rattle.machine.specs.declared.Directive.{Directive}
 use Rattle.machine.specs.Prefixes.{OneBegins}
 use Rattle.masks.specs.Security.{AgreeingStates, plainlyShown}
-use Rattle.flow.specs.Answers.{answered}
-use Rattle.flow.specs.Running.{Lent, Ran, runIn, guessEntry}
+use Rattle.entries.specs.Answers.{answered}
+use Rattle.entries.specs.Running.{Lent, Ran, runIn, guessEntry}
 
 -- the observation bytes of the run that a call asks for, where its table and its list are read
 unfoldable pub reportedBy : Reading → Option (List Directive) → Lent → (budget : ℕ) → List ℕ

@@ -7,10 +7,10 @@ use lib.ListN.{take}
 use Rattle.awhile.specs.Tables.{Table, accepted, notATree, readTable, BreaksRule}
 use Rattle.masks.specs.Hardening.{hardenedProgram}
 use Rattle.masks.specs.Demands.{Demands}
-use Rattle.flow.specs.Answers.{answered}
-use Rattle.flow.specs.Writing.{Written, hardenEntry}
-use Rattle.flow.specs.Running.{Lent, Ran, runEntry, guessEntry}
-use Rattle.flow.specs.Security.{CallsShowTheSame}
+use Rattle.entries.specs.Answers.{answered}
+use Rattle.entries.specs.Writing.{Written, hardenEntry}
+use Rattle.entries.specs.Running.{Lent, Ran, runEntry, guessEntry}
+use Rattle.entries.specs.Security.{CallsShowTheSame}
 
 -- "Free is the place of 6 alone; it is the record of a node that breaks that rule."
 pub record Placed (table : List ℕ) (place : ℕ) : Type 0 where

@@ -17,10 +17,10 @@ use Rattle.machine.specs.Prefixes.{Begins, OneBegins}
 use Rattle.machine.specs.Runs.{bytes, guessing, Machine, Outcome, endNumber, run, started}
 use Rattle.machine.specs.declared.Directive.{Directive}
 use Rattle.masks.specs.Security.{AgreeingStates, ShowsTheSame, plainlyShown, guessingShown}
-use Rattle.flow.specs.Answers.{answered}
-use Rattle.flow.specs.Running.{Lent, Ran, ranAll, runIn, guessEntry}
-use Rattle.flow.specs.Security.{reportedBy, reported, Reports, Holds, CallsShowTheSame}
-use Rattle.flow.proofs.Accepted.{GuessAccepted, guess-accepted}
+use Rattle.entries.specs.Answers.{answered}
+use Rattle.entries.specs.Running.{Lent, Ran, ranAll, runIn, guessEntry}
+use Rattle.entries.specs.Security.{reportedBy, reported, Reports, Holds, CallsShowTheSame}
+use Rattle.entries.proofs.Accepted.{GuessAccepted, guess-accepted}
 
 -- observations of which one list begins the other have bytes of which one list begins the other
 bytes-append : (os us : List Observation) → shownBytes (os ++ us) ≡ shownBytes os ++ shownBytes us

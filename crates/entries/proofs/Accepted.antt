@@ -18,8 +18,8 @@ use Rattle.awhile.specs.declared.Refusal.the-variants.{WrongVariables, WrongCel
 use Rattle.machine.specs.Directives.{readDirectives}
 use Rattle.machine.specs.Runs.{Guide, guessing}
 use Rattle.machine.specs.declared.Directive.{Directive}
-use Rattle.flow.specs.Answers.{tableIn}
-use Rattle.flow.specs.Running.{Lent, Ran, notRun, lentFor, ranAll, runIn, running, guessWith, guessEntry}
+use Rattle.entries.specs.Answers.{tableIn}
+use Rattle.entries.specs.Running.{Lent, Ran, notRun, lentFor, ranAll, runIn, running, guessWith, guessEntry}
 
 -- no refusal has the number 0
 pub refusal-not-zero : (r : Refusal) → refusalNumber r ≡ 0 → ⊥

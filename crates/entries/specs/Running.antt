@@ -16,7 +16,7 @@ use Rattle.machine.specs.Directives.{readDirectives}
 use Rattle.machine.specs.Runs.{Guide, plain, guessing, bytes, Outcome, run, started}
 use Rattle.machine.specs.Memory.{pendingAfter, writtenOver, runNumbers}
 use Rattle.machine.specs.declared.Directive.{Directive}
-use Rattle.flow.specs.Answers.{answered, refusalNumbers, tableIn}
+use Rattle.entries.specs.Answers.{answered, refusalNumbers, tableIn}
 
 -- the lent slices of a run
 pub record Lent : Type 0 where

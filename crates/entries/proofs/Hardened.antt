@@ -18,12 +18,12 @@ use Rattle.machine.specs.Memory.{writtenOver}
 use Rattle.masks.specs.Hardening.{hardenedProgram, hardenedTable, maxHardened}
 use Rattle.masks.specs.Demands.{Demands}
 use Rattle.masks.proofs.Demands.{demands-met}
-use Rattle.flow.specs.Answers.{tableIn}
-use Rattle.flow.specs.Writing.{notWritten, writtenAll, writing, hardenedIn, hardenEntry}
-use Rattle.flow.specs.Security.{CallsShowTheSame}
-use Rattle.flow.specs.Promises.{HardenedInto}
-use Rattle.flow.proofs.Accepted.{refusal-not-zero, check-got}
-use Rattle.flow.proofs.Security.{calls-related}
+use Rattle.entries.specs.Answers.{tableIn}
+use Rattle.entries.specs.Writing.{notWritten, writtenAll, writing, hardenedIn, hardenEntry}
+use Rattle.entries.specs.Security.{CallsShowTheSame}
+use Rattle.entries.specs.Promises.{HardenedInto}
+use Rattle.entries.proofs.Accepted.{refusal-not-zero, check-got}
+use Rattle.entries.proofs.Security.{calls-related}
 
 -- an accepted table is the one that an entry is asked about
 pub table-in : (place : ℕ) (s : List ℕ) (t : Table) → readTable s ≡ accepted t → tableIn s place ≡ got t
