@@ -1,5 +1,5 @@
 -- Whatever reads is well-formed, and its nodes are decoded where their records stand.
-use Prim.Native.Nat.{ℕ, zero, suc, _+_, _-_, _^_, _≤_, _<_}
+use Prim.Native.Nat.{ℕ, zero, suc, _+_, _^_, _≤_, _<_}
 use native.Mathlib.Omega.{arith}
 use mathlib.Core.Bool.{Bool, true, false, cond, _&&_}
 use mathlib.Core.Path.{_≡_, refl, sym, ap, subst, _∙_}
@@ -18,7 +18,7 @@ use Rattle.awhile.specs.Tables.{framed, lengthOfKind, readHeader, readLa
 use Rattle.awhile.specs.Tables.{accepted, rejected, notATree, allInOrder, checkWhole, readTable}
 use Rattle.awhile.specs.WellFormed.{WellFormed, Declared, NodeFits, wordFits}
 use Rattle.awhile.proofs.Lists.{and-first, and-second, sum-append}
-use Rattle.awhile.proofs.Cases.{offset-next, counts-next, counts-refused, node-known, node-unknown, nodes-next, nodes-refused, table-read, table-refused}
+use Rattle.awhile.proofs.Cases.{counts-next, counts-refused, node-known, node-unknown, nodes-next, nodes-refused, table-read, table-refused}
 use Rattle.awhile.proofs.Fitting.{FitAfter, fit-by-number}
 use Rattle.awhile.proofs.Records.{NodeAt, NodesAt, nodes-at}
 use Rattle.awhile.specs.declared.Labelling.{Labelling}
@@ -404,13 +404,3 @@ module _ (s : List ℕ) (bytes : Below 256 s) where
   -- an accepted table's records were read
   pub accepted-read : (t : Table) → readTable s ≡ accepted t → readRecords s ≡ got t
   accepted-read t e = table-accepted t e .read
-
-  -- the bytes end where the last record ends
-  pub accepted-ends : (t : Table) → readTable s ≡ accepted t → length s ≡ offsetOf t (length (t .nodes))
-  accepted-ends t e =
-      let a = table-accepted t e in
-      let some = records-known t (a .read) .hasNodes in
-      let last : ℕ = length (t .nodes) - 1 in
-      let end : offsetOf t (length (t .nodes)) ≡ offsetOf t last + sizeOf (getD (t .nodes) last Skip) =
-      ap (offsetOf t) (omega arith) ∙ offset-next t last (omega arith) in
-      omega (arith, a .ended, node-there t (a .read) last (omega arith) .inside)

@@ -3,18 +3,17 @@ use Prim.Native.Nat.{ℕ, zero, suc, _+_, _<_}
 use native.Mathlib.Omega.{arith}
 use mathlib.Core.Bool.{Bool, true, false}
 use mathlib.Core.Path.{_≡_, refl}
-use mathlib.Core.List.{List, [], _∷_, _++_, map-append}
+use mathlib.Core.List.{List, [], _∷_, _++_}
 use lib.ListN.{length, getD}
-use lib.Seq.{take-suc}
 use lib.Dec.{eqb}
 use borrow.Author.Tests.{eq-eqb, ne-eqb, eqb-true, eqb-false}
 use Rattle.awhile.specs.Lists.{sum}
 use Rattle.awhile.specs.Refusals.{refused, got, check}
 use Rattle.awhile.specs.Nodes.{sizeOf, sortOf, sameSort, decodeAt, inRange, sorted}
-use Rattle.awhile.specs.Tables.{Header, Table, arraySize, offsetOf, framed, readCount, readCounts, readNode, readNodes, readRecords}
+use Rattle.awhile.specs.Tables.{Header, Table, arraySize, framed, readCount, readCounts, readNode, readNodes, readRecords}
 use Rattle.awhile.specs.Tables.{usesOf, inOrder, allInOrder}
 use Rattle.awhile.specs.Tables.{rejected, checkWhole, readTable}
-use Rattle.awhile.proofs.Lists.{and-both, and-first, and-second, sum-append}
+use Rattle.awhile.proofs.Lists.{and-both, and-first, and-second}
 use Rattle.awhile.specs.declared.Sort.the-variants.{Command}
 use Rattle.awhile.specs.declared.Node.{Node}
 use Rattle.awhile.specs.declared.Node.the-variants.{Skip}
@@ -27,10 +26,6 @@ use Rattle.awhile.specs.declared.Refusal.the-variants.{OutOfRange, Wrong
 -- one record is one node
 pub decoded-same : (d : Decoded) (m n : Node) → d ≡ Known m → d ≡ Known n → m ≡ n
 decoded-same d m n p q = cc
-
--- and not no node
-pub decoded-apart : (d : Decoded) (n : Node) → d ≡ Unknown → d ≡ Known n → ⊥
-decoded-apart d n p q = let z : _≡_ {A = ℕ} 0 1 = cc in omega arith
 
 module _ (s : List ℕ) (at : ℕ) where
   -- ---- array records
@@ -83,10 +78,6 @@ module _ (s : List ℕ) where
   table-refused r e = rw (e, readTable)
 
 -- ---- offsets
--- a record ends where the next one begins
-pub offset-next : (t : Table) (i : ℕ) → i < length (t .nodes) → offsetOf t (suc i) ≡ offsetOf t i + sizeOf (getD (t .nodes) i Skip)
-unfolding offsetOf sum
-offset-next t i inside = rw (take-suc (t .nodes) i Skip inside, map-append, sum-append) (omega arith)
 
 -- ---- the nodes as one tree
 module _ (ns : List Node) where

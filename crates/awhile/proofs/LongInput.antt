@@ -1,32 +1,29 @@
 -- Input of any length: two inputs that are both longer than the longest table and have its bytes in common are read alike.
-use Prim.Native.Nat.{ℕ, zero, suc, _+_, _*_, _^_, _≤_, _<_}
+use Prim.Native.Nat.{ℕ, zero, suc, _+_, _*_, _≤_, _<_}
 use native.Mathlib.Omega.{arith}
-use mathlib.Core.Bool.{Bool, true, false, cond, _&&_}
+use mathlib.Core.Bool.{Bool, true, false, cond}
 use mathlib.Core.Path.{_≡_, refl, sym, ap, subst, _∙_}
 use mathlib.Core.List.{List, [], _∷_, _++_, map}
 use lib.ListN.{length, take, drop, take-append-drop}
 use lib.Seq.{take-all, take-length, length-take-le}
 use native.Mathlib.Decide.{decLt}
-use lib.Dec.{eqb, ltb, leb}
+use lib.Dec.{eqb}
 use borrow.Author.Tests.{le-leb, lt-leb}
 use Rattle.bytes_le.specs.Numbers.{leAt}
 use Rattle.bytes_le.proofs.Numbers.{Below, leAt-append-le}
 use Rattle.awhile.specs.Lists.{sum}
-use Rattle.awhile.specs.Refusals.{Answer, refused, got, check, andThen}
-use Rattle.awhile.specs.Nodes.{sizeOf, nodeOf, decodeAt, inRange, sorted}
-use Rattle.awhile.specs.Tables.{Header, Table, Reading, maxVariables, maxArrays, maxNodes, maxCells, headerSize, labelsSize, arraySize, nodesStart, longestTable, offsetOf}
+use Rattle.awhile.specs.Refusals.{Answer, refused, got, andThen}
+use Rattle.awhile.specs.Nodes.{sizeOf, decodeAt}
+use Rattle.awhile.specs.Tables.{Header, Table, headerSize, labelsSize, arraySize, nodesStart, longestTable, offsetOf}
 use Rattle.awhile.specs.Tables.{framed, lengthOfKind, readHeader, readLabels, readCount, readCounts, readNode, readNodes, readRecords}
-use Rattle.awhile.specs.Tables.{accepted, rejected, notATree, checkWhole, readTable}
+use Rattle.awhile.specs.Tables.{checkWhole, readTable}
 use Rattle.awhile.proofs.Cases.{counts-next, counts-refused, node-known, node-unknown, nodes-next, nodes-refused, table-read, table-refused}
 use Rattle.awhile.proofs.Records.{head-fits, sizes-most}
 use Rattle.awhile.proofs.Accepted.{HeaderFits, header-fits, RecordsRead, records-known}
-use Rattle.awhile.specs.declared.Labelling.{Labelling}
 use Rattle.awhile.specs.declared.Node.{Node}
 use Rattle.awhile.specs.declared.Node.the-variants.{Skip}
 use Rattle.awhile.specs.declared.Decoded.{Decoded}
 use Rattle.awhile.specs.declared.Decoded.the-variants.{Known, Unknown}
-use Rattle.awhile.specs.declared.Refusal.{Refusal}
-use Rattle.awhile.specs.declared.Refusal.the-variants.{BeyondLimit, OutOfRange, WrongSort}
 
 -- a table that was read ends within the longest one
 table-ends : {s : List ℕ} {t : Table} → RecordsRead s t → offsetOf t (length (t .nodes)) ≤ longestTable

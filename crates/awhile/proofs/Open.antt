@@ -3,7 +3,7 @@ use mathlib.Core.List.{flatMap}
 use Rattle.bytes_le.proofs.Open.{opened as opened-below}
 use Rattle.awhile.specs.Language.{noteOf, mapNotes, valueOf, truthOf}
 use Rattle.awhile.specs.Lists.{sum, occurrences, all}
-use Rattle.awhile.specs.Refusals.{refusalNumber, refusalPlace, check, andThen}
+use Rattle.awhile.specs.Refusals.{check, andThen}
 use Rattle.awhile.specs.Nodes.{form, sortOf, fieldBytes, fieldSize, sizeOf, nodeBytes, nodeOf, decodeAt, fieldInRange, inRange, sameSort, fieldSorted, sorted, fieldChildren, childrenOf}
 use Rattle.awhile.specs.Tables.{offsetOf, framed, lengthOfKind, readHeader, readLabels, readCount, readCounts, readNode, readNodes, readRecords, usesOf, inOrder, allInOrder, checkWhole, readTable}
 use Rattle.awhile.specs.Trees.{asNumeric, asTruth, asCommand, treeOf, treeAt, growTrees, trees, rootOf}

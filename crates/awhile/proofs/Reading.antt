@@ -8,7 +8,7 @@ use lib.ListN.{length, getD, length-append}
 use lib.Seq.{take-length, append-snoc}
 use borrow.Author.Tests.{lt-ltb, le-leb, eq-eqb}
 use Rattle.bytes_le.specs.Numbers.{le, leAt}
-use Rattle.bytes_le.proofs.Numbers.{Below, below-append, below-flatMap, bytes-le, length-le}
+use Rattle.bytes_le.proofs.Numbers.{length-le}
 use Rattle.bytes_le.proofs.Pieces.{Stands, stands-first, stands-second, stands-whole, stands-le, stands-number}
 use Rattle.awhile.specs.Lists.{sum}
 use Rattle.awhile.specs.Refusals.{Answer, got, check, andThen}
@@ -19,7 +19,7 @@ use Rattle.awhile.specs.Tables.{accepted, checkWhole, readTable}
 use Rattle.awhile.specs.Encoding.{headerBytes, labelsBytes, countBytes, tableBytes}
 use Rattle.awhile.specs.WellFormed.{WellFormed, NodeFits}
 use Rattle.awhile.proofs.Lists.{sum-append, length-flatMap}
-use Rattle.awhile.proofs.Records.{fields-fit, HeadAt, head-stands, node-stands, length-nodeBytes, bytes-nodeBytes, size-least}
+use Rattle.awhile.proofs.Records.{fields-fit, HeadAt, head-stands, node-stands, length-nodeBytes, size-least}
 use Rattle.awhile.proofs.Cases.{counts-next, node-known, nodes-next, table-read}
 use Rattle.awhile.proofs.Fitting.{FitAfter, fit-in-turn}
 use Rattle.awhile.specs.declared.Labelling.{Labelling}
@@ -175,15 +175,6 @@ unfolding tableBytes offsetOf
 length-tableBytes t =
     simp (length-append, take-length)
     (omega (arith, length-headerBytes (t .variables) (length (t .counts)) (length (t .nodes)), length-labelsBytes (t .labels), length-countsBytes (t .counts), length-flatMap nodeBytes sizeOf length-nodeBytes (t .nodes)))
-
--- a table is made of bytes
-pub bytes-tableBytes : (t : Table) → Below 256 (tableBytes t)
-unfolding tableBytes headerBytes labelsBytes countBytes
-bytes-tableBytes t =
-    let header : Below 256 (headerBytes (t .variables) (length (t .counts)) (length (t .nodes))) = search (below-append, bytes-le) depth 8 in
-    let labels : Below 256 (labelsBytes (t .labels)) = search (below-append, bytes-le) in
-    let counts = below-flatMap 256 countBytes (t .counts) (omega arith) (λ n. search (below-append, bytes-le)) in
-    below-append header (below-append labels (below-append counts (below-flatMap 256 nodeBytes (t .nodes) (omega arith) bytes-nodeBytes)))
 
 -- a well-formed table reads back from its bytes
 pub read-back : (t : Table) → WellFormed t → readTable (tableBytes t) ≡ accepted t

@@ -9,7 +9,7 @@ use lib.ListN.{length, getD, take, length-append}
 use lib.Dec.{ltb}
 use borrow.Author.Tests.{ltb-true, leb-true, lt-ltb}
 use Rattle.bytes_le.specs.Numbers.{le, leAt}
-use Rattle.bytes_le.proofs.Numbers.{Below, below-append, below-flatMap, bytes-le, length-le}
+use Rattle.bytes_le.proofs.Numbers.{length-le}
 use Rattle.bytes_le.proofs.Pieces.{Stands, stands-number, stands-within}
 use Rattle.awhile.specs.Lists.{sum, all}
 use Rattle.awhile.specs.Nodes.{Field, word, constant, variable, array, child, form, fieldBytes, fieldSize, sizeOf, nodeBytes, nodeOf, decodeAt}
@@ -151,13 +151,6 @@ size-least n = omega (arith, size-fields n)
 pub length-nodeBytes : (n : Node) → length (nodeBytes n) ≡ sizeOf n
 unfolding nodeBytes
 length-nodeBytes n = simp (length-append, length-le) (omega (arith, size-fields n))
-
--- a record is made of bytes
-pub bytes-nodeBytes : (n : Node) → Below 256 (nodeBytes n)
-unfolding nodeBytes
-bytes-nodeBytes n =
-    let fields = below-flatMap 256 fieldBytes (form n .fields) (omega arith) (λ f. rw fieldBytes-le (bytes-le (fieldSize f) (fieldValue f))) in
-    below-append (bytes-le 2 (sizeOf n)) (below-append (bytes-le 2 (form n .kind)) fields)
 
 -- ---- records: "a 2-byte length (of the whole record), a 2-byte kind, then fields"
 module _ (s : List ℕ) (at size kind : ℕ) (body : List ℕ) where

@@ -9,7 +9,6 @@ use lib.ListN.{length, getD, take}
 use lib.Seq.{take-suc, take-length}
 use lib.Dec.{ltb}
 use borrow.Author.Tests.{lt-ltb, eqb-true}
-use Rattle.awhile.specs.Language.{noteOf}
 use Rattle.awhile.specs.Lists.{sum, all, occurrences}
 use Rattle.awhile.specs.Nodes.{Field, word, constant, variable, array, child, form, sortOf, fieldChildren, childrenOf}
 use Rattle.awhile.specs.Tables.{Table, usesOf}
@@ -19,7 +18,7 @@ use Rattle.awhile.specs.WellFormed.{WellFormed}
 use Rattle.awhile.proofs.Lists.{sum-append, flatMap-append, all-cons, all-append}
 use Rattle.awhile.proofs.Cases.{in-order-last, in-order-child, each-in-order}
 use Rattle.awhile.proofs.Children.{EachChild, sameSort-true}
-use Rattle.awhile.proofs.Trees.{treeSort, command-tree, tree-sort, tree-note, tree-of-node, tree-children}
+use Rattle.awhile.proofs.Trees.{treeSort, command-tree, tree-sort, tree-of-node, tree-children}
 use Rattle.awhile.proofs.Sums.{sumBelow, sumBelow-same, sumBelow-ones, sum-by-number}
 use Rattle.awhile.specs.declared.Sort.the-variants.{Numeric, Truth, Command}
 use Rattle.awhile.specs.declared.Node.{Node}
@@ -128,13 +127,6 @@ module _ (t : Table) (w : WellFormed t) where
       let some = w .hasNodes in
       let last : ℕ = length (t .nodes) - 1 in
       command-tree (treeAt (trees (t .nodes)) last) (tree-sort (t .nodes) last (omega arith) ∙ last-command)
-
-  -- the root is noted with the last node's number
-  pub root-note : noteOf (rootOf t) ≡ length (t .nodes) - 1
-  unfolding rootOf
-  root-note =
-      let some = w .hasNodes in
-      tree-note (t .nodes) (length (t .nodes) - 1) (omega arith) last-command
 
   -- what is added up over the nodes of each tree: at the root, the sum over all the table's nodes
   module _ (own total : ℕ → ℕ) (built : (i : ℕ) → i < length (t .nodes) → total i ≡ own i + sum (map total (childrenOf (getD (t .nodes) i Skip)))) where

@@ -144,11 +144,6 @@ command-tree (command c) e = refl
 
 -- ---- the trees of a table's nodes
 module _ (ns : List Node) where
-  -- there is a tree for each node
-  pub length-trees : length (trees ns) ≡ length ns
-  unfolding trees
-  length-trees = omega (arith, length-grow [] ns)
-
   -- tree i is built by node i from the trees before it
   pub tree-grown : (i : ℕ) → i < length ns → treeAt (trees ns) i ≡ treeOf (treeAt (trees (take i ns))) i (getD ns i Skip)
   unfolding trees

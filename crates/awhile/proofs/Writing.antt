@@ -7,14 +7,14 @@ use mathlib.Core.List.{List, []}
 use lib.ListN.{length, getD}
 use lib.Dec.{eqb}
 use borrow.Author.Tests.{eq-eqb, eqb-true, eqb-false}
-use Rattle.awhile.specs.Language.{Com, mapNotes}
+use Rattle.awhile.specs.Language.{Com}
 use Rattle.awhile.specs.Lists.{all}
 use Rattle.awhile.specs.Nodes.{sortOf}
 use Rattle.awhile.specs.Tables.{Table, maxNodes, usesOf, inOrder, accepted, readTable}
-use Rattle.awhile.specs.Trees.{Tree, command, asCommand, treeAt, growTrees, trees, rootOf}
-use Rattle.awhile.specs.Encoding.{nodesOf, writeC, numberOf, numberedFrom, numbered, tableBytes}
+use Rattle.awhile.specs.Trees.{command, asCommand, trees, rootOf}
+use Rattle.awhile.specs.Encoding.{nodesOf, writeC, numbered, tableBytes}
 use Rattle.awhile.specs.WellFormed.{Declared, WellFormed, Within}
-use Rattle.awhile.proofs.Lists.{countBelow, count-below, count-above}
+use Rattle.awhile.proofs.Lists.{count-below, count-above}
 use Rattle.awhile.proofs.Cases.{in-order-last, in-order-child, all-in-order}
 use Rattle.awhile.proofs.Children.{sameSort-refl}
 use Rattle.awhile.proofs.Fitting.{fit-by-number}
@@ -41,25 +41,6 @@ order-in-order {k = k} {ns = ns} {c = c} p i below = go (eqb (suc i) k) refl
         let apart : ¬ (suc i ≡ k) = eqb-false (suc i) k e in
         let once : usesOf ns i ≡ 1 = omega (arith, order-uses p i (k - 1) (omega arith), count-above 0 i (omega arith), count-below (k - 1) i (omega arith)) in
         in-order-child ns i (omega (arith, order-length p)) ∙ eq-eqb (usesOf ns i) 1 once
-
--- ---- what is written for a command, after any nodes
-module _ {Note : Type 0} (c : Com Note) where
-  -- as many nodes as the command has
-  pub length-writeC : (from : ℕ) → length (writeC from c) ≡ nodesOf c
-  length-writeC from = order-length (postorder-C c from)
-
-  -- the last tree that they grow is the command, noted with its node numbers
-  pub grow-writeC : (ts : List Tree)
-      → treeAt (growTrees ts (writeC (length ts) c)) (length ts + nodesOf c - 1) ≡ command (mapNotes numberOf (numberedFrom (length ts) c))
-  grow-writeC ts =
-      let order = postorder-C c (length ts) in
-      order-tree order ts (length ts + nodesOf c - 1) refl (omega (arith, order-some order))
-
-  -- each but the last is a child once, and no other node is
-  pub uses-writeC : (from x : ℕ) → usesOf (writeC from c) x + countBelow from x ≡ countBelow (from + nodesOf c - 1) x
-  uses-writeC from x =
-      let order = postorder-C c from in
-      order-uses order x (from + nodesOf c - 1) (omega (arith, order-some order))
 
 -- ---- the table of a program
 module _ {Note : Type 0} (t : Table) (c : Com Note) (e : t .nodes ≡ writeC 0 c) where

@@ -1,6 +1,6 @@
 -- Writing a program as a table: nodes in post-order ("parts first, left to right, then the parent"), numbered from 0, and the table's bytes.
-use Prim.Native.Nat.{ℕ, suc, _+_, _-_}
-use mathlib.Core.Bool.{Bool, cond}
+use Prim.Native.Nat.{ℕ, _+_, _-_}
+use mathlib.Core.Bool.{cond}
 use mathlib.Core.List.{List, [], _∷_, _++_, flatMap}
 use lib.ListN.{length}
 use Rattle.bytes_le.specs.Numbers.{le}

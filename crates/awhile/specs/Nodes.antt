@@ -1,7 +1,7 @@
 -- The records of nodes: "Each record is one of the kinds below with its own fields."
 -- `form` is document 01's list of kinds; all else about a node's record is read off it.
 use Prim.Native.Nat.{ℕ, _+_}
-use mathlib.Core.Bool.{Bool, true, false, cond, _&&_}
+use mathlib.Core.Bool.{Bool, true, false, cond}
 use mathlib.Core.List.{List, [], _∷_, _++_, map, flatMap}
 use lib.ListN.{getD}
 use lib.Dec.{eqb, ltb, leb}

@@ -1,20 +1,19 @@
 -- Reading a table of bytes: its declarations and nodes, or the refusal of the first record that fails.
 -- "The first failing record decides. Within it: 1 (head), 2, 1 (body), 3, 4, 5. Then 6, 7."
-use Prim.Native.Nat.{ℕ, zero, suc, _+_, _*_, _-_, _^_, _<_}
+use Prim.Native.Nat.{ℕ, zero, suc, _+_, _*_, _^_, _<_}
 use mathlib.Core.Bool.{Bool, true, false, cond, _&&_}
 use mathlib.Core.Path.{_≡_}
 use mathlib.Core.List.{List, [], _∷_, _++_, map, flatMap}
 use lib.ListN.{length, getD, take}
 use lib.Dec.{eqb, ltb, leb}
 use Rattle.bytes_le.specs.Numbers.{leAt}
-use Rattle.awhile.specs.Lists.{sum, all, occurrences}
+use Rattle.awhile.specs.Lists.{sum, occurrences}
 use Rattle.awhile.specs.Refusals.{Answer, refused, got, check, andThen}
 use Rattle.awhile.specs.Nodes.{sizeOf, sortOf, sameSort, decodeAt, inRange, sorted, childrenOf}
 use Rattle.awhile.specs.declared.Labelling.{Labelling}
 use Rattle.awhile.specs.declared.Sort.the-variants.{Command}
 use Rattle.awhile.specs.declared.Node.{Node}
 use Rattle.awhile.specs.declared.Node.the-variants.{Skip}
-use Rattle.awhile.specs.declared.Decoded.{Decoded}
 use Rattle.awhile.specs.declared.Decoded.the-variants.{Known, Unknown}
 use Rattle.awhile.specs.declared.Refusal.{Refusal}
 use Rattle.awhile.specs.declared.Refusal.the-variants.{Cut, WrongRecord, BeyondLimit, OutOfRange, WrongSort, ExtraBytes}

@@ -3,9 +3,9 @@ use Prim.Native.Nat.{ℕ, zero, suc, _+_, _*_, _/_, _%_, _^_, _≤_, _<_}
 use native.Mathlib.Nat.{div-lt-iff-lt-mul, pow-suc, pow-le-pow-right, le-trans}
 use native.Mathlib.Omega.{arith}
 use mathlib.Core.Path.{_≡_, refl, ap}
-use mathlib.Core.List.{List, [], _∷_, _++_, flatMap}
+use mathlib.Core.List.{List, [], _∷_, _++_}
 use lib.ListN.{length, getD, take, drop, length-take, length-drop}
-use lib.Seq.{take-at, drop-append-seam, drop-append-le, take-append-le, drop-append-add, getD-drop}
+use lib.Seq.{take-at, drop-append-seam, drop-append-le, take-append-le, getD-drop}
 use mir.Syntax.{w8}
 use mir.Val.{Fits}
 use Rattle.bytes_le.specs.Numbers.{le, fromLe, leAt}
@@ -44,17 +44,6 @@ module _ (bound : ℕ) where
   -- the last elements are below
   pub below-drop : (count : ℕ) (ns : List ℕ) → Below bound ns → Below bound (drop count ns)
   below-drop count ns h = record { below = λ i. rw getD-drop (h .below (count + i)) }
-
--- the elements of two lists are below
-pub below-append : {bound : ℕ} {ms ns : List ℕ} → Below bound ms → Below bound ns → Below bound (ms ++ ns)
-below-append {ms = []} first rest = rest
-below-append {bound} {ms = m ∷ ms} {ns} first rest = below-cons bound m (ms ++ ns) (below-head bound m ms first) (below-append (below-tail bound m ms first) rest)
-
--- lists of elements below, one after the other
-pub below-flatMap : {A : Type 0} (bound : ℕ) (f : A → List ℕ) (xs : List A) → 0 < bound → ((x : A) → Below bound (f x)) → Below bound (flatMap f xs)
-unfolding flatMap
-below-flatMap bound f [] some each = record { below = λ i. some }
-below-flatMap bound f (x ∷ xs) some each = below-append (each x) (below-flatMap bound f xs some each)
 
 -- as many bytes as asked for
 pub length-le : (width n : ℕ) → length (le width n) ≡ width
@@ -110,11 +99,6 @@ leAt-append-le width at xs ys h =
     let d : at ≤ length xs = omega arith in
     let t : width ≤ length (drop at xs) = simp length-drop (omega arith) in
     rw (drop-append-le, take-append-le)
-
--- what stands in the second of two lists is read from it
-pub leAt-append-add : (width : ℕ) (xs ys : List ℕ) (at : ℕ) → leAt width (xs ++ ys) (length xs + at) ≡ leAt width ys at
-unfolding leAt
-leAt-append-add width xs ys at = rw drop-append-add
 
 -- a number that fits is read where it was written
 pub leAt-seam : (width n : ℕ) (xs ys : List ℕ) → n < 256 ^ width → leAt width (xs ++ (le width n ++ ys)) (length xs) ≡ n

@@ -1,10 +1,10 @@
 -- What an accepted guessing call is: its table and its list are read, its slices have their lengths, and it leaves what the run leaves.
-use Prim.Native.Nat.{ℕ, zero, suc, _*_, _≤_}
+use Prim.Native.Nat.{ℕ, _*_, _≤_}
 use native.Mathlib.Omega.{arith}
 use mathlib.Core.Bool.{Bool, true, false}
 use mathlib.Core.Option.{Option, none, some}
-use mathlib.Core.List.{List, []}
-use mathlib.Core.Path.{_≡_, refl, sym, ap, subst, _∙_}
+use mathlib.Core.List.{List}
+use mathlib.Core.Path.{_≡_, refl, sym, ap, _∙_}
 use lib.ListN.{length}
 use lib.Dec.{eqb, leb}
 use borrow.Author.Tests.{eqb-true, leb-true}
@@ -16,7 +16,7 @@ use Rattle.awhile.specs.declared.Refusal.the-variants.{Cut, WrongRecord, Beyond
 use Rattle.awhile.specs.declared.Refusal.the-variants.{TooManyNodes, NoFreeVariable, BadDirectives}
 use Rattle.awhile.specs.declared.Refusal.the-variants.{WrongVariables, WrongCells, ShortPending, ShortBuffer}
 use Rattle.machine.specs.Directives.{readDirectives}
-use Rattle.machine.specs.Runs.{Guide, guessing}
+use Rattle.machine.specs.Runs.{guessing}
 use Rattle.machine.specs.declared.Directive.{Directive}
 use Rattle.entries.specs.Answers.{tableIn}
 use Rattle.entries.specs.Running.{Lent, Ran, notRun, lentFor, ranAll, runIn, running, guessWith, guessEntry}

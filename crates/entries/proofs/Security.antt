@@ -4,20 +4,18 @@ use mathlib.Core.List.{List, [], _∷_, _++_, append-assoc, flatMap}
 use mathlib.Core.Bool.{cond}
 use mathlib.Core.Logic.{⊎-map}
 use mathlib.Core.Option.{some}
-use mathlib.Core.Path.{_≡_, refl, sym, ap, ap₂, subst, subst₂, _∙_}
+use mathlib.Core.Path.{_≡_, refl, sym, ap, ap₂, subst₂, _∙_}
 use lib.ListN.{length}
 use Rattle.bytes_le.specs.Numbers.{fromWords}
 use Rattle.awhile.specs.Lists.{sum}
 use Rattle.awhile.specs.Tables.{Table, readTable, accepted}
 use Rattle.awhile.specs.Trees.{rootOf}
 use Rattle.machine.specs.Observations.{Observation, observationBytes, shownBytes}
-use Rattle.machine.specs.Directives.{readDirectives}
-use Rattle.machine.specs.Memory.{writtenOver, nextNode, runNumbers}
+use Rattle.machine.specs.Memory.{nextNode, runNumbers}
 use Rattle.machine.specs.Prefixes.{Begins, OneBegins}
 use Rattle.machine.specs.Runs.{bytes, guessing, Machine, Outcome, endNumber, run, started}
 use Rattle.machine.specs.declared.Directive.{Directive}
-use Rattle.masks.specs.Security.{AgreeingStates, ShowsTheSame, plainlyShown, guessingShown}
-use Rattle.entries.specs.Answers.{answered}
+use Rattle.masks.specs.Security.{ShowsTheSame, guessingShown}
 use Rattle.entries.specs.Running.{Lent, Ran, ranAll, runIn, guessEntry}
 use Rattle.entries.specs.Security.{reportedBy, reported, Reports, Holds, CallsShowTheSame}
 use Rattle.entries.proofs.Accepted.{GuessAccepted, guess-accepted}

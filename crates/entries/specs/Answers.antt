@@ -6,7 +6,7 @@ use lib.ListN.{length, drop}
 use lib.Dec.{leb}
 use Rattle.bytes_le.specs.Numbers.{le}
 use Rattle.awhile.specs.Refusals.{Answer, refused, got, refusalNumber, refusalPlace}
-use Rattle.awhile.specs.Tables.{Table, Reading, rejected, notATree, accepted, readTable}
+use Rattle.awhile.specs.Tables.{Table, rejected, notATree, accepted, readTable}
 use Rattle.awhile.specs.declared.Refusal.{Refusal}
 use Rattle.awhile.specs.declared.Refusal.the-variants.{NotATree}
 

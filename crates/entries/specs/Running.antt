@@ -1,7 +1,7 @@
 -- The entries that run a table: on the plain machine and on the guessing one.
 use Prim.Native.Nat.{ℕ, _*_}
 use mathlib.Core.Option.{Option, none, some}
-use mathlib.Core.List.{List, [], _∷_}
+use mathlib.Core.List.{List, _∷_}
 use lib.ListN.{length}
 use lib.Dec.{leb, eqb}
 use Rattle.bytes_le.specs.Numbers.{words, fromWords}

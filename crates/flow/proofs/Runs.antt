@@ -1,34 +1,33 @@
 -- The running entries, from what their inner functions came to.
-use Prim.Native.Nat.{ℕ, _+_, _*_, _≤_, _<_}
+use Prim.Native.Nat.{ℕ, _*_, _≤_, _<_}
 use native.Mathlib.Omega.{arith}
 use mathlib.Core.Bool.{Bool, true, false, cond}
 use mathlib.Core.Option.{Option, none, some}
 use mathlib.Core.List.{List, [], _∷_}
 use mathlib.Core.Path.{_≡_, refl, sym, ap, subst, _∙_}
-use lib.ListN.{length, drop}
-use lib.Dec.{eqb, leb}
+use lib.ListN.{length}
+use lib.Dec.{eqb}
 use borrow.Author.Tests.{eq-eqb, ne-eqb, le-leb, lt-leb}
-use Rattle.bytes_le.specs.Numbers.{words}
 use Rattle.bytes_le.proofs.Numbers.{Below}
 use Rattle.awhile.specs.Lists.{sum}
 use Rattle.awhile.specs.Refusals.{Answer, refused, got, check, andThen, refusalNumber}
 use Rattle.awhile.specs.Tables.{Table, readTable, rejected, notATree, accepted, BreaksRule}
 use Rattle.reader.specs.Index.{Indexed, tableOf, nodesIn, Answers}
 use Rattle.reader.proofs.Index.{indexed-well-formed, indexed-few}
-use Rattle.reader.proofs.Answering.{AcceptedTable, RefusedTable, byRecord, byOrder, accepting, refusing}
+use Rattle.reader.proofs.Answering.{RefusedTable, byRecord, byOrder, accepting, refusing}
 use Rattle.awhile.specs.declared.Labelling.{Labelling}
 use Rattle.reader.specs.declared.Read.{Read}
 use Rattle.reader.specs.declared.Read.the-variants.{Accepted}
 use Rattle.reader.specs.declared.Read.the-variants.{Refused as RefusedRead}
 use Rattle.awhile.specs.declared.Refusal.{Refusal}
-use Rattle.awhile.specs.declared.Refusal.the-variants.{BadDirectives, WrongVariables, WrongCells, ShortPending, NotATree}
+use Rattle.awhile.specs.declared.Refusal.the-variants.{BadDirectives, WrongVariables, WrongCells, ShortPending}
 use Rattle.machine.specs.Directives.{readDirectives, directivesIn}
 use Rattle.interpreter.specs.Listed.{isSome}
-use Rattle.machine.specs.Runs.{plain, guessing, endNumber}
+use Rattle.machine.specs.Runs.{endNumber}
 use Rattle.machine.specs.Memory.{runNumbers}
 use Rattle.interpreter.specs.Evaluation.{variablesIn}
 use Rattle.interpreter.specs.Stepping.{cellsIn}
-use Rattle.interpreter.specs.Guiding.{Readable, orNone, directivesFrom, guideOf}
+use Rattle.interpreter.specs.Guiding.{orNone, directivesFrom, guideOf}
 use Rattle.interpreter.specs.Running.{runOf, reportOf, RunAsked, RunLeaves}
 use Rattle.interpreter.specs.declared.run.Report.{Report}
 use Rattle.entries.specs.Answers.{answered, refusalNumbers, tableIn}

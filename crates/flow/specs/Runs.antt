@@ -1,5 +1,5 @@
 -- What the inner functions of the running entries answer and leave.
-use Prim.Native.Nat.{ℕ, _*_}
+use Prim.Native.Nat.{ℕ}
 use mathlib.Core.Bool.{Bool, cond}
 use mathlib.Core.List.{List, [], _∷_}
 use mathlib.Core.Path.{_≡_}
@@ -17,7 +17,7 @@ use Rattle.interpreter.specs.Guiding.{guideOf}
 use Rattle.interpreter.specs.Running.{reportOf}
 use Rattle.interpreter.specs.declared.run.Report.{Report}
 use Rattle.entries.specs.Answers.{refusalNumbers, tableIn}
-use Rattle.entries.specs.Running.{Lent, Ran, lentFor, runIn, ranAll, runEntry, guessEntry}
+use Rattle.entries.specs.Running.{Lent, lentFor, runIn, ranAll}
 use Rattle.entries.specs.Promises.{Placed}
 use Rattle.flow.specs.declared.machines.Done.{Done}
 use Rattle.flow.specs.declared.machines.Done.the-variants.{Refused, Ended}

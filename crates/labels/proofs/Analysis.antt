@@ -11,9 +11,8 @@ use Rattle.awhile.specs.Language.{AExp, BExp, Com, skip, assign, sequence, if, 
 use Rattle.awhile.specs.declared.Labelling.{Labelling}
 use Rattle.labels.specs.Labellings.{Mark, variableMark, arrayMark, labelOf, _⊑_, labelOfA, labelOfB}
 use Rattle.labels.specs.Analysis.{readLabel, writeLabel, targets, analyse}
-use Rattle.labels.specs.Rules.{Settled, SettledWithin, publicAmong, marksBelow, declaredMarks, loopPass, SetsDeclared, Within}
+use Rattle.labels.specs.Rules.{Settled, SettledWithin, publicAmong, marksBelow, declaredMarks, loopPass, SetsDeclared}
 use Rattle.labels.proofs.Booleans.{or-mono}
-use Rattle.labels.proofs.Masks.{bit-above, within-width}
 use Rattle.labels.proofs.Order.{join-absorbs, join-mono, label-join-same, set-mono, label-set-other, labelOfA-mono, labelOfB-mono}
 use Rattle.labels.proofs.Passes.{public-length, settle-passed, passed-mono, passed-frame, passed-settles, settled-unique}
 
@@ -70,17 +69,6 @@ module _ {Note : Type 0} where
       (passed-frame (loopPass b c x) k (λ m. analyse-frame c (labelOfB m b || x) m k h) (length (targets c)) l)
   analyse-frame (read n v a i) x l k h = label-set-other l (variableMark v) k (readLabel l x a i) (λ e. h (List·Memᴰ·head (sym e)))
   analyse-frame (write n a i e) x l k h = label-set-other l (arrayMark a) k (writeLabel l x a i e) (λ e. h (List·Memᴰ·head (sym e)))
-
-  -- a command that sets declared marks only leaves the masks within their widths
-  pub analyse-within : (c : Com Note) (x : Bool) (l : Labelling) (v a : ℕ) → SetsDeclared v a c → Within v a l → Within v a (analyse c x l)
-  unfolding labelOf
-  analyse-within c x l v a d h =
-      record {
-        variableMask = within-width v (analyse c x l .variables) (λ k n. analyse-frame c x l (variableMark k) (λ i. absurd (omega (arith, d .variable k i)))
-            ∙ bit-above v (l .variables) k (h .variableMask) n);
-        arrayMask = within-width a (analyse c x l .arrays) (λ k n. analyse-frame c x l (arrayMark k) (λ i. absurd (omega (arith, d .array k i)))
-            ∙ bit-above a (l .arrays) k (h .arrayMask) n);
-      }
 
   -- what a command sets is declared
   targets-declared : (c : Com Note) (v a : ℕ) → SetsDeclared v a c → (k : Mark) → List·Memᴰ k (targets c) → List·Memᴰ k (declaredMarks v a)

@@ -98,12 +98,6 @@ bit-above zero m n h k = let e : m ≡ 0 = omega arith in rw e (bit-zero n)
 bit-above (suc w) m zero h k = absurd (omega arith)
 bit-above (suc w) m (suc n) h k = bit-above w (m / 2) n (omega arith) (omega arith)
 
--- a mask with no digit set from a width up is within it
-pub within-width : (w m : ℕ) → ((n : ℕ) → w ≤ n → bit m n ≡ false) → m < 2 ^ w
-unfolding bit
-within-width zero m h = let e : m ≡ 0 = bit-ext m 0 (λ n. h n (omega arith) ∙ sym (bit-zero n)) in omega arith
-within-width (suc w) m h = let k : m / 2 < 2 ^ w = within-width w (m / 2) (λ n q. h (suc n) (omega arith)) in omega arith
-
 -- a digit by shifting: the form that code has
 pub bit-shift : (m n : ℕ) → bit m n ≡ eqb (m / 2 ^ n % 2) 1
 unfolding bit

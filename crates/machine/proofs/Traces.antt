@@ -1,17 +1,16 @@
 -- What a run shows, as a list by itself: the trace of a state under a guide. The counters, the observations shown before and the room of
 -- the buffer are left out of it; `run-shows` and `run-begins` tie it to `run`.
-use Prim.Native.Nat.{ℕ, zero, suc, _+_}
+use Prim.Native.Nat.{ℕ, zero, suc}
 use mathlib.Core.Bool.{Bool, true, false, cond, true≢false}
 use mathlib.Core.Option.{Option, none, some}
 use mathlib.Core.Path.{_≡_, refl, sym, ap, subst, _∙_}
 use mathlib.Core.List.{List, [], _∷_, _++_, append-assoc, append-nil}
-use lib.ListN.{length}
 use Rattle.awhile.specs.Language.{Com}
-use Rattle.machine.specs.Observations.{Observation, branch, readAt, writeAt, observationBytes, shownBytes}
+use Rattle.machine.specs.Observations.{Observation, branch, readAt, writeAt}
 use Rattle.machine.specs.Look.{Look, quiet, fork, get, put, look}
 use Rattle.machine.specs.Steps.{State, quietly, atFork, atGet, atPut}
 use Rattle.machine.specs.Runs.{Room, endless, holds, Guide, plain, guessing, Machine, Next, over, goes, Outcome}
-use Rattle.machine.specs.Runs.{moved, shownIf, shownStep, stepOf, nextOf, next, endWithout, run}
+use Rattle.machine.specs.Runs.{moved, shownIf, shownStep, stepOf, nextOf, next, run}
 use Rattle.machine.specs.Prefixes.{Begins}
 use Rattle.machine.specs.declared.Directive.{Directive}
 use Rattle.machine.specs.declared.Directive.the-variants.{Step}

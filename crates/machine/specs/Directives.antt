@@ -1,7 +1,7 @@
 -- Directives: "72 step; 73 force; 74 load and 75 store (array, index in 4 bytes)", and the reading of a list of them,
 -- refused by 10 where it is cut or holds a wrong kind or length.
 use Prim.Native.Nat.{ℕ, zero, suc}
-use mathlib.Core.Bool.{Bool, cond, _&&_}
+use mathlib.Core.Bool.{cond, _&&_}
 use mathlib.Core.Option.{Option, none, some}
 use mathlib.Core.List.{List, [], _∷_, _++_, flatMap}
 use lib.ListN.{length, drop}

@@ -1,11 +1,11 @@
 -- What stands in lent memory after a run, and the run's numbers.
-use Prim.Native.Nat.{ℕ, _+_, _*_, _-_}
+use Prim.Native.Nat.{ℕ, _*_, _-_}
 use mathlib.Core.Bool.{cond}
 use mathlib.Core.List.{List, [], _∷_, _++_, map, reverse}
 use lib.ListN.{length, drop, replicate}
 use Rattle.bytes_le.specs.Numbers.{words}
 use Rattle.awhile.specs.Language.{Com, noteOf}
-use Rattle.machine.specs.Observations.{Observation, shownBytes}
+use Rattle.machine.specs.Observations.{shownBytes}
 use Rattle.machine.specs.Runs.{Outcome, endNumber}
 
 -- "The first N pending entries hold the list, then zeros; entries beyond N .. are unchanged": the next command's entry is the last

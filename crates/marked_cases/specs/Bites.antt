@@ -6,7 +6,7 @@ use mathlib.Core.Bool.{true, false, true≢false}
 use mathlib.Core.List.{List, [], _∷_, _++_}
 use mathlib.Core.Logic.{inl, inr}
 use mathlib.Core.Path.{_≡_, refl, sym, ap, subst, subst₂, _∙_}
-use lib.ListN.{length, getD, replicate, List·getD-append}
+use lib.ListN.{getD, replicate, List·getD-append}
 use borrow.Author.Tests.{ltb-true}
 use Rattle.awhile.specs.Tables.{Table, readTable, rejected, notATree, accepted}
 use Rattle.awhile.specs.Trees.{rootOf}

@@ -1,11 +1,11 @@
 -- Hardened reads and writes by their decisions; their nodes do not depend on the number that they are noted with.
 use Prim.Native.Nat.{ℕ, _+_}
 use native.Mathlib.Omega.{arith}
-use mathlib.Core.Bool.{Bool, true, false, cond}
+use mathlib.Core.Bool.{Bool, true, false}
 use mathlib.Core.List.{List}
 use mathlib.Core.Option.{none, some}
-use mathlib.Core.Path.{_≡_, refl, sym, subst}
-use Rattle.awhile.specs.Language.{AExp, Com, sequence, read, write}
+use mathlib.Core.Path.{_≡_, sym, subst}
+use Rattle.awhile.specs.Language.{AExp, Com, sequence, read}
 use Rattle.awhile.specs.Encoding.{nodesOfA, nodesOf, writeC}
 use Rattle.masks.specs.Decisions.{decision}
 use Rattle.masks.specs.Hardening.{Origin, maskedIndex, maskValueOf, harden}

@@ -4,7 +4,7 @@ use native.Mathlib.Omega.{arith}
 use mathlib.Core.Bool.{Bool, true, false, cond, _||_}
 use mathlib.Core.Bool.{not as negated}
 use mathlib.Core.List.{List, [], _∷_, _++_, append-assoc}
-use mathlib.Core.Path.{_≡_, refl, ap, _∙_}
+use mathlib.Core.Path.{_≡_, refl}
 use Rattle.awhile.specs.Language.{AExp, number, variable, choice, BExp, equal, and}
 use Rattle.awhile.specs.Encoding.{nodesOfA, nodesOfB, nodesOf, binary, ternary, writeA, writeB, writeC}
 use Rattle.awhile.specs.Lists.{sum}

@@ -7,7 +7,7 @@ use copier::copies::both;
 use copier::copies::copy_numeric;
 use copier::copies::last;
 use copier::records::append;
-ghost use Prim.Native.Nat.{_+_, _-_, _≤_, _<_};
+ghost use Prim.Native.Nat.{_+_, _≤_, _<_};
 ghost use mathlib.Core.Bool.{false};
 ghost use lib.ListN.{length};
 ghost use Rattle.awhile.specs.Encoding.{nodesOf, writeC};

@@ -1,16 +1,15 @@
 -- How agreement on what is public is kept: under larger labellings, assignments and updates of the flag variable.
-use Prim.Native.Nat.{ℕ, _<_, _≤_}
+use Prim.Native.Nat.{ℕ, _<_}
 use native.Mathlib.Decide.{ℕ-discrete, decLt}
 use native.Mathlib.Omega.{arith}
-use mathlib.Core.Bool.{Bool, true, false, cond, true≢false}
+use mathlib.Core.Bool.{Bool, true, false, true≢false}
 use mathlib.Core.List.{List}
-use mathlib.Core.Path.{_≡_, refl, sym, ap, subst, _∙_}
+use mathlib.Core.Path.{_≡_, refl, sym, subst, _∙_}
 use lib.ListN.{length, getD, set, length-set}
 use lib.Seq.{getD-set-same, getD-set-other}
 use Rattle.awhile.specs.Language.{AExp, BExp, valueOf, truthOf}
 use Rattle.awhile.specs.declared.Labelling.{Labelling}
 use Rattle.labels.specs.Labellings.{_⊑_, Mark, variableMark, arrayMark, labelOf, setLabel, labelOfA, labelOfB}
-use Rattle.labels.specs.Rules.{AgreeOn}
 use Rattle.labels.proofs.Order.{label-set, label-set-other}
 use Rattle.labels.proofs.Booleans.{le-false}
 use Rattle.labels.proofs.Values.{public-value, public-truth, agree-weaker, agree-set, stored-same}
@@ -56,11 +55,6 @@ module _ {f k : ℕ} {l : Labelling} {vs ws : List ℕ} (a : Flagged f k l vs ws
 
 -- ---- masks, by the value of the flag variable
 module _ (f : ℕ) (vs : List ℕ) where
-  pub condition-unmasked : (mask : Bool) (b : BExp) → getD vs f 0 ≡ 0 → truthOf (maskedCondition f mask b) vs ≡ truthOf b vs
-  unfolding maskedCondition truthOf
-  condition-unmasked true b e = rw e
-  condition-unmasked false b e = refl
-
   pub condition-masked : (b : BExp) → getD vs f 0 ≡ 1 → truthOf (maskedCondition f true b) vs ≡ false
   unfolding maskedCondition truthOf
   condition-masked b e = rw e
@@ -72,11 +66,6 @@ module _ (f : ℕ) (vs : List ℕ) where
   pub same-straight : (i : AExp) → getD vs f 0 ≡ 0 → valueOf (zeroIfGuessing f i) vs ≡ valueOf i vs
   unfolding zeroIfGuessing valueOf
   same-straight i e = rw e
-
-  pub index-unmasked : (mask : Bool) (i : AExp) → getD vs f 0 ≡ 0 → valueOf (maskedIndex f mask i) vs ≡ valueOf i vs
-  unfolding maskedIndex
-  index-unmasked true i e = same-straight i e
-  index-unmasked false i e = refl
 
 unmasked-public : {label : Bool} → Masked label false → label ≡ false
 unmasked-public {label} h = go label refl

@@ -1,14 +1,14 @@
 -- The decisions that the labels give are made for the program that was analysed, and cover its labels.
-use Prim.Native.Nat.{ℕ, _<_}
-use mathlib.Core.Bool.{Bool, true, false, _||_, true≢false}
+use Prim.Native.Nat.{ℕ}
+use mathlib.Core.Bool.{Bool, false, _||_}
 use mathlib.Core.Bool.{not as negated}
 use mathlib.Core.Path.{_≡_, refl, sym, ap, ap₂, subst, _∙_}
-use Rattle.awhile.specs.Language.{AExp, BExp, Com, skip, assign, sequence, if, while, read, write, noteOf, mapNotes}
+use Rattle.awhile.specs.Language.{BExp, Com, skip, assign, sequence, if, while, read, write, mapNotes}
 use Rattle.awhile.specs.WellFormed.{Within}
 use Rattle.awhile.specs.declared.Labelling.{Labelling}
 use Rattle.labels.specs.Labellings.{labelOfA, labelOfB}
 use Rattle.labels.specs.Analysis.{analyse, readLabel}
-use Rattle.labels.specs.Annotation.{Entry, entered, annotate}
+use Rattle.labels.specs.Annotation.{Entry, annotate}
 use Rattle.labels.specs.Rules.{programOf}
 use Rattle.labels.specs.Sheet.{entryOf}
 use Rattle.labels.proofs.Notes.{analyse-notes}

@@ -30,10 +30,6 @@ use Rattle.masks.proofs.ReadBack.{table-size, eightfold, hardened-nodes
 use Rattle.masks.proofs.SameRun.{same-run}
 use Rattle.masks.proofs.Security.{secure-by}
 
--- bytes read back as one table
-pub reads-back-once : (t : Table) (program : Com Origin) (out : List ℕ) (t′ t″ : Table) → ReadsBack t program out t′ → readTable out ≡ accepted t″ → t″ ≡ t′
-reads-back-once t program out t′ t″ r e = let same : accepted t″ ≡ accepted t′ = sym e ∙ r .accepts in cc
-
 module _ (t : Table) (w : WellFormed t) (small : length (t .nodes) ≤ 512) (free : t .variables < maxVariables) where
   module _ (d : Com Decision) (program : programFor d ≡ rootOf t) (large : MasksLargeConditions d) (covers : Covers d false (t .labels)) where
     abbrev program′ : Com Origin

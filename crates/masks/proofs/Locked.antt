@@ -5,9 +5,9 @@ use mathlib.Core.List.{List, [], _∷_}
 use mathlib.Core.Option.{some, none}
 use mathlib.Core.Path.{_≡_}
 use lib.ListN.{length, getD}
-use Rattle.awhile.specs.Language.{AExp, BExp, Com, skip, assign, sequence, if, while, read, write}
+use Rattle.awhile.specs.Language.{AExp, BExp, Com, sequence, while, read}
 use Rattle.awhile.specs.declared.Labelling.{Labelling}
-use Rattle.labels.specs.Labellings.{_⊑_, variableMark, arrayMark, setLabel, labelOfA, labelOfB}
+use Rattle.labels.specs.Labellings.{_⊑_, variableMark, setLabel, labelOfA, labelOfB}
 use Rattle.labels.specs.Analysis.{analyse, readLabel}
 use Rattle.labels.specs.Rules.{AgreeOn}
 use Rattle.machine.specs.Look.{look, quiet}

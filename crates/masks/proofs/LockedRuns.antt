@@ -1,16 +1,14 @@
 -- Whole runs from locked configurations, under one list of directives and any two budgets: what one shows begins what the other shows.
 use Prim.Native.Nat.{ℕ, zero, suc}
-use mathlib.Core.Bool.{Bool, true, false, cond, true≢false, _&&_}
-use mathlib.Core.Bool.{not as negated}
-use mathlib.Core.List.{List, [], _∷_, _++_}
+use mathlib.Core.Bool.{Bool, true, false, cond, true≢false}
+use mathlib.Core.List.{List, [], _∷_}
 use mathlib.Core.Logic.{_⊎_, inl, inr}
-use mathlib.Core.Option.{Option, none, some}
-use mathlib.Core.Path.{_≡_, refl, sym, ap, subst, subst₂, _∙_}
+use mathlib.Core.Path.{_≡_, refl}
 use Rattle.awhile.specs.Language.{Com}
 use Rattle.labels.proofs.Booleans.{and-left}
 use Rattle.machine.specs.Observations.{Observation, branch, readAt, writeAt}
-use Rattle.machine.specs.Look.{Look, quiet, fork, get, put, look}
-use Rattle.machine.specs.Steps.{State, inside, onlyIf, redirected, quietly, turned, loaded, stored, atFork, atGet, atPut}
+use Rattle.machine.specs.Look.{Look, fork, get, put}
+use Rattle.machine.specs.Steps.{State, inside, onlyIf, redirected, turned, loaded, stored, atFork, atGet, atPut}
 use Rattle.machine.specs.Runs.{Guide, guessing}
 use Rattle.machine.specs.Prefixes.{OneBegins}
 use Rattle.machine.specs.declared.Directive.{Directive}

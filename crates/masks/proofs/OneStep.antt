@@ -5,7 +5,7 @@ use native.Mathlib.Omega.{arith}
 use mathlib.Core.Bool.{Bool, true, false, cond, _||_, true≢false}
 use mathlib.Core.List.{List, [], _∷_}
 use mathlib.Core.Logic.{_⊎_, inl, inr}
-use mathlib.Core.Option.{some, none}
+use mathlib.Core.Option.{none}
 use mathlib.Core.Path.{_≡_, refl, sym, ap, subst, subst₂, _∙_}
 use lib.ListN.{length, getD, set, length-set}
 use lib.Seq.{set-getD, set-set, getD-set-other}
@@ -17,17 +17,17 @@ use Rattle.labels.proofs.Order.{⊑-refl, ⊑-trans, join-left, join-right}
 use Rattle.labels.proofs.Analysis.{loop-settles}
 use Rattle.labels.proofs.Booleans.{or-false-left, or-false-right}
 use Rattle.labels.proofs.Values.{public-value}
-use Rattle.machine.specs.Observations.{Observation, branch, readAt, writeAt}
+use Rattle.machine.specs.Observations.{branch, readAt, writeAt}
 use Rattle.machine.specs.Look.{Look, quiet, fork, get, put, look}
 use Rattle.machine.specs.Steps.{State, inside, cellPlace, quietly, turned, loaded, stored}
 use Rattle.machine.specs.Runs.{plain}
 use Rattle.masks.specs.Decisions.{Decision}
-use Rattle.masks.specs.Covering.{Masked, ValueMasked, Covers, covers-skip, covers-assign, covers-sequence, covers-if, covers-while, covers-read, covers-write, AgreeOnArrays}
-use Rattle.masks.specs.Hardening.{Origin, harden, maskedCondition, maskedIndex, flagIfTrue, flagIfFalse, maskValueOf}
+use Rattle.masks.specs.Covering.{Masked, ValueMasked, Covers, covers-sequence, covers-if, covers-while, covers-read, covers-write, AgreeOnArrays}
+use Rattle.masks.specs.Hardening.{Origin, harden, maskedIndex, flagIfTrue, flagIfFalse, maskValueOf}
 use Rattle.masks.specs.SameRun.{AssignsBelow}
 use Rattle.masks.proofs.Locked.{conditionOf, loopOf, readOf}
 use Rattle.masks.proofs.Locked.{WellLabelled, nothing, item, loop, maskedRead, Flagged, stateOf, PlainRelated, Besides, guessed, straight, Locked, steady, silent}
-use Rattle.masks.proofs.Agreement.{public-below, flagged-larger, flagged-set, flagged-flag, same-condition, same-index, condition-unmasked, index-unmasked, zero-guessing, same-straight, arrays-set}
+use Rattle.masks.proofs.Agreement.{public-below, flagged-larger, flagged-set, flagged-flag, same-condition, same-index, zero-guessing, same-straight, arrays-set}
 use Rattle.masks.proofs.PlainRuns.{plain-after, plain-shows, turn-quiet, turn-fork, turn-get, turn-put}
 
 -- how the next steps of two configurations are alike

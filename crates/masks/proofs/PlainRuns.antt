@@ -1,8 +1,8 @@
 -- Two plain runs that are related stay related step by step, and show the same first observation.
 use Prim.Native.Nat.{ℕ, zero, suc}
 use mathlib.Core.Bool.{Bool, true, cond}
-use mathlib.Core.List.{List, [], _∷_, _++_, append-nil}
-use mathlib.Core.Path.{_≡_, refl, sym, ap, subst, subst₂, _∙_}
+use mathlib.Core.List.{List, [], _∷_, _++_}
+use mathlib.Core.Path.{_≡_, ap, subst₂, _∙_}
 use Rattle.awhile.specs.Language.{Com}
 use lib.ListN.{getD, set}
 use Rattle.machine.specs.Observations.{Observation, branch, readAt, writeAt}

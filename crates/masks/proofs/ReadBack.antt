@@ -2,7 +2,6 @@
 use Prim.Native.Nat.{ℕ, _+_, _*_, _≤_, _<_}
 use native.Mathlib.Numerals.{add-one}
 use native.Mathlib.Omega.{arith}
-use mathlib.Core.Bool.{false}
 use mathlib.Core.Path.{_≡_, refl, sym, ap, subst}
 use mathlib.Core.List.{List, map}
 use lib.ListN.{length, take}
@@ -15,21 +14,19 @@ use Rattle.awhile.specs.Trees.{rootOf}
 use Rattle.awhile.specs.Encoding.{nodesOf, tableBytes}
 use Rattle.awhile.specs.WellFormed.{Declared, WellFormed, Within}
 use Rattle.awhile.specs.declared.Labelling.{Labelling}
-use Rattle.awhile.specs.declared.Node.{Node}
 use Rattle.awhile.proofs.Records.{sizes-most}
 use Rattle.awhile.proofs.Reading.{length-tableBytes}
-use Rattle.awhile.proofs.Writing.{written-length, written-root, written-well-formed, written-reads-back}
+use Rattle.awhile.proofs.Writing.{written-length, written-root, written-reads-back}
 use Rattle.awhile.proofs.Ranges.{root-within}
 use Rattle.awhile.proofs.Size.{root-size}
-use Rattle.labels.specs.Sheet.{annotated}
 use Rattle.labels.specs.Labellings.{labelOf}
 use Rattle.labels.proofs.Masks.{bit-above}
-use Rattle.masks.specs.Decisions.{Decision, decide}
-use Rattle.masks.specs.Hardening.{Origin, harden, hardenedProgram, tableOfHardened, hardenedTable}
+use Rattle.masks.specs.Decisions.{Decision}
+use Rattle.masks.specs.Hardening.{Origin, harden, tableOfHardened}
 use Rattle.masks.specs.Growth.{MasksLargeConditions}
 use Rattle.masks.specs.ReadBack.{ReadsBack}
-use Rattle.masks.proofs.Decisions.{programFor, program-decided}
-use Rattle.masks.proofs.Growth.{hardened-size, hardened-within, nodesOf-mapped, decide-large}
+use Rattle.masks.proofs.Decisions.{programFor}
+use Rattle.masks.proofs.Growth.{hardened-size, hardened-within, nodesOf-mapped}
 
 -- one more variable, not secret, may be declared where there is one free
 declared-more : (v : ℕ) (l : Labelling) (counts : List ℕ) → v < maxVariables → Declared v l counts → Declared (v + 1) l counts
@@ -75,12 +72,6 @@ module _ (t : Table) (w : WellFormed t) (free : t .variables < maxVariables) (d 
   hardened-nodes = written-length table′ program′ refl
 
   module _ (few : nodesOf program′ ≤ maxNodes) where
-    -- it is well-formed
-    pub hardened-well-formed : WellFormed table′
-    unfolding tableOfHardened
-    hardened-well-formed =
-        written-well-formed table′ program′ refl (declared-more (t .variables) (t .labels) (t .counts) free (w .declared)) within′ few
-
     -- its bytes read back as the hardened program
     pub hardened-reads-back : ReadsBack t program′ (tableBytes table′) table′
     unfolding tableOfHardened labelOf
@@ -95,12 +86,3 @@ module _ (t : Table) (w : WellFormed t) (free : t .variables < maxVariables) (d 
           nodes = refl;
           root = written-root table′ program′ refl;
         }
-
--- the hardened table by the labels is well-formed
-pub hardened-table-well-formed :
-    (t : Table) → WellFormed t → length (t .nodes) ≤ 512 → t .variables < maxVariables → WellFormed (hardenedTable t)
-unfolding hardenedProgram hardenedTable annotated
-hardened-table-well-formed t w small free =
-    let d : Com Decision = decide (annotated t) in
-    let program : programFor d ≡ rootOf t = program-decided (rootOf t) false (t .labels) in
-    hardened-well-formed t w free d program (omega (arith, eightfold t w free d program (decide-large (annotated t))))

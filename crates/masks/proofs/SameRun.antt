@@ -1,18 +1,12 @@
 -- Without guessing, a hardened program runs as the original does.
 use Prim.Native.Nat.{ℕ}
-use mathlib.Core.Path.{_≡_, refl, sym, ap, ap₂, subst, _∙_}
+use mathlib.Core.Path.{_≡_, refl, sym, ap, subst, _∙_}
 use mathlib.Core.Logic.{_↔_}
-use mathlib.Core.Bool.{Bool, false}
 use mathlib.Core.Option.{some}
 use mathlib.Core.List.{List, [], _∷_, _++_}
 use lib.ListN.{length, getD}
 use lib.Seq.{getD-at}
-use Rattle.awhile.specs.Language.{Com, skip, assign, sequence, if, while, read, write, mapNotes}
-use Rattle.awhile.specs.Tables.{Table}
-use Rattle.awhile.specs.Trees.{rootOf}
-use Rattle.awhile.specs.declared.Labelling.{Labelling}
-use Rattle.labels.specs.Annotation.{annotate}
-use Rattle.labels.specs.Sheet.{annotated}
+use Rattle.awhile.specs.Language.{Com, mapNotes}
 use Rattle.machine.specs.Runs.{Outcome, endless, plain, endNumber, run, started}
 use Rattle.machine.specs.declared.End.{End}
 use Rattle.machine.specs.declared.End.the-variants.{Finished, Spent, Stuck}
@@ -20,11 +14,10 @@ use Rattle.machine.proofs.Prefixes.{begins-equal}
 use Rattle.machine.proofs.Runs.{ends-once, ends-differ}
 use Rattle.awhile.proofs.Notes.{note-mapped}
 use Rattle.machine.proofs.Notes.{mapPending, mapState, mapMachine, mapOutcome, run-mapped, started-mapped}
-use Rattle.masks.specs.Decisions.{Decision, decide}
-use Rattle.masks.specs.Hardening.{Origin, harden, hardenedProgram}
+use Rattle.masks.specs.Decisions.{Decision}
+use Rattle.masks.specs.Hardening.{Origin, harden}
 use Rattle.masks.specs.SameRun.{AssignsBelow, plainRun, nextNote, AtSome, SameResult, NextIsCopy, SameRun}
 use Rattle.masks.proofs.SameRunSteps.{withFlag, now, done, whole}
-use Rattle.masks.proofs.Decisions.{program-decided}
 use Rattle.masks.proofs.SameRunBudgets.{numbered, itself, SameEnd, Follows, Leads, Meets, meets-copies, follow, lead}
 
 -- runs that follow and lead one another are the same run, where the original's end in one way
@@ -158,38 +151,3 @@ module _ {Note : Type 0} (origin : Note → Origin) (h : Com Note) (vs cells : L
       (SameRun f itself (plainRun counts (mapNotes (λ n. n .node) d) vs cells))
       (λ i n. (ap (λ c. plainRun counts c (withFlag vs) cells n) (sym hardened) ∙ plainRun-mapped origin counts h (withFlag vs) cells n) i)
       (same-run-itself f counts d vs cells below width))
-
--- what a command assigns does not depend on its notes
-below-mapped : {A B : Type 0} (g : A → B) (f : ℕ) (c : Com A) → AssignsBelow f (mapNotes g c) → AssignsBelow f c
-unfolding mapNotes
-below-mapped g f (skip n) below = below
-below-mapped g f (assign n x e) below = below
-below-mapped g f (sequence n c d) below = (below-mapped g f c (below .0), below-mapped g f d (below .1))
-below-mapped g f (if n b c d) below = (below-mapped g f c (below .0), below-mapped g f d (below .1))
-below-mapped g f (while n b c) below = below-mapped g f c below
-below-mapped g f (read n x a i) below = below
-below-mapped g f (write n a i e) below = below
-
-module _ {Note : Type 0} (origin : Note → Origin) (h : Com Note) (vs cells : List ℕ) where
-  -- The same for a table's program.
-  pub same-run-of-table :
-      (t : Table) → mapNotes origin h ≡ hardenedProgram t → AssignsBelow (t .variables) (rootOf t) → length vs ≡ t .variables
-      → SameRun (t .variables) origin (plainRun (t .counts) (rootOf t) vs cells) (plainRun (t .counts) h (vs ++ (0 ∷ [])) cells)
-  unfolding hardenedProgram annotated
-  same-run-of-table t hardened below width =
-      let d : Com Decision = decide (annotated t) in
-      let program : mapNotes (λ n. n .node) d ≡ rootOf t = program-decided (rootOf t) false (t .labels) in
-      subst
-      (λ p. SameRun (t .variables) origin (plainRun (t .counts) p vs cells) (plainRun (t .counts) h (vs ++ (0 ∷ [])) cells))
-      program
-      (same-run
-      origin
-      h
-      vs
-      cells
-      (t .variables)
-      (t .counts)
-      d
-      hardened
-      (below-mapped (λ n. n .node) (t .variables) d (subst (AssignsBelow (t .variables)) (sym program) below))
-      width)

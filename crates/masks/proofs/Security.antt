@@ -1,25 +1,23 @@
 -- Demand 3 for the hardened program of any decisions that cover the labels.
-use Prim.Native.Nat.{ℕ, suc, _+_, _<_}
+use Prim.Native.Nat.{ℕ, _+_}
 use native.Mathlib.Omega.{arith}
-use mathlib.Core.Bool.{Bool, true, false}
-use mathlib.Core.List.{List, [], _∷_, _++_}
-use mathlib.Core.Path.{_≡_, refl, sym, ap, subst, subst₂, _∙_}
+use mathlib.Core.Bool.{false}
+use mathlib.Core.List.{List, [], _∷_}
+use mathlib.Core.Path.{_≡_, sym, ap, subst, subst₂, _∙_}
 use lib.ListN.{length, length-append}
 use Rattle.awhile.specs.Language.{Com, mapNotes}
 use Rattle.awhile.specs.Tables.{Table}
 use Rattle.awhile.specs.Trees.{rootOf}
-use Rattle.labels.specs.Rules.{AgreeOn}
 use Rattle.labels.proofs.Order.{⊑-refl}
-use Rattle.machine.specs.Observations.{Observation}
 use Rattle.machine.specs.Steps.{State}
 use Rattle.machine.specs.Runs.{Room, plain, guessing, run, started}
-use Rattle.machine.specs.Prefixes.{Begins, OneBegins}
+use Rattle.machine.specs.Prefixes.{OneBegins}
 use Rattle.machine.specs.declared.Directive.{Directive}
 use Rattle.machine.proofs.Notes.{noNote, programs-without-notes}
-use Rattle.machine.proofs.Prefixes.{beginnings-related, begins-equal}
-use Rattle.machine.proofs.Traces.{trace, run-shows, run-begins}
+use Rattle.machine.proofs.Prefixes.{beginnings-related}
+use Rattle.machine.proofs.Traces.{run-shows, run-begins}
 use Rattle.masks.specs.Decisions.{Decision}
-use Rattle.masks.specs.Covering.{Covers, AgreeOnArrays}
+use Rattle.masks.specs.Covering.{Covers}
 use Rattle.masks.specs.Hardening.{Origin, harden}
 use Rattle.masks.specs.SameRun.{AssignsBelow, SameRun, plainRun}
 use Rattle.masks.specs.Security.{plainlyShown, guessingShown, AgreeingStates, ShowsTheSame}
@@ -27,7 +25,7 @@ use Rattle.masks.proofs.Decisions.{programFor}
 use Rattle.masks.proofs.SameRunSteps.{withFlag, get-withFlag, flag-zero}
 use Rattle.masks.proofs.SameRunBudgets.{itself}
 use Rattle.masks.proofs.SameRun.{same-run-itself}
-use Rattle.masks.proofs.Locked.{WellLabelled, nothing, item, Flagged, stateOf, PlainRelated, straight, Locked, steady}
+use Rattle.masks.proofs.Locked.{nothing, item, Flagged, stateOf, PlainRelated, straight, Locked, steady}
 use Rattle.masks.proofs.LockedRuns.{runs-related}
 
 -- the start of a hardened program, from states that agree

@@ -2,7 +2,6 @@
 use Prim.Native.Nat.{ℕ, _+_}
 use mathlib.Core.Bool.{Bool, cond}
 use mathlib.Core.Option.{Option, none, some}
-use mathlib.Core.List.{List}
 use Rattle.awhile.specs.Language.{AExp, number, variable, choice, BExp, equal, and}
 use Rattle.awhile.specs.Language.{Com, skip, assign, sequence, if, while, read, write}
 use Rattle.awhile.specs.Tables.{Table}

@@ -16,14 +16,14 @@ use Rattle.awhile.specs.Lists.{all}
 use Rattle.awhile.specs.Nodes.{Field, form, sortOf, fieldInRange, inRange, fieldSorted, sorted}
 use Rattle.awhile.specs.Nodes.{word as wordField, constant as constantField, variable as variableField, array as arrayField, child as childField}
 use Rattle.awhile.specs.Tables.{maxNodes}
-use Rattle.awhile.specs.Trees.{numeric, truth, command, asNumeric, asTruth, asCommand, treeOf, rootOf}
+use Rattle.awhile.specs.Trees.{numeric, truth, asNumeric, asTruth, asCommand, treeOf, rootOf}
 use Rattle.awhile.specs.WellFormed.{WellFormed}
 use Rattle.reader.specs.Index.{tableOf, nodesIn, nodeIn, treeIn, numericIn, truthIn, commandIn, Indexed}
 use Rattle.awhile.proofs.Lists.{all-head, all-tail}
 use Rattle.awhile.proofs.Records.{NodeAt}
 use Rattle.awhile.proofs.Children.{sameSort-true}
 use Rattle.awhile.proofs.Cases.{each-in-order, in-order-last}
-use Rattle.awhile.proofs.Trees.{tree-of-node, tree-sort, tree-note, numeric-tree, truth-tree, command-tree}
+use Rattle.awhile.proofs.Trees.{tree-of-node, tree-sort, tree-note, numeric-tree, truth-tree}
 use Rattle.awhile.proofs.Accepted.{accepted-well-formed, accepted-read, node-there}
 use Rattle.awhile.specs.declared.Sort.{Sort}
 use Rattle.awhile.specs.declared.Sort.the-variants.{Numeric, Truth, Command}
@@ -159,11 +159,6 @@ module _ (table index : List ℕ) (bytes : Below 256 table) (indexed : Indexed t
   pub indexed-truth : (n : ℕ) → n < nodesIn table → sortOf (nodeIn table n) ≡ Truth → treeIn table n ≡ truth (truthIn table n)
   unfolding nodesIn nodeIn treeIn
   indexed-truth n inside e = truth-tree (treeIn table n) (tree-sort (tableOf table .nodes) n inside ∙ e)
-
-  -- a command
-  pub indexed-command : (n : ℕ) → n < nodesIn table → sortOf (nodeIn table n) ≡ Command → treeIn table n ≡ command (commandIn table n)
-  unfolding nodesIn nodeIn treeIn
-  indexed-command n inside e = command-tree (treeIn table n) (tree-sort (tableOf table .nodes) n inside ∙ e)
 
   -- a command is noted with its node number
   pub indexed-note : (n : ℕ) → n < nodesIn table → sortOf (nodeIn table n) ≡ Command → noteOf (commandIn table n) ≡ n

@@ -13,7 +13,7 @@ use Rattle.awhile.specs.Lists.{all}
 use Rattle.awhile.specs.Refusals.{refused, got, check}
 use Rattle.awhile.specs.Nodes.{Field, word, child, form, sizeOf, sortOf, decodeAt, fieldInRange, inRange, sameSort, fieldSorted, sorted, fieldChildren}
 use Rattle.awhile.specs.Tables.{framed, readNode}
-use Rattle.reader.specs.Reader.{checkedAs, firstRefusal, fieldOf, padded, nodeAs, passedNode, SortAt, Leads, SortsChecked, NodeChecked}
+use Rattle.reader.specs.Reader.{checkedAs, firstRefusal, fieldOf, padded, nodeAs, passedNode, SortAt, SortsChecked, NodeChecked}
 use Rattle.awhile.proofs.Lists.{all-head, all-tail, all-cons}
 use Rattle.awhile.proofs.Cases.{node-known, node-unknown}
 use Rattle.reader.proofs.Passing.{framed-refused, framed-passed-on}
@@ -30,7 +30,7 @@ use Rattle.awhile.specs.declared.Refusal.{Refusal}
 use Rattle.awhile.specs.declared.Refusal.the-variants.{OutOfRange, WrongSort}
 use Rattle.reader.specs.declared.checks.Checked.{Checked}
 use Rattle.reader.specs.declared.checks.Checked.the-variants.{Refused, Passed}
-use Rattle.reader.specs.declared.walk.NodeRead.the-variants.{Refused as NodeRefused, Node as NodeGot}
+use Rattle.reader.specs.declared.walk.NodeRead.the-variants.{Refused as NodeRefused}
 
 -- a sort that is not the wanted one
 pub not-numeric : (s : Sort) → OneOf (1 ∷ 2 ∷ []) (tagOf sort.the-type s) → sameSort s Numeric ≡ false

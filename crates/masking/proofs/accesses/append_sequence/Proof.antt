@@ -1,7 +1,5 @@
 -- `append_sequence` appends the sequence of the two last nodes.
-use Prim.Native.Nat.{_+_}
 use native.Mathlib.Omega.{arith}
-use mathlib.Core.Path.{ap}
 use Rattle.awhile.specs.Lists.{sum}
 use Rattle.awhile.specs.Nodes.{sizeOf, form, fieldSize}
 use Rattle.copier.proofs.Joins.{appended-pair}

@@ -1,7 +1,6 @@
 -- `harden_read` copies the index, masked or not, and hides the value behind the read or not.
-use Prim.Native.Nat.{_+_, _≤_}
 use native.Mathlib.Omega.{arith}
-use mathlib.Core.Option.{none, some}
+use mathlib.Core.Option.{some}
 use denote.Ref.{now}
 use Rattle.awhile.specs.Lists.{sum}
 use Rattle.awhile.specs.Nodes.{sizeOf, form, fieldSize}

@@ -1,5 +1,4 @@
 -- `harden_write` copies the index, masked or not, and the value behind it.
-use Prim.Native.Nat.{_+_, _≤_}
 use native.Mathlib.Omega.{arith}
 use denote.Ref.{now}
 use Rattle.awhile.specs.Lists.{sum}

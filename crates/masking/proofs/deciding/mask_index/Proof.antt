@@ -2,8 +2,8 @@
 use native.Mathlib.Omega.{arith}
 use mathlib.Core.Path.{ap, _∙_}
 use denote.Ref.{now}
-use Rattle.reader.specs.Index.{numericIn, truthIn}
-use Rattle.labels.specs.Labellings.{labelOfA, labelOfB}
+use Rattle.reader.specs.Index.{numericIn}
+use Rattle.labels.specs.Labellings.{labelOfA}
 use borrow.Author.Needs.{needs}
 use Rattle.masking.proofs.deciding.mask_index.Statement.{statement}
 use Rattle.masking.proofs.deciding.mask_index.Tie as tie

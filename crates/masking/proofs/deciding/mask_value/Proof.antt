@@ -1,6 +1,6 @@
 -- `mask_value` is the decision on a read.
 use native.Mathlib.Omega.{arith}
-use mathlib.Core.Path.{refl, sym, ap, _∙_}
+use mathlib.Core.Path.{sym, ap, _∙_}
 use denote.Ref.{now}
 use Rattle.reader.specs.Index.{numericIn}
 use Rattle.labels.specs.Analysis.{readLabel}

@@ -1,13 +1,13 @@
 -- `copy_index` copies the index, behind a guard where it is masked.
-use Prim.Native.Nat.{_+_, _≤_}
+use Prim.Native.Nat.{_+_}
 use native.Mathlib.Omega.{arith}
 use denote.Ref.{now}
 use Rattle.awhile.specs.Lists.{sum}
 use Rattle.awhile.specs.Nodes.{sizeOf, form, fieldSize}
-use Rattle.awhile.specs.Encoding.{nodesOfA, nodesOfB, writeA}
+use Rattle.awhile.specs.Encoding.{nodesOfA, writeA}
 use Rattle.reader.specs.Index.{numericIn}
 use Rattle.awhile.specs.declared.Node.the-variants.{Choice}
-use Rattle.copier.specs.Sizes.{bytesOfA, bytesOfB}
+use Rattle.copier.specs.Sizes.{bytesOfA}
 use Rattle.copier.proofs.Lengths.{counted-A, bytes-A}
 use Rattle.copier.proofs.Writers.{wrote-sized, wrote-as, room-first, room-rest, rest-inside}
 use Rattle.copier.proofs.Joins.{two-few, two-room, two-parent}

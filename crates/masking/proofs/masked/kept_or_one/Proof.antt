@@ -1,5 +1,4 @@
 -- `kept_or_one` is the flag or 1.
-use borrow.Author.Needs.{needs}
 use Rattle.masking.proofs.masked.kept_or_one.Statement.{statement}
 use Rattle.masking.proofs.masked.kept_or_one.Tie as tie
 

@@ -1,18 +1,16 @@
 -- `put_flag_update` writes the condition, the two numbers, their choice and the assignment.
-use Prim.Native.Nat.{_+_, _-_, _≤_}
+use Prim.Native.Nat.{_+_, _-_}
 use mathlib.Core.Path.{ap, _∙_}
-use Prim.Native.Nat.{ℕ, _+_, _-_, _≤_}
+use Prim.Native.Nat.{ℕ, _+_, _-_}
 use native.Mathlib.Omega.{arith}
 use mathlib.Core.Bool.{not as negated}
 use mathlib.Core.Path.{_≡_, ap, _∙_}
 use denote.Ref.{now}
 use Rattle.awhile.specs.Lists.{sum}
 use Rattle.awhile.specs.Nodes.{sizeOf, form, fieldSize}
-use Rattle.awhile.specs.Encoding.{nodesOfB}
 use Rattle.reader.specs.Index.{truthIn}
 use Rattle.awhile.specs.declared.Node.the-variants.{Choice}
 use Rattle.masks.specs.Hardening.{maskedCondition}
-use Rattle.copier.specs.Sizes.{bytesOfB}
 use Rattle.copier.proofs.Lengths.{counted-node, counted-append, counted-B, some-B}
 use Rattle.copier.proofs.Writers.{wrote-length, wrote-sized, wrote-as, wrote-parent, appended-as, room-first, room-parent}
 use Rattle.copier.proofs.Joins.{one-last}

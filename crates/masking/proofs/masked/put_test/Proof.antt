@@ -1,6 +1,5 @@
 -- `put_test` writes the flag, a number and their comparison.
 use native.Mathlib.Omega.{arith}
-use mathlib.Core.Path.{_∙_}
 use Rattle.awhile.specs.Lists.{sum}
 use Rattle.awhile.specs.Nodes.{sizeOf, form, fieldSize}
 use Rattle.awhile.specs.declared.Node.the-variants.{Number, Variable}

@@ -1,5 +1,4 @@
 -- `check_ranges` refuses where a field is out of range.
-use borrow.Author.Tests.{not-true, not-false}
 use Rattle.awhile.specs.Refusals.{check}
 use Rattle.reader.specs.Reader.{checkedAs}
 use borrow.Author.Needs.{needs}
