@@ -10,109 +10,69 @@ ghost use lib.ListN.{length};
 ghost use lib.Seq.{sets};
 ghost use Rattle.bytes_le.specs.Numbers.{le};
 ghost use Rattle.awhile.specs.Nodes.{sizeOf, nodeBytes};
+ghost use Rattle.copier.specs.declared.Record.the-variants.{One, Two, Three};
 ghost use Rattle.copier.specs.Records.{recordOf, recordBytes, recordSize};
 ghost use Rattle.copier.specs.Written.{Appended};
+
+// A record of a kind with one field. And the same with two and three.
+fn one(kind: usize, first: usize) -> Record
+    ensures { λ r. ⌜ r ≡ One kind first ⌝ }
+{
+    Record::One { kind, first }
+}
+
+fn two(kind: usize, first: usize, second: usize) -> Record
+    ensures { λ r. ⌜ r ≡ Two kind first second ⌝ }
+{
+    Record::Two {
+        kind,
+        first,
+        second,
+    }
+}
+
+fn three(kind: usize, first: usize, second: usize, third: usize) -> Record
+    ensures { λ r. ⌜ r ≡ Three kind first second third ⌝ }
+{
+    Record::Three {
+        kind,
+        first,
+        second,
+        third,
+    }
+}
 
 // A node's record by its kind and its 2-byte fields. A number's four bytes are two such fields.
 fn record_of(node: Node) -> Record
     ensures { λ r. ⌜ r ≡ recordOf node ⌝ }
 {
     match node {
-        Node::Number { value } => Record::Two {
-            kind: 16,
-            first: (value % 65536) as usize,
-            second: (value / 65536) as usize,
-        },
-        Node::Variable { variable } => Record::One {
-            kind: 17,
-            first: variable,
-        },
-        Node::Add { left, right } => Record::Two {
-            kind: 18,
-            first: left,
-            second: right,
-        },
-        Node::Subtract { left, right } => Record::Two {
-            kind: 19,
-            first: left,
-            second: right,
-        },
-        Node::Multiply { left, right } => Record::Two {
-            kind: 20,
-            first: left,
-            second: right,
-        },
-        Node::Choice { condition, yes, no } => Record::Three {
-            kind: 21,
-            first: condition,
-            second: yes,
-            third: no,
-        },
-        Node::Constant { value } => Record::One {
-            kind: 32,
-            first: value,
-        },
-        Node::Equal { left, right } => Record::Two {
-            kind: 33,
-            first: left,
-            second: right,
-        },
-        Node::Less { left, right } => Record::Two {
-            kind: 34,
-            first: left,
-            second: right,
-        },
-        Node::Not { truth } => Record::One {
-            kind: 35,
-            first: truth,
-        },
-        Node::And { left, right } => Record::Two {
-            kind: 36,
-            first: left,
-            second: right,
-        },
+        Node::Number { value } => two(16, (value % 65536) as usize, (value / 65536) as usize),
+        Node::Variable { variable } => one(17, variable),
+        Node::Add { left, right } => two(18, left, right),
+        Node::Subtract { left, right } => two(19, left, right),
+        Node::Multiply { left, right } => two(20, left, right),
+        Node::Choice { condition, yes, no } => three(21, condition, yes, no),
+        Node::Constant { value } => one(32, value),
+        Node::Equal { left, right } => two(33, left, right),
+        Node::Less { left, right } => two(34, left, right),
+        Node::Not { truth } => one(35, truth),
+        Node::And { left, right } => two(36, left, right),
         Node::Skip => Record::Bare { kind: 48 },
-        Node::Assign { variable, value } => Record::Two {
-            kind: 49,
-            first: variable,
-            second: value,
-        },
-        Node::Sequence { first, second } => Record::Two {
-            kind: 50,
-            first: first,
-            second: second,
-        },
-        Node::If { condition, yes, no } => Record::Three {
-            kind: 51,
-            first: condition,
-            second: yes,
-            third: no,
-        },
-        Node::While { condition, body } => Record::Two {
-            kind: 52,
-            first: condition,
-            second: body,
-        },
+        Node::Assign { variable, value } => two(49, variable, value),
+        Node::Sequence { first, second } => two(50, first, second),
+        Node::If { condition, yes, no } => three(51, condition, yes, no),
+        Node::While { condition, body } => two(52, condition, body),
         Node::Read {
             variable,
             array,
             index,
-        } => Record::Three {
-            kind: 53,
-            first: variable,
-            second: array,
-            third: index,
-        },
+        } => three(53, variable, array, index),
         Node::Write {
             array,
             index,
             value,
-        } => Record::Three {
-            kind: 54,
-            first: array,
-            second: index,
-            third: value,
-        },
+        } => three(54, array, index, value),
     }
 }
 
