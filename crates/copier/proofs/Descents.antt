@@ -1,28 +1,43 @@
--- Calls on a node's children: their numbers are lower, and so are the measures.
-use Prim.Native.Nat.{ℕ, _+_, _*_, _<_, max}
+-- Calls on a node's children: their numbers are lower, and so are the measures. A node's is 3 times its number, so that up to two calls on the same
+-- children fall by 1 each.
+use Prim.Native.Nat.{ℕ, suc, _+_, _*_, _<_, max}
 use native.Mathlib.Omega.{arith}
 use mathlib.Core.List.{List}
 use mathlib.Core.Path.{_≡_}
 use Rattle.reader.specs.Index.{Indexed}
 use Rattle.awhile.specs.declared.Sort.{Sort}
-use Rattle.awhile.specs.declared.Sort.the-variants.{Numeric}
+use Rattle.awhile.specs.declared.Sort.the-variants.{Numeric, Truth}
 use Rattle.reader.proofs.Index.{Child}
 use Rattle.analysis.specs.Conditions.{OfSort}
 use Rattle.analysis.proofs.ExpressionLabels.{child-of-sort}
 
-module _ {table index : List ℕ} {t n : ℕ} (is : 2 * n + 1 ≡ t) (indexed : Indexed table index) where
+module _ {table index : List ℕ} {t n : ℕ} (is : 3 * n ≡ t) (indexed : Indexed table index) where
   -- one child
-  pub lower : {s : Sort} {k : ℕ} → Child table s n k → (2 * k + 1 < t) × OfSort table index s k
+  pub lower : {s : Sort} {k : ℕ} → Child table s n k → (3 * k < t) × OfSort table index s k
   lower h = (omega (arith, h .below), child-of-sort indexed h)
 
-  -- a pair of children
-  pub lower-pair : {j k : ℕ} → Child table Numeric n j → Child table Numeric n k
-      → (2 * max j k + 2 < t) × (OfSort table index Numeric j × OfSort table index Numeric k)
+  -- two children
+  pub lower-pair : {s : Sort} {j k : ℕ} → Child table s n j → Child table s n k
+      → (3 * max j k + 2 < t) × (OfSort table index s j × OfSort table index s k)
   lower-pair g h = (omega (arith, g .below, h .below), (child-of-sort indexed g, child-of-sort indexed h))
 
--- the members of a pair
-pub first-of-pair : (j k : ℕ) {t : ℕ} → 2 * max j k + 2 ≡ t → 2 * j + 1 < t
-first-of-pair j k e = omega arith
+  -- the three children of a choice
+  pub lower-three : {i j k : ℕ} → Child table Truth n i → Child table Numeric n j → Child table Numeric n k
+      → (3 * max i (max j k) + 2 < t) × (OfSort table index Truth i × OfSort table index Numeric j × OfSort table index Numeric k)
+  lower-three f g h =
+      (omega (arith, f .below, g .below, h .below), (child-of-sort indexed f, child-of-sort indexed g, child-of-sort indexed h))
 
-pub second-of-pair : (j k : ℕ) {t : ℕ} → 2 * max j k + 2 ≡ t → 2 * k + 1 < t
-second-of-pair j k e = omega arith
+-- the members of a pair, in a function that adds so many calls and one to their measure
+module _ (j k more : ℕ) {t : ℕ} (is : 3 * max j k + suc more ≡ t) where
+  pub first-of-pair : 3 * j < t
+  first-of-pair = omega arith
+
+  pub second-of-pair : 3 * k < t
+  second-of-pair = omega arith
+
+-- the same pair, and the pair behind a first child
+pub pair-of-binary : (j k : ℕ) {t : ℕ} → 3 * max j k + 2 ≡ t → 3 * max j k + 1 < t
+pair-of-binary j k e = omega arith
+
+pub pair-of-choice : (i j k : ℕ) {t : ℕ} → 3 * max i (max j k) + 2 ≡ t → 3 * max j k + 1 < t
+pair-of-choice i j k e = omega arith

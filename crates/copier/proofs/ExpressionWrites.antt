@@ -10,11 +10,11 @@ use Rattle.awhile.specs.Language.{AExp, choice, BExp}
 use Rattle.awhile.specs.Encoding.{nodesOfA, nodesOfB, binary, writeA, writeB}
 use Rattle.awhile.specs.declared.Node.{Node}
 use Rattle.awhile.specs.declared.Node.the-variants.{Choice}
-use Rattle.copier.specs.Sizes.{bytesOfA, bytesOfB, Sized}
+use Rattle.copier.specs.Sizes.{bytesOfA, bytesOfB, Sized, Few}
 use Rattle.copier.specs.Written.{Appended, Wrote, WrotePair, WroteTwo, Both, Room}
 use Rattle.copier.specs.declared.Size.{Size}
 use Rattle.copier.specs.declared.Pair.{Pair}
-use Rattle.copier.proofs.Lengths.{Counted, counted-A, counted-B, counted-append}
+use Rattle.copier.proofs.Lengths.{Counted, counted-A, counted-B, counted-append, bytes-A, bytes-B}
 use Rattle.copier.proofs.Joins.{two-wrote, three-room, three-parent}
 use Rattle.copier.proofs.Writers.{sizeIs, restOf, withRest, wrote-sized, wrote-as, wrote-parent, wrote-rest, room-parent}
 
@@ -69,6 +69,16 @@ module _ {from : ℕ} {a b : AExp} {l m : List ℕ} {p : Pair} where
 
 -- ---- a choice
 module _ (from : ℕ) (c : BExp) (a b : AExp) {l m rest : List ℕ} {s : Size} {p : Pair} where
+  pub choice-few : Wrote (writeB from c) l m s → WrotePair (from + s .nodes) a b (restOf (s .bytes) m) rest p
+      → Room from (nodesOfB c + nodesOfA a + nodesOfA b + 1) (bytesOfB c + bytesOfA a + bytesOfA b + 10) l → Few (s .nodes + p .nodes) (s .bytes + p .bytes)
+  choice-few w v h =
+      let first = wrote-sized w (counted-B from c) in
+      let sides = pair-sized v in
+      record {
+        fewNodes = omega (arith, h .numbers, first .nodesCounted, sides .nodesCounted);
+        fewBytes = omega (arith, h .numbers, first .bytesCounted, sides .bytesCounted, bytes-B c .short, bytes-A a .short, bytes-A b .short);
+      }
+
   pub choice-room : Wrote (writeB from c) l m s → WrotePair (from + s .nodes) a b (restOf (s .bytes) m) rest p
       → Room from (nodesOfB c + nodesOfA a + nodesOfA b + 1) (bytesOfB c + bytesOfA a + bytesOfA b + 10) l
       → (s .bytes + p .bytes + 10 ≤ length (withRest (s .bytes) m rest)) × (s .nodes + p .nodes < 2 ^ 32)

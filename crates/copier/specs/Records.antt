@@ -30,6 +30,16 @@ recordOf (While b c) = Two 52 b c
 recordOf (Read x a i) = Three 53 x a i
 recordOf (Write a i e) = Three 54 a i e
 
+abbrev pub kindOf : Record → ℕ
+kindOf (Bare k) = k
+kindOf (One k a) = k
+kindOf (Two k a b) = k
+kindOf (Three k a b c) = k
+
+-- the record of a node's kind over two other children
+abbrev pub recordOver : Node → (left right : ℕ) → Record
+recordOver n i j = Two (kindOf (recordOf n)) i j
+
 abbrev pub recordSize : Record → ℕ
 recordSize (Bare k) = 4
 recordSize (One k a) = 6

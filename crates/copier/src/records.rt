@@ -11,8 +11,8 @@ ghost use lib.Seq.{sets};
 ghost use Rattle.bytes_le.specs.Numbers.{le};
 ghost use Rattle.awhile.specs.Nodes.{sizeOf, nodeBytes};
 ghost use Rattle.copier.specs.declared.Record.the-variants.{One, Two, Three};
-ghost use Rattle.copier.specs.Records.{recordOf, recordBytes, recordSize};
-ghost use Rattle.copier.specs.Written.{Appended};
+ghost use Rattle.copier.specs.Records.{recordOf, kindOf, recordOver, recordBytes, recordSize};
+ghost use Rattle.copier.specs.Written.{Appended, AppendedRecord};
 
 // A record of a kind with one field. And the same with two and three.
 fn one(kind: usize, first: usize) -> Record
@@ -76,6 +76,25 @@ fn record_of(node: Node) -> Record
     }
 }
 
+// A record's kind.
+fn kind_of(fields: Record) -> usize
+    ensures { λ r. ⌜ r ≡ kindOf fields ⌝ }
+{
+    match fields {
+        Record::Bare { kind } => kind,
+        Record::One { kind, .. } => kind,
+        Record::Two { kind, .. } => kind,
+        Record::Three { kind, .. } => kind,
+    }
+}
+
+// The record of a node's kind over two other children.
+pub fn record_over(node: Node, left: usize, right: usize) -> Record
+    ensures { λ r. ⌜ r ≡ recordOver node left right ⌝ }
+{
+    two(kind_of(record_of(node)), left, right)
+}
+
 // A record's length and kind.
 fn put_head(out: &mut [u8], size: usize, kind: usize)
     requires { ⌜ 4 ≤ length (now out) ⌝ }
@@ -125,15 +144,24 @@ pub fn put_record(out: &mut [u8], fields: Record) -> usize
     }
 }
 
-// A node's record behind what is written already. The answer is how much is written then.
+// A record behind what is written already. The answer is how much is written then.
+pub fn append_record(out: &mut [u8], nodes: usize, bytes: usize, fields: Record) -> Size
+    requires { ⌜ bytes + recordSize fields ≤ length (now out) ⌝ }
+    requires { ⌜ nodes < 2 ^ 32 ⌝ }
+    ensures { λ r. ⌜ AppendedRecord nodes bytes fields (now (out .entry)) (now (out .exit)) r ⌝ }
+{
+    let size = put_record(&mut out[bytes..], fields);
+    Size {
+        nodes: nodes + 1,
+        bytes: bytes + size,
+    }
+}
+
+// A node's record behind what is written already.
 pub fn append(out: &mut [u8], nodes: usize, bytes: usize, node: Node) -> Size
     requires { ⌜ bytes + sizeOf node ≤ length (now out) ⌝ }
     requires { ⌜ nodes < 2 ^ 32 ⌝ }
     ensures { λ r. ⌜ Appended nodes bytes node (now (out .entry)) (now (out .exit)) r ⌝ }
 {
-    let size = put_record(&mut out[bytes..], record_of(node));
-    Size {
-        nodes: nodes + 1,
-        bytes: bytes + size,
-    }
+    append_record(out, nodes, bytes, record_of(node))
 }

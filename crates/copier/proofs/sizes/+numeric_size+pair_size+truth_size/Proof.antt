@@ -36,13 +36,13 @@ use Rattle.copier.proofs.sizes.+numeric_size+pair_size+truth_size.{stat
 use Rattle.copier.proofs.sizes.+numeric_size+pair_size+truth_size.Tie.{close}
 
 abbrev μ-numeric-size : Measures 2 numeric-size-kinds.ps ℕ
-μ-numeric-size κs a = 2 * a .1 .1 .0 + 1
+μ-numeric-size κs a = 3 * a .1 .1 .0
 
 abbrev μ-pair-size : Measures 2 pair-size-kinds.ps ℕ
-μ-pair-size κs a = 2 * max (a .1 .1 .0) (a .1 .1 .1 .0) + 2
+μ-pair-size κs a = 3 * max (a .1 .1 .0) (a .1 .1 .1 .0) + 2
 
 abbrev μ-truth-size : Measures 2 truth-size-kinds.ps ℕ
-μ-truth-size κs a = 2 * a .1 .1 .0 + 1
+μ-truth-size κs a = 3 * a .1 .1 .0
 
 abbrev numeric-size-at : ℕ → In 2 numeric-size-kinds.ps
 numeric-size-at t =
@@ -212,11 +212,11 @@ numeric-size-returns-7 t c =
 
 pair-size-numeric-size-requires : (t : ℕ) → pair-size-lts.Need-numeric-size-requires (pair-size-calls t) (pair-size-at t) pair-size.Post
 pair-size-numeric-size-requires t c κs =
-    let start = c .before .before in (first-of-pair (start .args .left) (start .args .right) (start .pre .0), (start .pre .1 .0 .0, omega (arith, start .pre .1 .1)))
+    let start = c .before .before in (first-of-pair (start .args .left) (start .args .right) 1 (start .pre .0), (start .pre .1 .0 .0, omega (arith, start .pre .1 .1)))
 
 pair-size-numeric-size-requires-2 : (t : ℕ) → pair-size-lts.Need-numeric-size-requires-2 (pair-size-calls t) (pair-size-at t) pair-size.Post
 pair-size-numeric-size-requires-2 t c κs =
-    let start = c .before .before .before in (second-of-pair (start .args .left) (start .args .right) (start .pre .0), (start .pre .1 .0 .1, omega (arith, start .pre .1 .1)))
+    let start = c .before .before .before in (second-of-pair (start .args .left) (start .args .right) 1 (start .pre .0), (start .pre .1 .0 .1, omega (arith, start .pre .1 .1)))
 
 pair-size-over-two-requires : (t : ℕ) → pair-size-lts.Need-over-two-requires (pair-size-calls t) (pair-size-at t) pair-size.Post
 pair-size-over-two-requires t c κs =
