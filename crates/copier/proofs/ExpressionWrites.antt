@@ -6,16 +6,16 @@ use lib.Dec.{eqb}
 use mathlib.Core.Path.{_≡_, refl, sym, ap, subst, _∙_}
 use mathlib.Core.List.{List, [], _∷_, _++_, append-assoc}
 use lib.ListN.{length}
-use Rattle.awhile.specs.Language.{AExp, choice, BExp}
+use Rattle.awhile.specs.Language.{AExp, choice, BExp, not, and}
 use Rattle.awhile.specs.Encoding.{nodesOfA, nodesOfB, binary, writeA, writeB}
 use Rattle.awhile.specs.declared.Node.{Node}
-use Rattle.awhile.specs.declared.Node.the-variants.{Choice}
+use Rattle.awhile.specs.declared.Node.the-variants.{Choice, Not, And}
 use Rattle.copier.specs.Sizes.{bytesOfA, bytesOfB, Sized, Few}
 use Rattle.copier.specs.Written.{Appended, Wrote, WrotePair, WroteTwo, Both, Room}
 use Rattle.copier.specs.declared.Size.{Size}
 use Rattle.copier.specs.declared.Pair.{Pair}
-use Rattle.copier.proofs.Lengths.{Counted, counted-A, counted-B, counted-append, bytes-A, bytes-B}
-use Rattle.copier.proofs.Joins.{two-wrote, three-room, three-parent}
+use Rattle.copier.proofs.Lengths.{Counted, counted-A, counted-B, counted-append, some-A, some-B, bytes-A, bytes-B}
+use Rattle.copier.proofs.Joins.{two-few, two-wrote, two-room, two-parent, three-room, three-parent, one-parent, one-last}
 use Rattle.copier.proofs.Writers.{sizeIs, restOf, withRest, wrote-sized, wrote-as, wrote-parent, wrote-rest, room-parent}
 
 -- the expression of a node is what its parts say
@@ -33,6 +33,10 @@ room-B {from = from} {l} p w = subst (λ e. Room from (nodesOfB e) (bytesOfB e) 
 
 -- ---- two numeric expressions, and a parent over them
 module _ (from : ℕ) (a b : AExp) {l m rest : List ℕ} {s u : Size} where
+  pub pair-few : Wrote (writeA from a) l m s → Wrote (writeA (from + s .nodes) b) (restOf (s .bytes) m) rest u
+      → Room from (nodesOfA a + nodesOfA b) (bytesOfA a + bytesOfA b) l → Few (from + s .nodes + u .nodes) (s .bytes + u .bytes) × (0 < s .nodes)
+  pair-few w v h = two-few from (λ k. writeA k b) w (counted-A from a) v (λ k. counted-A k b) h (omega arith) (some-A a) (bytes-A a) (bytes-A b)
+
   pub wrote-pair : Wrote (writeA from a) l m s → Wrote (writeA (from + s .nodes) b) (restOf (s .bytes) m) rest u → {p : Pair} → Both from s u p
       → bytesOfA a + bytesOfA b ≤ length l → WrotePair from a b l (withRest (s .bytes) m rest) p
   wrote-pair w v added room =
@@ -68,10 +72,11 @@ module _ {from : ℕ} {a b : AExp} {l m : List ℕ} {p : Pair} where
       record { wrote = w .wrote; leftIs = omega (arith, w .leftIs); rightIs = omega (arith, w .rightIs) }
 
 -- ---- a choice
-module _ (from : ℕ) (c : BExp) (a b : AExp) {l m rest : List ℕ} {s : Size} {p : Pair} where
-  pub choice-few : Wrote (writeB from c) l m s → WrotePair (from + s .nodes) a b (restOf (s .bytes) m) rest p
-      → Room from (nodesOfB c + nodesOfA a + nodesOfA b + 1) (bytesOfB c + bytesOfA a + bytesOfA b + 10) l → Few (s .nodes + p .nodes) (s .bytes + p .bytes)
-  choice-few w v h =
+module _ (from : ℕ) (c : BExp) (a b : AExp) {l m rest : List ℕ} {s : Size} {p : Pair} (w : Wrote (writeB from c) l m s)
+    (v : WrotePair (from + s .nodes) a b (restOf (s .bytes) m) rest p)
+    (h : Room from (nodesOfB c + nodesOfA a + nodesOfA b + 1) (bytesOfB c + bytesOfA a + bytesOfA b + 10) l) where
+  pub choice-few : Few (s .nodes + p .nodes) (s .bytes + p .bytes)
+  choice-few =
       let first = wrote-sized w (counted-B from c) in
       let sides = pair-sized v in
       record {
@@ -79,21 +84,45 @@ module _ (from : ℕ) (c : BExp) (a b : AExp) {l m rest : List ℕ} {s : Size} {
         fewBytes = omega (arith, h .numbers, first .bytesCounted, sides .bytesCounted, bytes-B c .short, bytes-A a .short, bytes-A b .short);
       }
 
-  pub choice-room : Wrote (writeB from c) l m s → WrotePair (from + s .nodes) a b (restOf (s .bytes) m) rest p
-      → Room from (nodesOfB c + nodesOfA a + nodesOfA b + 1) (bytesOfB c + bytesOfA a + bytesOfA b + 10) l
-      → (s .bytes + p .bytes + 10 ≤ length (withRest (s .bytes) m rest)) × (s .nodes + p .nodes < 2 ^ 32)
-  choice-room w v h =
+  pub choice-room : (s .bytes + p .bytes + 10 ≤ length (withRest (s .bytes) m rest)) × (s .nodes + p .nodes < 2 ^ 32)
+  choice-room =
       three-room from (λ k. writeA k a) (λ k. writeA (k + nodesOfA a) b) w (counted-B from c) (pair-two v) (λ k. counted-A k a)
       (λ k. counted-A (k + nodesOfA a) b) 10 h (omega arith) (omega arith)
 
-  pub wrote-choice : {x : List ℕ} {r : Size} → Wrote (writeB from c) l m s → WrotePair (from + s .nodes) a b (restOf (s .bytes) m) rest p → {i : ℕ}
-      → i ≡ from + s .nodes - 1
+  pub wrote-choice : {i : ℕ} → i ≡ from + s .nodes - 1 → {x : List ℕ} {r : Size}
       → Appended (s .nodes + p .nodes) (s .bytes + p .bytes) (Choice i (p .left) (p .right)) (withRest (s .bytes) m rest) x r
-      → bytesOfB c + bytesOfA a + bytesOfA b ≤ length l → Wrote (writeA from (choice c a b)) l x r
+      → Wrote (writeA from (choice c a b)) l x r
   unfolding writeA
-  wrote-choice w v e h room =
+  wrote-choice e parent =
       three-parent from (λ k. writeA k a) (λ k. writeA (k + nodesOfA a) b) w (counted-B from c) (pair-two v) (λ k. counted-A k a)
-      (λ k. counted-A (k + nodesOfA a) b) Choice e (omega arith) h
+      (λ k. counted-A (k + nodesOfA a) b) Choice e (omega (arith, h .fits)) parent
+
+-- ---- two truths and the `and` over them
+module _ (from : ℕ) (a b : BExp) {l m rest : List ℕ} {s u : Size} (w : Wrote (writeB from a) l m s)
+    (v : Wrote (writeB (from + s .nodes) b) (restOf (s .bytes) m) rest u) (h : Room from (nodesOfB a + nodesOfB b + 1) (bytesOfB a + bytesOfB b + 8) l) where
+  pub and-few : Few (from + s .nodes + u .nodes) (s .bytes + u .bytes) × (0 < s .nodes)
+  and-few = two-few from (λ k. writeB k b) w (counted-B from a) v (λ k. counted-B k b) h (omega arith) (some-B a) (bytes-B a) (bytes-B b)
+
+  pub and-room : {p : Pair} → Both from s u p → (p .bytes + 8 ≤ length (withRest (s .bytes) m rest)) × (p .nodes < 2 ^ 32)
+  and-room added = two-room from (λ k. writeB k b) w (counted-B from a) v (λ k. counted-B k b) added 8 h (omega arith) (omega arith)
+
+  pub wrote-and : {p : Pair} → Both from s u p → {x : List ℕ} {r : Size}
+      → Appended (p .nodes) (p .bytes) (And (p .left) (p .right)) (withRest (s .bytes) m rest) x r → Wrote (writeB from (and a b)) l x r
+  unfolding writeB
+  wrote-and added parent =
+      two-parent from (λ k. writeB k b) w (counted-B from a) v (λ k. counted-B k b) added And (omega (arith, h .fits)) parent
+
+-- ---- a truth and the `not` over it
+module _ (from : ℕ) (b : BExp) {l m : List ℕ} {s : Size} (w : Wrote (writeB from b) l m s) where
+  pub not-last : Room from (nodesOfB b + 1) (bytesOfB b + 6) l → (0 < s .nodes) × (from + s .nodes ≤ 4096)
+  not-last h = one-last from w (counted-B from b) h (omega arith) (some-B b)
+
+  pub not-room : Room from (nodesOfB b + 1) (bytesOfB b + 6) l → (s .bytes + 6 ≤ length m) × (s .nodes < 2 ^ 32)
+  not-room h = room-parent 6 w (counted-B from b) h (omega arith) (omega arith)
+
+  pub wrote-not : {i : ℕ} → i ≡ from + s .nodes - 1 → {x : List ℕ} {r : Size} → Appended (s .nodes) (s .bytes) (Not i) m x r → Wrote (writeB from (not b)) l x r
+  unfolding writeB
+  wrote-not e parent = one-parent from Not w (counted-B from b) e parent
 
 -- ---- a constant
 -- a constant is 0 or 1, so it is written as it was

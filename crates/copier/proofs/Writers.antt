@@ -104,6 +104,10 @@ pub wrote-node : {n : Node} {l m : List ℕ} {r : Size} → Appended 0 0 n l m r
 unfolding flatMap
 wrote-node {n} {l} {m} {r} a = wrote-parent {ns = []} {s = sizeIs 0 0} (record { stored = refl; nodesCounted = refl; bytesCounted = refl }) a
 
+-- one node alone, which is known to be this
+pub wrote-leaf : {n m : Node} {l k : List ℕ} {r : Size} → n ≡ m → Appended 0 0 n l k r → Wrote (m ∷ []) l k r
+wrote-leaf e a = wrote-node (appended-as e a)
+
 -- ---- room
 -- room for the first part of it
 pub room-first : {from n b i j : ℕ} {out : List ℕ} → Room from n b out → i ≤ n → j ≤ b → Room from i j out

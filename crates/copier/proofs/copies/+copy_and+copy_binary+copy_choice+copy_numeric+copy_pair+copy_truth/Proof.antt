@@ -1,28 +1,26 @@
 -- Copies of expressions: each function writes its children behind each other, whose numbers are lower, and the node behind them.
-use Prim.Native.Nat.{ℕ, _+_, _-_, _*_, _<_, _≤_, max}
+use Prim.Native.Nat.{ℕ, _+_, _*_, _<_, max}
 use native.Mathlib.Omega.{arith}
-use mathlib.Core.Path.{_≡_, refl, sym, ap, subst, _∙_}
-use mathlib.Core.List.{[], _∷_}
+use mathlib.Core.Path.{_≡_, refl, sym, ap, _∙_}
 use denote.Ref.{now}
 use Rattle.bytes_le.proofs.Numbers.{slice-bytes}
 use Rattle.awhile.specs.Lists.{sum}
-use Rattle.awhile.specs.Language.{AExp, BExp}
+use Rattle.awhile.specs.Language.{AExp, BExp, not}
 use Rattle.awhile.specs.Nodes.{sortOf, sizeOf, form, fieldSize}
 use Rattle.awhile.specs.Encoding.{nodesOfA, nodesOfB, binary, writeA, writeB}
-use Rattle.awhile.specs.declared.Sort.{Sort}
 use Rattle.awhile.specs.declared.Node.{Node}
-use Rattle.awhile.specs.declared.Node.the-variants.{Add, Subtract, Multiply, Constant, Equal, Less, Not, And}
+use Rattle.awhile.specs.declared.Node.the-variants.{Add, Subtract, Multiply, Constant, Equal, Less}
 use Rattle.awhile.proofs.Unnamed.{never-numeric, never-truth}
 use Rattle.reader.specs.Index.{numericIn, truthIn}
-use Rattle.reader.proofs.Index.{Parts, indexed-parts}
-use Rattle.copier.specs.Sizes.{bytesOfA, bytesOfB}
+use Rattle.reader.proofs.Index.{Parts}
 use Rattle.copier.specs.Records.{recordSize}
-use Rattle.copier.proofs.Lengths.{counted-A, counted-B, some-A, some-B, bytes-A, bytes-B}
-use Rattle.copier.proofs.Descents.{lower, lower-pair, lower-three, first-of-pair, second-of-pair, pair-of-binary, pair-of-choice}
-use Rattle.copier.proofs.Writers.{wrote-sized, wrote-as, wrote-node, appended-node, Rest, rest-of, room-first, room-parent, room-leaf}
-use Rattle.copier.proofs.Joins.{two-few, two-room, two-parent, one-parent, one-last}
-use Rattle.copier.proofs.ExpressionWrites.{wrote-A, wrote-B, room-A, room-B, wrote-pair, pair-parent, pair-room}
-use Rattle.copier.proofs.ExpressionWrites.{choice-few, choice-room, wrote-choice, constant-value}
+use Rattle.copier.specs.Sizes.{bytesOfA, bytesOfB}
+use Rattle.copier.proofs.Lengths.{counted-A, counted-B, some-B}
+use Rattle.copier.proofs.Writers.{Rest, rest-of, wrote-leaf, appended-node, room-first, room-leaf}
+use Rattle.copier.proofs.Joins.{one-last}
+use Rattle.copier.proofs.ExpressionWrites.{wrote-A, wrote-B, room-A, room-B, pair-few, wrote-pair, pair-parent, pair-room}
+use Rattle.copier.proofs.ExpressionWrites.{and-few, and-room, wrote-and, not-last, not-room, wrote-not, choice-few, choice-room, wrote-choice, constant-value}
+use Rattle.copier.proofs.Descents.{node-parts, lower, call-binary, call-choice, call-truth, first-of-pair, second-of-pair, pair-of-binary, pair-of-choice}
 use borrow.Author.Needs.{needs}
 use borrow.Fn.Kinds.{In}
 use borrow.Fn.PlainCycle.{Measures, is, falls, and}
@@ -130,19 +128,13 @@ copy-truth-calls t = (truth-at-reads.Asked, truth-at-reads.Learnt, append-reads.
 
 module _ (t : ℕ) (d : copy-numeric-lts.After-numeric-at (copy-numeric-calls t) (copy-numeric-at t) copy-numeric.Post) where
   numeric-parts : (m : Node) → d .numeric-at .result ≡ m → Parts (now (d .before .before .before .before .args .table)) (d .before .before .before .before .args .n) m
-  numeric-parts m e =
-      let start = d .before .before .before .before in
-      indexed-parts (now (start .args .table)) (now (start .args .index)) (slice-bytes (now (start .args .table)) (d .before .before .before .shared-slice-known .given))
-      (start .pre .1 .0 .indexed) (start .args .n) (start .pre .1 .0 .inside) m (sym (d .numeric-at .ensures) ∙ e)
+  numeric-parts m e = node-parts (d .before .before .before .before .pre .1 .0) (slice-bytes (now (d .before .before .before .before .args .table)) (d .before .before .before .shared-slice-known .given)) (d .numeric-at .ensures) e
 
 module _ (t : ℕ) (d : copy-truth-lts.After-truth-at (copy-truth-calls t) (copy-truth-at t) copy-truth.Post) where
   truth-parts : (m : Node) → d .truth-at .result ≡ m → Parts (now (d .before .before .before .before .args .table)) (d .before .before .before .before .args .n) m
-  truth-parts m e =
-      let start = d .before .before .before .before in
-      indexed-parts (now (start .args .table)) (now (start .args .index)) (slice-bytes (now (start .args .table)) (d .before .before .before .shared-slice-known .given))
-      (start .pre .1 .0 .indexed) (start .args .n) (start .pre .1 .0 .inside) m (sym (d .truth-at .ensures) ∙ e)
+  truth-parts m e = node-parts (d .before .before .before .before .pre .1 .0) (slice-bytes (now (d .before .before .before .before .args .table)) (d .before .before .before .shared-slice-known .given)) (d .truth-at .ensures) e
 
--- what is left behind the first part
+-- where the first part of a pair, an `and` and a choice is written: the parts, and what is left behind the first
 module _ (t : ℕ) (d : copy-pair-lts.After-copy-numeric (copy-pair-calls t) (copy-pair-at t) copy-pair.Post) where
   abbrev pair-left : AExp
   pair-left = numericIn (now (d .before .before .before .before .before .args .table)) (d .before .before .before .before .before .args .left)
@@ -164,8 +156,8 @@ module _ (t : ℕ) (d : copy-and-lts.After-copy-truth (copy-and-calls t) (copy-a
   and-rest = rest-of (d .copy-truth .ensures) (counted-B (d .before .before .before .before .before .args .from) and-left) (d .before .before .before .before .before .pre .1 .1) (omega arith) (omega arith)
 
 module _ (t : ℕ) (d : copy-choice-lts.After-copy-truth (copy-choice-calls t) (copy-choice-at t) copy-choice.Post) where
-  abbrev choice-condition : BExp
-  choice-condition = truthIn (now (d .before .before .before .before .before .args .table)) (d .before .before .before .before .before .args .condition)
+  abbrev choice-if : BExp
+  choice-if = truthIn (now (d .before .before .before .before .before .args .table)) (d .before .before .before .before .before .args .condition)
 
   abbrev choice-yes : AExp
   choice-yes = numericIn (now (d .before .before .before .before .before .args .table)) (d .before .before .before .before .before .args .yes)
@@ -174,134 +166,102 @@ module _ (t : ℕ) (d : copy-choice-lts.After-copy-truth (copy-choice-calls t) (
   choice-no = numericIn (now (d .before .before .before .before .before .args .table)) (d .before .before .before .before .before .args .no)
 
   choice-rest : Rest (d .before .before .before .before .before .args .from) (nodesOfA choice-yes + nodesOfA choice-no) (bytesOfA choice-yes + bytesOfA choice-no) (d .copy-truth .result) (d .copy-truth .last .1 .1 .1 .1 .0)
-  choice-rest = rest-of (d .copy-truth .ensures) (counted-B (d .before .before .before .before .before .args .from) choice-condition) (d .before .before .before .before .before .pre .1 .1) (omega arith) (omega arith)
+  choice-rest = rest-of (d .copy-truth .ensures) (counted-B (d .before .before .before .before .before .args .from) choice-if) (d .before .before .before .before .before .pre .1 .1) (omega arith) (omega arith)
+
+-- where the part of a `not` is written
+module _ (t : ℕ) (d : copy-truth-lts.After-copy-truth (copy-truth-calls t) (copy-truth-at t) copy-truth.Post) where
+  abbrev not-part : BExp
+  not-part = truthIn (now (d .before .before .before .before .before .before .before .before .before .args .table)) (d .before .before .before .node3 .given .0 .0)
+
+  not-is : truthIn (now (d .before .before .before .before .before .before .before .before .before .args .table)) (d .before .before .before .before .before .before .before .before .before .args .n) ≡ not not-part
+  not-is = truth-parts t (d .before .before .before .before .before) _ (d .before .before .before .node3 .given .1) .1
 
 pub +copy-and+copy-binary+copy-choice+copy-numeric+copy-pair+copy-truth-spec : {M : Type 1} → statement M
 unfolding nodesOfA nodesOfB bytesOfA bytesOfB writeA writeB binary sizeOf form fieldSize sum
 +copy-and+copy-binary+copy-choice+copy-numeric+copy-pair+copy-truth-spec =
     close μ-copy-and μ-copy-binary μ-copy-choice μ-copy-numeric μ-copy-pair μ-copy-truth
     (λ t. copy-and-lts.spec (copy-and-calls t) (copy-and-at t) copy-and.Post
+    -- the first truth, and what is left behind it
     (λ c κs. let s = c .before .before .before .before in (first-of-pair (s .args .left) (s .args .right) 1 (s .pre .0), (s .pre .1 .0 .0, room-first (s .pre .1 .1) (omega arith) (omega arith))))
     (λ c. omega (arith, and-rest t (c .before .before .before) .room .numbers))
-    (λ c. and-rest t (c .before .before .before) .inside)
-    (λ c. and-rest t (c .before .before .before) .inside)
-    (λ c. search needs)
+    (λ c. and-rest t (c .before .before .before) .inside) (λ c. and-rest t (c .before .before .before) .inside) (λ c. search needs)
+    -- the second truth, the two together, and the node
     (λ c κs. let s = c .before .before .before .before .before .before .before .before .before in (second-of-pair (s .args .left) (s .args .right) 1 (s .pre .0), (s .pre .1 .0 .1, and-rest t (c .before .before .before .before) .room)))
-    (λ c κs. let d = c .before .before .before .before .before .before .before in let s = d .before .before .before .before .before in
-    two-few (s .args .from) (λ k. writeB k (and-right t d)) (d .copy-truth .ensures) (counted-B (s .args .from) (and-left t d)) (c .before .before .copy-truth2 .ensures)
-    (λ k. counted-B k (and-right t d)) (s .pre .1 .1) (omega arith) (some-B (and-left t d)) (bytes-B (and-left t d)) (bytes-B (and-right t d)))
-    (λ c κs. let d = c .before .before .before .before .before .before .before .before .before in let s = d .before .before .before .before .before in
-    two-room (s .args .from) (λ k. writeB k (and-right t d)) (d .copy-truth .ensures) (counted-B (s .args .from) (and-left t d)) (c .before .before .before .before .copy-truth2 .ensures)
-    (λ k. counted-B k (and-right t d)) (c .before .both .ensures) 8 (s .pre .1 .1) (omega arith) (omega arith))
+    (λ c κs. let d = c .before .before .before .before .before .before .before in
+    and-few (d .before .before .before .before .before .args .from) (and-left t d) (and-right t d) (d .copy-truth .ensures) (c .before .before .copy-truth2 .ensures) (d .before .before .before .before .before .pre .1 .1))
+    (λ c κs. let d = c .before .before .before .before .before .before .before .before .before in
+    and-room (d .before .before .before .before .before .args .from) (and-left t d) (and-right t d) (d .copy-truth .ensures) (c .before .before .before .before .copy-truth2 .ensures) (d .before .before .before .before .before .pre .1 .1) (c .before .both .ensures))
     (λ c. search needs)
-    (λ c. let d = c .before .before .before .before .before .before .before .before .before .before .before .before in let s = d .before .before .before .before .before in
-    two-parent (s .args .from) (λ k. writeB k (and-right t d)) (d .copy-truth .ensures) (counted-B (s .args .from) (and-left t d)) (c .before .before .before .before .before .before .before .copy-truth2 .ensures)
-    (λ k. counted-B k (and-right t d)) (c .before .before .before .before .both .ensures) And (omega (arith, s .pre .1 .1 .fits)) (c .before .before .append .ensures)))
+    (λ c. let d = c .before .before .before .before .before .before .before .before .before .before .before .before in
+    wrote-and (d .before .before .before .before .before .args .from) (and-left t d) (and-right t d) (d .copy-truth .ensures) (c .before .before .before .before .before .before .before .copy-truth2 .ensures) (d .before .before .before .before .before .pre .1 .1) (c .before .before .before .before .both .ensures) (c .before .before .append .ensures)))
     (λ t. copy-binary-lts.spec (copy-binary-calls t) (copy-binary-at t) copy-binary.Post
+    -- the pair, and the record behind it
     (λ c κs. let s = c .before .before .before .before in (pair-of-binary (s .args .left) (s .args .right) (s .pre .0), (s .pre .1 .0, room-first (s .pre .1 .1) (omega arith) (omega arith))))
     (λ c κs. search needs)
     (λ c κs. let r = pair-room (c .before .before .before .before .copy-pair .ensures) (c .before .before .before .before .before .before .before .before .before .pre .1 .1) in (omega (arith, r .0, ap recordSize (c .before .record-over .ensures)), r .1))
     (λ c. search needs)
     (λ c. record { wrote = λ f made. pair-parent f (c .before .before .before .before .before .before .before .copy-pair .ensures) (appended-node (c .before .before .before .before .record-over .ensures ∙ sym (made _ _)) (c .before .before .append-record .ensures)) }))
     (λ t. copy-choice-lts.spec (copy-choice-calls t) (copy-choice-at t) copy-choice.Post
+    -- the condition, and what is left behind it
     (λ c κs. let s = c .before .before .before .before in (first-of-pair (s .args .condition) (max (s .args .yes) (s .args .no)) 1 (s .pre .0), (s .pre .1 .0 .0, room-first (s .pre .1 .1) (omega arith) (omega arith))))
     (λ c. omega (arith, choice-rest t (c .before .before .before) .room .numbers))
-    (λ c. choice-rest t (c .before .before .before) .inside)
-    (λ c. choice-rest t (c .before .before .before) .inside)
-    (λ c. search needs)
+    (λ c. choice-rest t (c .before .before .before) .inside) (λ c. choice-rest t (c .before .before .before) .inside) (λ c. search needs)
+    -- the two sides, the number of the condition, and the node
     (λ c κs. let s = c .before .before .before .before .before .before .before .before .before in (pair-of-choice (s .args .condition) (s .args .yes) (s .args .no) (s .pre .0), ((s .pre .1 .0 .1, s .pre .1 .0 .2), choice-rest t (c .before .before .before .before) .room)))
-    (λ c κs. let d = c .before .before .before .before .before .before .before in let s = d .before .before .before .before .before in
-    one-last (s .args .from) (d .copy-truth .ensures) (counted-B (s .args .from) (choice-condition t d)) (s .pre .1 .1) (omega arith) (some-B (choice-condition t d)))
-    (λ c. let d = c .before .before .before .before .before .before .before .before .before .before .before in let s = d .before .before .before .before .before in
-    omega (arith, choice-few (s .args .from) (choice-condition t d) (choice-yes t d) (choice-no t d) (d .copy-truth .ensures) (c .before .before .before .before .before .before .copy-pair .ensures) (s .pre .1 .1) .fewNodes))
-    (λ c. let d = c .before .before .before .before .before .before .before .before .before .before .before .before in let s = d .before .before .before .before .before in
-    omega (arith, choice-few (s .args .from) (choice-condition t d) (choice-yes t d) (choice-no t d) (d .copy-truth .ensures) (c .before .before .before .before .before .before .before .copy-pair .ensures) (s .pre .1 .1) .fewBytes))
-    (λ c κs. let d = c .before .before .before .before .before .before .before .before .before .before .before .before in let s = d .before .before .before .before .before in
-    choice-room (s .args .from) (choice-condition t d) (choice-yes t d) (choice-no t d) (d .copy-truth .ensures) (c .before .before .before .before .before .before .before .copy-pair .ensures) (s .pre .1 .1))
+    (λ c κs. let d = c .before .before .before .before .before .before .before in one-last (d .before .before .before .before .before .args .from) (d .copy-truth .ensures) (counted-B (d .before .before .before .before .before .args .from) (choice-if t d)) (d .before .before .before .before .before .pre .1 .1) (omega arith) (some-B (choice-if t d)))
+    (λ c. let d = c .before .before .before .before .before .before .before .before .before .before .before in
+    omega (arith, choice-few (d .before .before .before .before .before .args .from) (choice-if t d) (choice-yes t d) (choice-no t d) (d .copy-truth .ensures) (c .before .before .before .before .before .before .copy-pair .ensures) (d .before .before .before .before .before .pre .1 .1) .fewNodes))
+    (λ c. let d = c .before .before .before .before .before .before .before .before .before .before .before .before in
+    omega (arith, choice-few (d .before .before .before .before .before .args .from) (choice-if t d) (choice-yes t d) (choice-no t d) (d .copy-truth .ensures) (c .before .before .before .before .before .before .before .copy-pair .ensures) (d .before .before .before .before .before .pre .1 .1) .fewBytes))
+    (λ c κs. let d = c .before .before .before .before .before .before .before .before .before .before .before .before in
+    choice-room (d .before .before .before .before .before .args .from) (choice-if t d) (choice-yes t d) (choice-no t d) (d .copy-truth .ensures) (c .before .before .before .before .before .before .before .copy-pair .ensures) (d .before .before .before .before .before .pre .1 .1))
     (λ c. search needs)
-    (λ c. let d = c .before .before .before .before .before .before .before .before .before .before .before .before .before .before .before in let s = d .before .before .before .before .before in
-    wrote-choice (s .args .from) (choice-condition t d) (choice-yes t d) (choice-no t d) (d .copy-truth .ensures) (c .before .before .before .before .before .before .before .before .before .before .copy-pair .ensures) (c .before .before .before .before .before .before .before .last .ensures)
-    (c .before .before .append .ensures) (omega (arith, s .pre .1 .1 .fits))))
+    (λ c. let d = c .before .before .before .before .before .before .before .before .before .before .before .before .before .before .before in
+    wrote-choice (d .before .before .before .before .before .args .from) (choice-if t d) (choice-yes t d) (choice-no t d) (d .copy-truth .ensures) (c .before .before .before .before .before .before .before .before .before .before .copy-pair .ensures) (d .before .before .before .before .before .pre .1 .1) (c .before .before .before .before .before .before .before .last .ensures) (c .before .before .append .ensures)))
     (λ t. copy-numeric-lts.spec (copy-numeric-calls t) (copy-numeric-at t) copy-numeric.Post
+    -- the node that is read, and what each kind asks
     (λ c κs. let s = c .before .before .before in (s .pre .1 .0 .indexed, s .pre .1 .0 .inside, s .pre .1 .0 .isSort))
-    (λ c. search needs)
-    (λ c κs. let p = numeric-parts t (c .before .before .before) _ (c .before .enum-told .given .1) in
-    room-leaf (c .before .before .before .numeric-at .result) (room-A p (c .before .before .before .before .before .before .before .pre .1 .1)) (ap sizeOf (c .before .enum-told .given .1)))
-    (λ c. search needs)
-    (λ c κs. let p = numeric-parts t (c .before .before .before) _ (c .before .enum-told2 .given .1) in
-    room-leaf (c .before .before .before .numeric-at .result) (room-A (p .1) (c .before .before .before .before .before .before .before .pre .1 .1)) (ap sizeOf (c .before .enum-told2 .given .1)))
-    (λ c. search needs)
-    (λ c κs. let s = c .before .before .before .before .before .before .before .before in let p = numeric-parts t (c .before .before .before .before) _ (c .before .before .node .given .1) in
-    let q = lower-pair (s .pre .0) (s .pre .1 .0 .indexed) (p .0) (p .1) in (q .0, (q .1, room-A (p .2) (s .pre .1 .1))))
-    (λ c. search needs)
-    (λ c κs. let s = c .before .before .before .before .before .before .before .before in let p = numeric-parts t (c .before .before .before .before) _ (c .before .before .node2 .given .1) in
-    let q = lower-pair (s .pre .0) (s .pre .1 .0 .indexed) (p .0) (p .1) in (q .0, (q .1, room-A (p .2) (s .pre .1 .1))))
-    (λ c. search needs)
-    (λ c κs. let s = c .before .before .before .before .before .before .before .before in let p = numeric-parts t (c .before .before .before .before) _ (c .before .before .node3 .given .1) in
-    let q = lower-pair (s .pre .0) (s .pre .1 .0 .indexed) (p .0) (p .1) in (q .0, (q .1, room-A (p .2) (s .pre .1 .1))))
-    (λ c. search needs)
-    (λ c κs. let s = c .before .before .before .before .before .before .before .before in let p = numeric-parts t (c .before .before .before .before) _ (c .before .before .node4 .given .1) in
-    let q = lower-three (s .pre .0) (s .pre .1 .0 .indexed) (p .0) (p .1) (p .2) in (q .0, (q .1, room-A (p .3) (s .pre .1 .1))))
-    (λ c. search needs)
-    (λ c. let e = c .before .before .before .before .enum-told .given .1 in wrote-A _ (numeric-parts t (c .before .before .before .before .before .before) _ e) (wrote-as (wrote-node (c .before .before .append .ensures)) (ap (λ n. n ∷ []) e)))
-    (λ c. search needs)
-    (λ c. let e = c .before .before .before .before .enum-told2 .given .1 in wrote-A _ (numeric-parts t (c .before .before .before .before .before .before) _ e .1) (wrote-as (wrote-node (c .before .before .append2 .ensures)) (ap (λ n. n ∷ []) e)))
-    (λ c. search needs)
-    (λ c. wrote-A _ (numeric-parts t (c .before .before .before .before .before .before .before) _ (c .before .before .before .before .before .node .given .1) .2) (c .before .before .copy-binary .ensures .wrote Add (λ i j. refl)))
-    (λ c. search needs)
-    (λ c. wrote-A _ (numeric-parts t (c .before .before .before .before .before .before .before) _ (c .before .before .before .before .before .node2 .given .1) .2) (c .before .before .copy-binary2 .ensures .wrote Subtract (λ i j. refl)))
-    (λ c. search needs)
-    (λ c. wrote-A _ (numeric-parts t (c .before .before .before .before .before .before .before) _ (c .before .before .before .before .before .node3 .given .1) .2) (c .before .before .copy-binary3 .ensures .wrote Multiply (λ i j. refl)))
-    (λ c. search needs)
-    (λ c. wrote-A _ (numeric-parts t (c .before .before .before .before .before .before .before) _ (c .before .before .before .before .before .node4 .given .1) .3) (c .before .before .copy-choice .ensures))
+    (λ c. search needs) (λ c κs. let e = c .before .enum-told .given .1 in room-leaf (c .before .before .before .numeric-at .result) (room-A (numeric-parts t (c .before .before .before) _ e) (c .before .before .before .before .before .before .before .pre .1 .1)) (ap sizeOf e))
+    (λ c. search needs) (λ c κs. let e = c .before .enum-told2 .given .1 in room-leaf (c .before .before .before .numeric-at .result) (room-A (numeric-parts t (c .before .before .before) _ e .1) (c .before .before .before .before .before .before .before .pre .1 .1)) (ap sizeOf e))
+    (λ c. search needs) (λ c κs. call-binary (c .before .before .before .before .before .before .before .before .pre) (numeric-parts t (c .before .before .before .before) _ (c .before .before .node .given .1)))
+    (λ c. search needs) (λ c κs. call-binary (c .before .before .before .before .before .before .before .before .pre) (numeric-parts t (c .before .before .before .before) _ (c .before .before .node2 .given .1)))
+    (λ c. search needs) (λ c κs. call-binary (c .before .before .before .before .before .before .before .before .pre) (numeric-parts t (c .before .before .before .before) _ (c .before .before .node3 .given .1)))
+    (λ c. search needs) (λ c κs. call-choice (c .before .before .before .before .before .before .before .before .pre) (numeric-parts t (c .before .before .before .before) _ (c .before .before .node4 .given .1)))
+    -- what each kind has written
+    (λ c. search needs) (λ c. let e = c .before .before .before .before .enum-told .given .1 in wrote-A _ (numeric-parts t (c .before .before .before .before .before .before) _ e) (wrote-leaf e (c .before .before .append .ensures)))
+    (λ c. search needs) (λ c. let e = c .before .before .before .before .enum-told2 .given .1 in wrote-A _ (numeric-parts t (c .before .before .before .before .before .before) _ e .1) (wrote-leaf e (c .before .before .append2 .ensures)))
+    (λ c. search needs) (λ c. wrote-A _ (numeric-parts t (c .before .before .before .before .before .before .before) _ (c .before .before .before .before .before .node .given .1) .2) (c .before .before .copy-binary .ensures .wrote Add (λ i j. refl)))
+    (λ c. search needs) (λ c. wrote-A _ (numeric-parts t (c .before .before .before .before .before .before .before) _ (c .before .before .before .before .before .node2 .given .1) .2) (c .before .before .copy-binary2 .ensures .wrote Subtract (λ i j. refl)))
+    (λ c. search needs) (λ c. wrote-A _ (numeric-parts t (c .before .before .before .before .before .before .before) _ (c .before .before .before .before .before .node3 .given .1) .2) (c .before .before .copy-binary3 .ensures .wrote Multiply (λ i j. refl)))
+    (λ c. search needs) (λ c. wrote-A _ (numeric-parts t (c .before .before .before .before .before .before .before) _ (c .before .before .before .before .before .node4 .given .1) .3) (c .before .before .copy-choice .ensures))
     (λ c. never-numeric (c .before .numeric-at .result) (c .match .keys7) (ap sortOf (c .before .numeric-at .ensures) ∙ c .before .before .before .before .before .pre .1 .0 .isSort)))
     (λ t. copy-pair-lts.spec (copy-pair-calls t) (copy-pair-at t) copy-pair.Post
+    -- the first part, and what is left behind it
     (λ c κs. let s = c .before .before .before .before in (first-of-pair (s .args .left) (s .args .right) 0 (s .pre .0), (s .pre .1 .0 .0, room-first (s .pre .1 .1) (omega arith) (omega arith))))
     (λ c. omega (arith, pair-rest t (c .before .before .before) .room .numbers))
-    (λ c. pair-rest t (c .before .before .before) .inside)
-    (λ c. pair-rest t (c .before .before .before) .inside)
-    (λ c. search needs)
+    (λ c. pair-rest t (c .before .before .before) .inside) (λ c. pair-rest t (c .before .before .before) .inside) (λ c. search needs)
+    -- the second part, and the two together
     (λ c κs. let s = c .before .before .before .before .before .before .before .before .before in (second-of-pair (s .args .left) (s .args .right) 0 (s .pre .0), (s .pre .1 .0 .1, pair-rest t (c .before .before .before .before) .room)))
-    (λ c κs. let d = c .before .before .before .before .before .before .before in let s = d .before .before .before .before .before in
-    two-few (s .args .from) (λ k. writeA k (pair-right t d)) (d .copy-numeric .ensures) (counted-A (s .args .from) (pair-left t d)) (c .before .before .copy-numeric2 .ensures)
-    (λ k. counted-A k (pair-right t d)) (s .pre .1 .1) (omega arith) (some-A (pair-left t d)) (bytes-A (pair-left t d)) (bytes-A (pair-right t d)))
+    (λ c κs. let d = c .before .before .before .before .before .before .before in pair-few (d .before .before .before .before .before .args .from) (pair-left t d) (pair-right t d) (d .copy-numeric .ensures) (c .before .before .copy-numeric2 .ensures) (d .before .before .before .before .before .pre .1 .1))
     (λ c. search needs)
-    (λ c. let d = c .before .before .before .before .before .before .before .before in let s = d .before .before .before .before .before in
-    wrote-pair (s .args .from) (pair-left t d) (pair-right t d) (d .copy-numeric .ensures) (c .before .before .before .copy-numeric2 .ensures) (c .both .ensures) (s .pre .1 .1 .fits)))
+    (λ c. let d = c .before .before .before .before .before .before .before .before in
+    wrote-pair (d .before .before .before .before .before .args .from) (pair-left t d) (pair-right t d) (d .copy-numeric .ensures) (c .before .before .before .copy-numeric2 .ensures) (c .both .ensures) (d .before .before .before .before .before .pre .1 .1 .fits)))
     (λ t. copy-truth-lts.spec (copy-truth-calls t) (copy-truth-at t) copy-truth.Post
+    -- the node that is read, and what each kind asks
     (λ c κs. let s = c .before .before .before in (s .pre .1 .0 .indexed, s .pre .1 .0 .inside, s .pre .1 .0 .isSort))
-    (λ c. search needs)
-    (λ c κs. let p = truth-parts t (c .before .before .before) _ (c .before .enum-told .given .1) in
-    room-leaf (c .before .before .before .truth-at .result) (room-B (p .1) (c .before .before .before .before .before .before .before .pre .1 .1)) (ap sizeOf (c .before .enum-told .given .1)))
-    (λ c. search needs)
-    (λ c κs. let s = c .before .before .before .before .before .before .before .before in let p = truth-parts t (c .before .before .before .before) _ (c .before .before .node .given .1) in
-    let q = lower-pair (s .pre .0) (s .pre .1 .0 .indexed) (p .0) (p .1) in (q .0, (q .1, room-B (p .2) (s .pre .1 .1))))
-    (λ c. search needs)
-    (λ c κs. let s = c .before .before .before .before .before .before .before .before in let p = truth-parts t (c .before .before .before .before) _ (c .before .before .node2 .given .1) in
-    let q = lower-pair (s .pre .0) (s .pre .1 .0 .indexed) (p .0) (p .1) in (q .0, (q .1, room-B (p .2) (s .pre .1 .1))))
-    (λ c. search needs)
-    (λ c κs. let s = c .before .before .before .before .before .before .before .before in let p = truth-parts t (c .before .before .before .before) _ (c .before .before .node3 .given .1) in
+    (λ c. search needs) (λ c κs. let e = c .before .enum-told .given .1 in room-leaf (c .before .before .before .truth-at .result) (room-B (truth-parts t (c .before .before .before) _ e .1) (c .before .before .before .before .before .before .before .pre .1 .1)) (ap sizeOf e))
+    (λ c. search needs) (λ c κs. call-truth (c .before .before .before .before .before .before .before .before .pre) (truth-parts t (c .before .before .before .before) _ (c .before .before .node .given .1)))
+    (λ c. search needs) (λ c κs. call-truth (c .before .before .before .before .before .before .before .before .pre) (truth-parts t (c .before .before .before .before) _ (c .before .before .node2 .given .1)))
+    (λ c. search needs) (λ c κs. let s = c .before .before .before .before .before .before .before .before in let p = truth-parts t (c .before .before .before .before) _ (c .before .before .node3 .given .1) in
     let q = lower (s .pre .0) (s .pre .1 .0 .indexed) (p .0) in (q .0, (q .1, room-first (room-B (p .1) (s .pre .1 .1)) (omega arith) (omega arith))))
-    (λ c κs. let d = c .before .before in let s = d .before .before .before .before .before .before .before .before .before in let p = truth-parts t (d .before .before .before .before .before) _ (d .before .before .before .node3 .given .1) in
-    let e = truthIn (now (s .args .table)) (d .before .before .before .node3 .given .0 .0) in let part = counted-B (s .args .from) e in
-    one-last (s .args .from) (d .copy-truth .ensures) part (room-B (p .1) (s .pre .1 .1)) (omega arith) (some-B e))
-    (λ c κs. let d = c .before .before .before .before in let s = d .before .before .before .before .before .before .before .before .before in let p = truth-parts t (d .before .before .before .before .before) _ (d .before .before .before .node3 .given .1) in
-    let e = truthIn (now (s .args .table)) (d .before .before .before .node3 .given .0 .0) in let part = counted-B (s .args .from) e in
-    room-parent 6 (d .copy-truth .ensures) part (room-B (p .1) (s .pre .1 .1)) (omega arith) (omega arith))
-    (λ c. search needs)
-    (λ c κs. let s = c .before .before .before .before .before .before .before .before in let p = truth-parts t (c .before .before .before .before) _ (c .before .before .node4 .given .1) in
-    let q = lower-pair (s .pre .0) (s .pre .1 .0 .indexed) (p .0) (p .1) in (q .0, (q .1, room-B (p .2) (s .pre .1 .1))))
-    (λ c. search needs)
-    (λ c. let e = c .before .before .before .before .enum-told .given .1 in let p = truth-parts t (c .before .before .before .before .before .before) _ e in
-    wrote-B _ (p .1) (wrote-as (wrote-node (c .before .before .append .ensures)) (ap (λ n. n ∷ []) (e ∙ ap Constant (sym (constant-value _ (p .0)))))))
-    (λ c. search needs)
-    (λ c. wrote-B _ (truth-parts t (c .before .before .before .before .before .before .before) _ (c .before .before .before .before .before .node .given .1) .2) (c .before .before .copy-binary .ensures .wrote Equal (λ i j. refl)))
-    (λ c. search needs)
-    (λ c. wrote-B _ (truth-parts t (c .before .before .before .before .before .before .before) _ (c .before .before .before .before .before .node2 .given .1) .2) (c .before .before .copy-binary2 .ensures .wrote Less (λ i j. refl)))
-    (λ c. search needs)
-    (λ c. let d = c .before .before .before .before .before .before .before in let s = d .before .before .before .before .before .before .before .before .before in let p = truth-parts t (d .before .before .before .before .before) _ (d .before .before .before .node3 .given .1) in
-    let e = truthIn (now (s .args .table)) (d .before .before .before .node3 .given .0 .0) in let part = counted-B (s .args .from) e in
-    wrote-B _ (p .1) (one-parent (s .args .from) Not (d .copy-truth .ensures) part (c .before .before .before .before .last .ensures) (c .before .before .append2 .ensures)))
-    (λ c. search needs)
-    (λ c. wrote-B _ (truth-parts t (c .before .before .before .before .before .before .before) _ (c .before .before .before .before .before .node4 .given .1) .2) (c .before .before .copy-and .ensures))
+    (λ c κs. let d = c .before .before in not-last (d .before .before .before .before .before .before .before .before .before .args .from) (not-part t d) (d .copy-truth .ensures) (room-B (not-is t d) (d .before .before .before .before .before .before .before .before .before .pre .1 .1)))
+    (λ c κs. let d = c .before .before .before .before in not-room (d .before .before .before .before .before .before .before .before .before .args .from) (not-part t d) (d .copy-truth .ensures) (room-B (not-is t d) (d .before .before .before .before .before .before .before .before .before .pre .1 .1)))
+    (λ c. search needs) (λ c κs. call-truth (c .before .before .before .before .before .before .before .before .pre) (truth-parts t (c .before .before .before .before) _ (c .before .before .node4 .given .1)))
+    -- what each kind has written
+    (λ c. search needs) (λ c. let e = c .before .before .before .before .enum-told .given .1 in let p = truth-parts t (c .before .before .before .before .before .before) _ e in
+    wrote-B _ (p .1) (wrote-leaf (e ∙ ap Constant (sym (constant-value _ (p .0)))) (c .before .before .append .ensures)))
+    (λ c. search needs) (λ c. wrote-B _ (truth-parts t (c .before .before .before .before .before .before .before) _ (c .before .before .before .before .before .node .given .1) .2) (c .before .before .copy-binary .ensures .wrote Equal (λ i j. refl)))
+    (λ c. search needs) (λ c. wrote-B _ (truth-parts t (c .before .before .before .before .before .before .before) _ (c .before .before .before .before .before .node2 .given .1) .2) (c .before .before .copy-binary2 .ensures .wrote Less (λ i j. refl)))
+    (λ c. search needs) (λ c. let d = c .before .before .before .before .before .before .before in wrote-B _ (not-is t d) (wrote-not (d .before .before .before .before .before .before .before .before .before .args .from) (not-part t d) (d .copy-truth .ensures) (c .before .before .before .before .last .ensures) (c .before .before .append2 .ensures)))
+    (λ c. search needs) (λ c. wrote-B _ (truth-parts t (c .before .before .before .before .before .before .before) _ (c .before .before .before .before .before .node4 .given .1) .2) (c .before .before .copy-and .ensures))
     (λ c. never-truth (c .before .truth-at .result) (c .match .keys6) (ap sortOf (c .before .truth-at .ensures) ∙ c .before .before .before .before .before .pre .1 .0 .isSort)))
