@@ -32,18 +32,17 @@ pub room-B : {e f : BExp} {from : ℕ} {l : List ℕ} → e ≡ f → Room from 
 room-B {from = from} {l} p w = subst (λ e. Room from (nodesOfB e) (bytesOfB e) l) p w
 
 -- ---- two numeric expressions, and a parent over them
-module _ (from : ℕ) (a b : AExp) {l m rest : List ℕ} {s u : Size} where
-  pub pair-few : Wrote (writeA from a) l m s → Wrote (writeA (from + s .nodes) b) (restOf (s .bytes) m) rest u
-      → Room from (nodesOfA a + nodesOfA b) (bytesOfA a + bytesOfA b) l → Few (from + s .nodes + u .nodes) (s .bytes + u .bytes) × (0 < s .nodes)
-  pair-few w v h = two-few from (λ k. writeA k b) w (counted-A from a) v (λ k. counted-A k b) h (omega arith) (some-A a) (bytes-A a) (bytes-A b)
+module _ {from : ℕ} (a b : AExp) {l m rest : List ℕ} {s u : Size} (h : Room from (nodesOfA a + nodesOfA b) (bytesOfA a + bytesOfA b) l)
+    (w : Wrote (writeA from a) l m s) (v : Wrote (writeA (from + s .nodes) b) (restOf (s .bytes) m) rest u) where
+  pub pair-few : Few (from + s .nodes + u .nodes) (s .bytes + u .bytes) × (0 < s .nodes)
+  pair-few = two-few from (λ k. writeA k b) w (counted-A from a) v (λ k. counted-A k b) h (omega arith) (some-A a) (bytes-A a) (bytes-A b)
 
-  pub wrote-pair : Wrote (writeA from a) l m s → Wrote (writeA (from + s .nodes) b) (restOf (s .bytes) m) rest u → {p : Pair} → Both from s u p
-      → bytesOfA a + bytesOfA b ≤ length l → WrotePair from a b l (withRest (s .bytes) m rest) p
-  wrote-pair w v added room =
+  pub wrote-pair : {p : Pair} → Both from s u p → WrotePair from a b l (withRest (s .bytes) m rest) p
+  wrote-pair added =
       let first = wrote-sized w (counted-A from a) in
       let second = wrote-sized v (counted-A (from + s .nodes) b) in
       record {
-        wrote = two-wrote from (λ k. writeA k b) w (counted-A from a) v (λ k. counted-A k b) added room;
+        wrote = two-wrote from (λ k. writeA k b) w (counted-A from a) v (λ k. counted-A k b) added (h .fits);
         leftIs = omega (arith, added .leftLast, first .nodesCounted);
         rightIs = omega (arith, added .rightLast, first .nodesCounted, second .nodesCounted);
       }
@@ -72,9 +71,12 @@ module _ {from : ℕ} {a b : AExp} {l m : List ℕ} {p : Pair} where
       record { wrote = w .wrote; leftIs = omega (arith, w .leftIs); rightIs = omega (arith, w .rightIs) }
 
 -- ---- a choice
-module _ (from : ℕ) (c : BExp) (a b : AExp) {l m rest : List ℕ} {s : Size} {p : Pair} (w : Wrote (writeB from c) l m s)
-    (v : WrotePair (from + s .nodes) a b (restOf (s .bytes) m) rest p)
-    (h : Room from (nodesOfB c + nodesOfA a + nodesOfA b + 1) (bytesOfB c + bytesOfA a + bytesOfA b + 10) l) where
+module _ {from : ℕ} (c : BExp) (a b : AExp) {l m rest : List ℕ} {s : Size} {p : Pair}
+    (h : Room from (nodesOfB c + nodesOfA a + nodesOfA b + 1) (bytesOfB c + bytesOfA a + bytesOfA b + 10) l) (w : Wrote (writeB from c) l m s)
+    (v : WrotePair (from + s .nodes) a b (restOf (s .bytes) m) rest p) where
+  pub choice-last : (0 < s .nodes) × (from + s .nodes ≤ 4096)
+  choice-last = one-last from w (counted-B from c) h (omega arith) (some-B c)
+
   pub choice-few : Few (s .nodes + p .nodes) (s .bytes + p .bytes)
   choice-few =
       let first = wrote-sized w (counted-B from c) in
@@ -98,8 +100,8 @@ module _ (from : ℕ) (c : BExp) (a b : AExp) {l m rest : List ℕ} {s : Size} {
       (λ k. counted-A (k + nodesOfA a) b) Choice e (omega (arith, h .fits)) parent
 
 -- ---- two truths and the `and` over them
-module _ (from : ℕ) (a b : BExp) {l m rest : List ℕ} {s u : Size} (w : Wrote (writeB from a) l m s)
-    (v : Wrote (writeB (from + s .nodes) b) (restOf (s .bytes) m) rest u) (h : Room from (nodesOfB a + nodesOfB b + 1) (bytesOfB a + bytesOfB b + 8) l) where
+module _ {from : ℕ} (a b : BExp) {l m rest : List ℕ} {s u : Size} (h : Room from (nodesOfB a + nodesOfB b + 1) (bytesOfB a + bytesOfB b + 8) l)
+    (w : Wrote (writeB from a) l m s) (v : Wrote (writeB (from + s .nodes) b) (restOf (s .bytes) m) rest u) where
   pub and-few : Few (from + s .nodes + u .nodes) (s .bytes + u .bytes) × (0 < s .nodes)
   and-few = two-few from (λ k. writeB k b) w (counted-B from a) v (λ k. counted-B k b) h (omega arith) (some-B a) (bytes-B a) (bytes-B b)
 
@@ -113,12 +115,12 @@ module _ (from : ℕ) (a b : BExp) {l m rest : List ℕ} {s u : Size} (w : Wrote
       two-parent from (λ k. writeB k b) w (counted-B from a) v (λ k. counted-B k b) added And (omega (arith, h .fits)) parent
 
 -- ---- a truth and the `not` over it
-module _ (from : ℕ) (b : BExp) {l m : List ℕ} {s : Size} (w : Wrote (writeB from b) l m s) where
-  pub not-last : Room from (nodesOfB b + 1) (bytesOfB b + 6) l → (0 < s .nodes) × (from + s .nodes ≤ 4096)
-  not-last h = one-last from w (counted-B from b) h (omega arith) (some-B b)
+module _ {from : ℕ} (b : BExp) {l m : List ℕ} {s : Size} (h : Room from (nodesOfB b + 1) (bytesOfB b + 6) l) (w : Wrote (writeB from b) l m s) where
+  pub not-last : (0 < s .nodes) × (from + s .nodes ≤ 4096)
+  not-last = one-last from w (counted-B from b) h (omega arith) (some-B b)
 
-  pub not-room : Room from (nodesOfB b + 1) (bytesOfB b + 6) l → (s .bytes + 6 ≤ length m) × (s .nodes < 2 ^ 32)
-  not-room h = room-parent 6 w (counted-B from b) h (omega arith) (omega arith)
+  pub not-room : (s .bytes + 6 ≤ length m) × (s .nodes < 2 ^ 32)
+  not-room = room-parent 6 w (counted-B from b) h (omega arith) (omega arith)
 
   pub wrote-not : {i : ℕ} → i ≡ from + s .nodes - 1 → {x : List ℕ} {r : Size} → Appended (s .nodes) (s .bytes) (Not i) m x r → Wrote (writeB from (not b)) l x r
   unfolding writeB

@@ -15,11 +15,11 @@ use Rattle.reader.specs.Index.{numericIn, truthIn}
 use Rattle.reader.proofs.Index.{Parts}
 use Rattle.copier.specs.Records.{recordSize}
 use Rattle.copier.specs.Sizes.{bytesOfA, bytesOfB}
-use Rattle.copier.proofs.Lengths.{counted-A, counted-B, some-B}
+use Rattle.copier.specs.Written.{Room}
+use Rattle.copier.proofs.Lengths.{counted-A, counted-B}
 use Rattle.copier.proofs.Writers.{Rest, rest-of, wrote-leaf, appended-node, room-first, room-leaf}
-use Rattle.copier.proofs.Joins.{one-last}
 use Rattle.copier.proofs.ExpressionWrites.{wrote-A, wrote-B, room-A, room-B, pair-few, wrote-pair, pair-parent, pair-room}
-use Rattle.copier.proofs.ExpressionWrites.{and-few, and-room, wrote-and, not-last, not-room, wrote-not, choice-few, choice-room, wrote-choice, constant-value}
+use Rattle.copier.proofs.ExpressionWrites.{and-few, and-room, wrote-and, not-last, not-room, wrote-not, choice-last, choice-few, choice-room, wrote-choice, constant-value}
 use Rattle.copier.proofs.Descents.{node-parts, lower, call-binary, call-choice, call-truth, first-of-pair, second-of-pair, pair-of-binary, pair-of-choice}
 use borrow.Author.Needs.{needs}
 use borrow.Fn.Kinds.{In}
@@ -176,6 +176,10 @@ module _ (t : ℕ) (d : copy-truth-lts.After-copy-truth (copy-truth-calls t) (co
   not-is : truthIn (now (d .before .before .before .before .before .before .before .before .before .args .table)) (d .before .before .before .before .before .before .before .before .before .args .n) ≡ not not-part
   not-is = truth-parts t (d .before .before .before .before .before) _ (d .before .before .before .node3 .given .1) .1
 
+  not-fits : Room (d .before .before .before .before .before .before .before .before .before .args .from) (nodesOfB not-part + 1) (bytesOfB not-part + 6) (now (d .before .before .before .before .before .before .before .before .before .args .out))
+  unfolding nodesOfB bytesOfB
+  not-fits = room-B not-is (d .before .before .before .before .before .before .before .before .before .pre .1 .1)
+
 pub +copy-and+copy-binary+copy-choice+copy-numeric+copy-pair+copy-truth-spec : {M : Type 1} → statement M
 unfolding nodesOfA nodesOfB bytesOfA bytesOfB writeA writeB binary sizeOf form fieldSize sum
 +copy-and+copy-binary+copy-choice+copy-numeric+copy-pair+copy-truth-spec =
@@ -188,12 +192,12 @@ unfolding nodesOfA nodesOfB bytesOfA bytesOfB writeA writeB binary sizeOf form f
     -- the second truth, the two together, and the node
     (λ c κs. let s = c .before .before .before .before .before .before .before .before .before in (second-of-pair (s .args .left) (s .args .right) 1 (s .pre .0), (s .pre .1 .0 .1, and-rest t (c .before .before .before .before) .room)))
     (λ c κs. let d = c .before .before .before .before .before .before .before in
-    and-few (d .before .before .before .before .before .args .from) (and-left t d) (and-right t d) (d .copy-truth .ensures) (c .before .before .copy-truth2 .ensures) (d .before .before .before .before .before .pre .1 .1))
+    and-few (and-left t d) (and-right t d) (d .before .before .before .before .before .pre .1 .1) (d .copy-truth .ensures) (c .before .before .copy-truth2 .ensures))
     (λ c κs. let d = c .before .before .before .before .before .before .before .before .before in
-    and-room (d .before .before .before .before .before .args .from) (and-left t d) (and-right t d) (d .copy-truth .ensures) (c .before .before .before .before .copy-truth2 .ensures) (d .before .before .before .before .before .pre .1 .1) (c .before .both .ensures))
+    and-room (and-left t d) (and-right t d) (d .before .before .before .before .before .pre .1 .1) (d .copy-truth .ensures) (c .before .before .before .before .copy-truth2 .ensures) (c .before .both .ensures))
     (λ c. search needs)
     (λ c. let d = c .before .before .before .before .before .before .before .before .before .before .before .before in
-    wrote-and (d .before .before .before .before .before .args .from) (and-left t d) (and-right t d) (d .copy-truth .ensures) (c .before .before .before .before .before .before .before .copy-truth2 .ensures) (d .before .before .before .before .before .pre .1 .1) (c .before .before .before .before .both .ensures) (c .before .before .append .ensures)))
+    wrote-and (and-left t d) (and-right t d) (d .before .before .before .before .before .pre .1 .1) (d .copy-truth .ensures) (c .before .before .before .before .before .before .before .copy-truth2 .ensures) (c .before .before .before .before .both .ensures) (c .before .before .append .ensures)))
     (λ t. copy-binary-lts.spec (copy-binary-calls t) (copy-binary-at t) copy-binary.Post
     -- the pair, and the record behind it
     (λ c κs. let s = c .before .before .before .before in (pair-of-binary (s .args .left) (s .args .right) (s .pre .0), (s .pre .1 .0, room-first (s .pre .1 .1) (omega arith) (omega arith))))
@@ -208,16 +212,17 @@ unfolding nodesOfA nodesOfB bytesOfA bytesOfB writeA writeB binary sizeOf form f
     (λ c. choice-rest t (c .before .before .before) .inside) (λ c. choice-rest t (c .before .before .before) .inside) (λ c. search needs)
     -- the two sides, the number of the condition, and the node
     (λ c κs. let s = c .before .before .before .before .before .before .before .before .before in (pair-of-choice (s .args .condition) (s .args .yes) (s .args .no) (s .pre .0), ((s .pre .1 .0 .1, s .pre .1 .0 .2), choice-rest t (c .before .before .before .before) .room)))
-    (λ c κs. let d = c .before .before .before .before .before .before .before in one-last (d .before .before .before .before .before .args .from) (d .copy-truth .ensures) (counted-B (d .before .before .before .before .before .args .from) (choice-if t d)) (d .before .before .before .before .before .pre .1 .1) (omega arith) (some-B (choice-if t d)))
+    (λ c κs. let d = c .before .before .before .before .before .before .before in
+    choice-last (choice-if t d) (choice-yes t d) (choice-no t d) (d .before .before .before .before .before .pre .1 .1) (d .copy-truth .ensures) (c .before .before .copy-pair .ensures))
     (λ c. let d = c .before .before .before .before .before .before .before .before .before .before .before in
-    omega (arith, choice-few (d .before .before .before .before .before .args .from) (choice-if t d) (choice-yes t d) (choice-no t d) (d .copy-truth .ensures) (c .before .before .before .before .before .before .copy-pair .ensures) (d .before .before .before .before .before .pre .1 .1) .fewNodes))
+    omega (arith, choice-few (choice-if t d) (choice-yes t d) (choice-no t d) (d .before .before .before .before .before .pre .1 .1) (d .copy-truth .ensures) (c .before .before .before .before .before .before .copy-pair .ensures) .fewNodes))
     (λ c. let d = c .before .before .before .before .before .before .before .before .before .before .before .before in
-    omega (arith, choice-few (d .before .before .before .before .before .args .from) (choice-if t d) (choice-yes t d) (choice-no t d) (d .copy-truth .ensures) (c .before .before .before .before .before .before .before .copy-pair .ensures) (d .before .before .before .before .before .pre .1 .1) .fewBytes))
+    omega (arith, choice-few (choice-if t d) (choice-yes t d) (choice-no t d) (d .before .before .before .before .before .pre .1 .1) (d .copy-truth .ensures) (c .before .before .before .before .before .before .before .copy-pair .ensures) .fewBytes))
     (λ c κs. let d = c .before .before .before .before .before .before .before .before .before .before .before .before in
-    choice-room (d .before .before .before .before .before .args .from) (choice-if t d) (choice-yes t d) (choice-no t d) (d .copy-truth .ensures) (c .before .before .before .before .before .before .before .copy-pair .ensures) (d .before .before .before .before .before .pre .1 .1))
+    choice-room (choice-if t d) (choice-yes t d) (choice-no t d) (d .before .before .before .before .before .pre .1 .1) (d .copy-truth .ensures) (c .before .before .before .before .before .before .before .copy-pair .ensures))
     (λ c. search needs)
     (λ c. let d = c .before .before .before .before .before .before .before .before .before .before .before .before .before .before .before in
-    wrote-choice (d .before .before .before .before .before .args .from) (choice-if t d) (choice-yes t d) (choice-no t d) (d .copy-truth .ensures) (c .before .before .before .before .before .before .before .before .before .before .copy-pair .ensures) (d .before .before .before .before .before .pre .1 .1) (c .before .before .before .before .before .before .before .last .ensures) (c .before .before .append .ensures)))
+    wrote-choice (choice-if t d) (choice-yes t d) (choice-no t d) (d .before .before .before .before .before .pre .1 .1) (d .copy-truth .ensures) (c .before .before .before .before .before .before .before .before .before .before .copy-pair .ensures) (c .before .before .before .before .before .before .before .last .ensures) (c .before .before .append .ensures)))
     (λ t. copy-numeric-lts.spec (copy-numeric-calls t) (copy-numeric-at t) copy-numeric.Post
     -- the node that is read, and what each kind asks
     (λ c κs. let s = c .before .before .before in (s .pre .1 .0 .indexed, s .pre .1 .0 .inside, s .pre .1 .0 .isSort))
@@ -242,10 +247,10 @@ unfolding nodesOfA nodesOfB bytesOfA bytesOfB writeA writeB binary sizeOf form f
     (λ c. pair-rest t (c .before .before .before) .inside) (λ c. pair-rest t (c .before .before .before) .inside) (λ c. search needs)
     -- the second part, and the two together
     (λ c κs. let s = c .before .before .before .before .before .before .before .before .before in (second-of-pair (s .args .left) (s .args .right) 0 (s .pre .0), (s .pre .1 .0 .1, pair-rest t (c .before .before .before .before) .room)))
-    (λ c κs. let d = c .before .before .before .before .before .before .before in pair-few (d .before .before .before .before .before .args .from) (pair-left t d) (pair-right t d) (d .copy-numeric .ensures) (c .before .before .copy-numeric2 .ensures) (d .before .before .before .before .before .pre .1 .1))
+    (λ c κs. let d = c .before .before .before .before .before .before .before in pair-few (pair-left t d) (pair-right t d) (d .before .before .before .before .before .pre .1 .1) (d .copy-numeric .ensures) (c .before .before .copy-numeric2 .ensures))
     (λ c. search needs)
     (λ c. let d = c .before .before .before .before .before .before .before .before in
-    wrote-pair (d .before .before .before .before .before .args .from) (pair-left t d) (pair-right t d) (d .copy-numeric .ensures) (c .before .before .before .copy-numeric2 .ensures) (c .both .ensures) (d .before .before .before .before .before .pre .1 .1 .fits)))
+    wrote-pair (pair-left t d) (pair-right t d) (d .before .before .before .before .before .pre .1 .1) (d .copy-numeric .ensures) (c .before .before .before .copy-numeric2 .ensures) (c .both .ensures)))
     (λ t. copy-truth-lts.spec (copy-truth-calls t) (copy-truth-at t) copy-truth.Post
     -- the node that is read, and what each kind asks
     (λ c κs. let s = c .before .before .before in (s .pre .1 .0 .indexed, s .pre .1 .0 .inside, s .pre .1 .0 .isSort))
@@ -254,14 +259,14 @@ unfolding nodesOfA nodesOfB bytesOfA bytesOfB writeA writeB binary sizeOf form f
     (λ c. search needs) (λ c κs. call-truth (c .before .before .before .before .before .before .before .before .pre) (truth-parts t (c .before .before .before .before) _ (c .before .before .node2 .given .1)))
     (λ c. search needs) (λ c κs. let s = c .before .before .before .before .before .before .before .before in let p = truth-parts t (c .before .before .before .before) _ (c .before .before .node3 .given .1) in
     let q = lower (s .pre .0) (s .pre .1 .0 .indexed) (p .0) in (q .0, (q .1, room-first (room-B (p .1) (s .pre .1 .1)) (omega arith) (omega arith))))
-    (λ c κs. let d = c .before .before in not-last (d .before .before .before .before .before .before .before .before .before .args .from) (not-part t d) (d .copy-truth .ensures) (room-B (not-is t d) (d .before .before .before .before .before .before .before .before .before .pre .1 .1)))
-    (λ c κs. let d = c .before .before .before .before in not-room (d .before .before .before .before .before .before .before .before .before .args .from) (not-part t d) (d .copy-truth .ensures) (room-B (not-is t d) (d .before .before .before .before .before .before .before .before .before .pre .1 .1)))
+    (λ c κs. let d = c .before .before in not-last (not-part t d) (not-fits t d) (d .copy-truth .ensures))
+    (λ c κs. let d = c .before .before .before .before in not-room (not-part t d) (not-fits t d) (d .copy-truth .ensures))
     (λ c. search needs) (λ c κs. call-truth (c .before .before .before .before .before .before .before .before .pre) (truth-parts t (c .before .before .before .before) _ (c .before .before .node4 .given .1)))
     -- what each kind has written
     (λ c. search needs) (λ c. let e = c .before .before .before .before .enum-told .given .1 in let p = truth-parts t (c .before .before .before .before .before .before) _ e in
     wrote-B _ (p .1) (wrote-leaf (e ∙ ap Constant (sym (constant-value _ (p .0)))) (c .before .before .append .ensures)))
     (λ c. search needs) (λ c. wrote-B _ (truth-parts t (c .before .before .before .before .before .before .before) _ (c .before .before .before .before .before .node .given .1) .2) (c .before .before .copy-binary .ensures .wrote Equal (λ i j. refl)))
     (λ c. search needs) (λ c. wrote-B _ (truth-parts t (c .before .before .before .before .before .before .before) _ (c .before .before .before .before .before .node2 .given .1) .2) (c .before .before .copy-binary2 .ensures .wrote Less (λ i j. refl)))
-    (λ c. search needs) (λ c. let d = c .before .before .before .before .before .before .before in wrote-B _ (not-is t d) (wrote-not (d .before .before .before .before .before .before .before .before .before .args .from) (not-part t d) (d .copy-truth .ensures) (c .before .before .before .before .last .ensures) (c .before .before .append2 .ensures)))
+    (λ c. search needs) (λ c. let d = c .before .before .before .before .before .before .before in wrote-B _ (not-is t d) (wrote-not (not-part t d) (not-fits t d) (d .copy-truth .ensures) (c .before .before .before .before .last .ensures) (c .before .before .append2 .ensures)))
     (λ c. search needs) (λ c. wrote-B _ (truth-parts t (c .before .before .before .before .before .before .before) _ (c .before .before .before .before .before .node4 .given .1) .2) (c .before .before .copy-and .ensures))
     (λ c. never-truth (c .before .truth-at .result) (c .match .keys6) (ap sortOf (c .before .truth-at .ensures) ∙ c .before .before .before .before .before .pre .1 .0 .isSort)))
