@@ -30,12 +30,12 @@ module _ {table index : List ℕ} {t n : ℕ} (is : 3 * n ≡ t) (indexed : Inde
   lower h = (omega (arith, h .below), child-of-sort indexed h)
 
   -- two children
-  pub lower-pair : {s : Sort} {j k : ℕ} → Child table s n j → Child table s n k
+  lower-pair : {s : Sort} {j k : ℕ} → Child table s n j → Child table s n k
       → (3 * max j k + 2 < t) × (OfSort table index s j × OfSort table index s k)
   lower-pair g h = (omega (arith, g .below, h .below), (child-of-sort indexed g, child-of-sort indexed h))
 
   -- the three children of a choice
-  pub lower-three : {i j k : ℕ} → Child table Truth n i → Child table Numeric n j → Child table Numeric n k
+  lower-three : {i j k : ℕ} → Child table Truth n i → Child table Numeric n j → Child table Numeric n k
       → (3 * max i (max j k) + 2 < t) × (OfSort table index Truth i × OfSort table index Numeric j × OfSort table index Numeric k)
   lower-three f g h =
       (omega (arith, f .below, g .below, h .below), (child-of-sort indexed f, child-of-sort indexed g, child-of-sort indexed h))

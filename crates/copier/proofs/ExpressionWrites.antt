@@ -14,9 +14,9 @@ use Rattle.copier.specs.Sizes.{bytesOfA, bytesOfB, Sized, Few}
 use Rattle.copier.specs.Written.{Appended, Wrote, WrotePair, WroteTwo, Both, Room}
 use Rattle.copier.specs.declared.Size.{Size}
 use Rattle.copier.specs.declared.Pair.{Pair}
-use Rattle.copier.proofs.Lengths.{Counted, counted-A, counted-B, counted-append, some-A, some-B, bytes-A, bytes-B}
+use Rattle.copier.proofs.Lengths.{counted-A, counted-B, counted-append, some-A, some-B, bytes-A, bytes-B}
 use Rattle.copier.proofs.Joins.{two-few, two-wrote, two-room, two-parent, three-room, three-parent, one-parent, one-last}
-use Rattle.copier.proofs.Writers.{sizeIs, restOf, withRest, wrote-sized, wrote-as, wrote-parent, wrote-rest, room-parent}
+use Rattle.copier.proofs.Writers.{sizeIs, restOf, withRest, wrote-sized, wrote-as, wrote-parent, room-parent}
 
 -- the expression of a node is what its parts say
 pub wrote-A : (from : ℕ) {e f : AExp} {l m : List ℕ} {r : Size} → e ≡ f → Wrote (writeA from f) l m r → Wrote (writeA from e) l m r
@@ -56,7 +56,7 @@ module _ {from : ℕ} {a b : AExp} {l m : List ℕ} {p : Pair} where
       (append-assoc (writeA from a) (writeA (from + nodesOfA a) b) (f (p .left) (p .right) ∷ [])
       ∙ ap (λ n. writeA from a ++ (writeA (from + nodesOfA a) b ++ (n ∷ []))) (ap (λ i. f i (p .right)) (w .leftIs) ∙ ap (f (from + nodesOfA a - 1)) (w .rightIs)))
 
-  pub pair-sized : WrotePair from a b l m p → Sized (nodesOfA a + nodesOfA b) (bytesOfA a + bytesOfA b) (sizeIs (p .nodes) (p .bytes))
+  pair-sized : WrotePair from a b l m p → Sized (nodesOfA a + nodesOfA b) (bytesOfA a + bytesOfA b) (sizeIs (p .nodes) (p .bytes))
   pair-sized w = wrote-sized (w .wrote) (counted-append (counted-A from a) (counted-A (from + nodesOfA a) b))
 
   pub pair-room : WrotePair from a b l m p → Room from (nodesOfA a + nodesOfA b + 1) (bytesOfA a + bytesOfA b + 8) l
@@ -64,7 +64,7 @@ module _ {from : ℕ} {a b : AExp} {l m : List ℕ} {p : Pair} where
   pair-room w h = room-parent 8 (w .wrote) (counted-append (counted-A from a) (counted-A (from + nodesOfA a) b)) h (omega arith) (omega arith)
 
   -- as two lists of nodes
-  pub pair-two : WrotePair from a b l m p → WroteTwo from (writeA from a) (writeA (from + nodesOfA a) b) l m p
+  pair-two : WrotePair from a b l m p → WroteTwo from (writeA from a) (writeA (from + nodesOfA a) b) l m p
   pair-two w =
       let first = counted-A from a .nodesAre in
       let second = counted-A (from + nodesOfA a) b .nodesAre in

@@ -3,7 +3,7 @@ use Prim.Native.Nat.{ℕ, _+_, _*_, _/_, _%_}
 use native.Mathlib.Nat.{add-mul-mod-self-left}
 use native.Mathlib.Omega.{arith}
 use mathlib.Core.Path.{_≡_, refl, ap}
-use mathlib.Core.List.{List, [], _∷_, _++_, flatMap}
+use mathlib.Core.List.{_∷_, _++_, flatMap}
 use lib.ListN.{length}
 use Rattle.bytes_le.specs.Numbers.{le}
 use Rattle.awhile.specs.Lists.{sum}

@@ -2,14 +2,13 @@
 use Prim.Native.Nat.{ℕ, _+_, _-_, _^_, _≤_, _<_}
 use native.Mathlib.Omega.{arith}
 use mathlib.Core.Path.{_≡_, refl, sym, ap, subst, _∙_}
-use mathlib.Core.List.{List, [], _∷_, _++_, flatMap, append-assoc, append-nil}
+use mathlib.Core.List.{List, [], _∷_, _++_, flatMap, append-nil}
 use lib.ListN.{length, length-append, length-take, length-drop}
 use lib.Seq.{sets, length-sets}
-use borrow.Rule.Slice.PartMut.{putMid, midOf, same-len-mid}
+use borrow.Rule.Slice.PartMut.{putMid, midOf}
 use Rattle.bytes_le.proofs.Stores.{sets-append}
 use Rattle.awhile.specs.Nodes.{sizeOf, nodeBytes}
 use Rattle.awhile.proofs.Lists.{flatMap-append}
-use Rattle.awhile.proofs.Records.{length-nodeBytes}
 use Rattle.awhile.specs.declared.Node.{Node}
 use Rattle.copier.specs.Sizes.{Sized}
 use Rattle.copier.specs.Records.{recordOf, recordBytes, recordSize}

@@ -1,7 +1,7 @@
 -- A node's record as its kind and 2-byte fields: the form in which the code writes it. `record-bytes` and `record-size` of proofs/NodeRecords say
 -- that its bytes and its length are the node's.
 use Prim.Native.Nat.{ℕ, _/_, _%_}
-use mathlib.Core.List.{List, [], _∷_, _++_}
+use mathlib.Core.List.{List, _++_}
 use Rattle.bytes_le.specs.Numbers.{le}
 use Rattle.awhile.specs.declared.Node.{Node}
 use Rattle.awhile.specs.declared.Node.the-variants.{Number, Variable, Add, Subtract, Multiply, Choice}

@@ -9,7 +9,7 @@ ghost use mathlib.Core.Path.{_≡_};
 ghost use lib.ListN.{length};
 ghost use lib.Seq.{sets};
 ghost use Rattle.bytes_le.specs.Numbers.{le};
-ghost use Rattle.awhile.specs.Nodes.{sizeOf, nodeBytes};
+ghost use Rattle.awhile.specs.Nodes.{sizeOf};
 ghost use Rattle.copier.specs.declared.Record.the-variants.{One, Two, Three};
 ghost use Rattle.copier.specs.Records.{recordOf, kindOf, recordOver, recordBytes, recordSize};
 ghost use Rattle.copier.specs.Written.{Appended, AppendedRecord};
