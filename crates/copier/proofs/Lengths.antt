@@ -16,9 +16,9 @@ use Rattle.awhile.proofs.Records.{length-nodeBytes}
 use Rattle.copier.specs.Sizes.{bytesOfA, bytesOfB, bytesOf}
 use Rattle.copier.proofs.SizeSums.{Short}
 use Rattle.awhile.specs.declared.Node.{Node}
-use Rattle.awhile.specs.declared.Node.the-variants.{Number, Variable, Add, Subtract, Multiply, Choice}
-use Rattle.awhile.specs.declared.Node.the-variants.{Constant, Equal, Less, Not, And}
-use Rattle.awhile.specs.declared.Node.the-variants.{Skip, Assign, Sequence, If, While, Read, Write}
+use Rattle.awhile.specs.declared.Node.the-variants.{Number, Variable}
+use Rattle.awhile.specs.declared.Node.the-variants.{Constant}
+use Rattle.awhile.specs.declared.Node.the-variants.{Skip}
 
 -- so many nodes, with records of so many bytes
 pub record Counted (ns : List Node) (nodes bytes : ℕ) : Type 0 where

@@ -3,7 +3,7 @@ pub mod NodeRecords
 pub mod Parts
 pub mod SizeSums
 pub mod Lengths
-pub mod Descents
 pub mod Writers
 pub mod Joins
 pub mod ExpressionWrites
+pub mod Descents

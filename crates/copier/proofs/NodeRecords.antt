@@ -3,11 +3,14 @@ use Prim.Native.Nat.{ℕ, _+_, _*_, _/_, _%_}
 use native.Mathlib.Nat.{add-mul-mod-self-left}
 use native.Mathlib.Omega.{arith}
 use mathlib.Core.Path.{_≡_, refl, ap}
-use mathlib.Core.List.{List, [], _∷_, _++_, flatMap}
+use mathlib.Core.List.{_∷_, _++_, flatMap}
+use lib.ListN.{length}
 use Rattle.bytes_le.specs.Numbers.{le}
 use Rattle.awhile.specs.Lists.{sum}
 use Rattle.awhile.specs.Nodes.{form, fieldBytes, fieldSize, sizeOf, nodeBytes}
 use Rattle.copier.specs.Records.{recordOf, recordBytes, recordSize}
+use Rattle.copier.specs.declared.Record.{Record}
+use Rattle.copier.specs.declared.Record.the-variants.{Bare, One, Two, Three}
 use Rattle.awhile.specs.declared.Node.{Node}
 use Rattle.awhile.specs.declared.Node.the-variants.{Number, Variable, Add, Subtract, Multiply, Choice}
 use Rattle.awhile.specs.declared.Node.the-variants.{Constant, Equal, Less, Not, And}
@@ -66,3 +69,11 @@ record-size (If b c d) = refl
 record-size (While b c) = refl
 record-size (Read x a i) = refl
 record-size (Write a i e) = refl
+
+-- a record is as long as it says
+pub record-length : (r : Record) → length (recordBytes r) ≡ recordSize r
+unfolding recordBytes le
+record-length (Bare k) = refl
+record-length (One k a) = refl
+record-length (Two k a b) = refl
+record-length (Three k a b c) = refl

@@ -1,12 +1,12 @@
 -- Bytes written into a part of a slice, said of the whole slice, and runs of writes one behind the other.
-use Prim.Native.Nat.{ℕ, zero, suc, _+_, _-_, _≤_}
+use Prim.Native.Nat.{ℕ, _+_, _-_, _≤_}
 use native.Mathlib.Nat.{zero-add}
 use native.Mathlib.Omega.{arith}
-use mathlib.Core.Path.{_≡_, refl, sym, ap, _∙_}
-use mathlib.Core.List.{List, [], _∷_, _++_, flatMap, append-assoc, append-nil}
-use lib.ListN.{length, take, drop, length-append, length-take, length-drop}
-use lib.Seq.{sets, sets-eq, length-sets, take-all, drop-drop, drop-length, length-take-le}
-use borrow.Rule.Slice.PartMut.{putMid, midOf, postOf}
+use mathlib.Core.Path.{_≡_, sym, ap, _∙_}
+use mathlib.Core.List.{List, [], _++_, append-assoc, append-nil}
+use lib.ListN.{length, take, drop, length-drop}
+use lib.Seq.{sets, sets-eq, take-all, drop-drop, drop-length}
+use borrow.Rule.Slice.PartMut.{putMid, midOf}
 
 -- what was written at the front of the rest of a slice is written there in the slice
 pub sets-rest : (l : List ℕ) (at : ℕ) (xs : List ℕ) → at + length xs ≤ length l

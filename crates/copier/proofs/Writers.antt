@@ -2,19 +2,21 @@
 use Prim.Native.Nat.{ℕ, _+_, _-_, _^_, _≤_, _<_}
 use native.Mathlib.Omega.{arith}
 use mathlib.Core.Path.{_≡_, refl, sym, ap, subst, _∙_}
-use mathlib.Core.List.{List, [], _∷_, _++_, flatMap, append-assoc, append-nil}
+use mathlib.Core.List.{List, [], _∷_, _++_, flatMap, append-nil}
 use lib.ListN.{length, length-append, length-take, length-drop}
 use lib.Seq.{sets, length-sets}
-use borrow.Rule.Slice.PartMut.{putMid, midOf, same-len-mid}
+use borrow.Rule.Slice.PartMut.{putMid, midOf}
 use Rattle.bytes_le.proofs.Stores.{sets-append}
 use Rattle.awhile.specs.Nodes.{sizeOf, nodeBytes}
 use Rattle.awhile.proofs.Lists.{flatMap-append}
-use Rattle.awhile.proofs.Records.{length-nodeBytes}
 use Rattle.awhile.specs.declared.Node.{Node}
 use Rattle.copier.specs.Sizes.{Sized}
-use Rattle.copier.specs.Written.{Appended, Wrote, Room}
+use Rattle.copier.specs.Records.{recordOf, recordBytes, recordSize}
+use Rattle.copier.specs.Written.{Appended, AppendedRecord, Wrote, Room}
+use Rattle.copier.specs.declared.Record.{Record}
 use Rattle.copier.specs.declared.Size.{Size}
 use Rattle.copier.proofs.Lengths.{Counted, counted-node, counted-append}
+use Rattle.copier.proofs.NodeRecords.{record-bytes, record-size}
 use Rattle.copier.proofs.Parts.{sets-rest}
 
 abbrev pub sizeIs : (nodes bytes : ℕ) → Size
@@ -83,6 +85,15 @@ module _ {ns : List Node} {l m : List ℕ} {s : Size} (w : Wrote ns l m s) where
         bytesCounted = rw (flatMap-append nodeBytes ns ms, length-append) (omega (arith, w .bytesCounted, v .bytesCounted));
       }
 
+-- a record that is a node's
+pub appended-node : {i j : ℕ} {n : Node} {fields : Record} {l k : List ℕ} {r : Size} → fields ≡ recordOf n → AppendedRecord i j fields l k r → Appended i j n l k r
+appended-node {j = j} {n} {l = l} e a =
+    record {
+      stored = a .stored ∙ ap (sets l j) (ap recordBytes e ∙ record-bytes n);
+      nodesCounted = a .nodesCounted;
+      bytesCounted = a .bytesCounted ∙ ap (λ i. j + i) (ap recordSize e ∙ record-size n);
+    }
+
 -- the same node by another name
 pub appended-as : {i j : ℕ} {n m : Node} {l k : List ℕ} {r : Size} → n ≡ m → Appended i j n l k r → Appended i j m l k r
 appended-as {i} {j} {l = l} {k} {r} e a = subst (λ m. Appended i j m l k r) e a
@@ -91,6 +102,10 @@ appended-as {i} {j} {l = l} {k} {r} e a = subst (λ m. Appended i j m l k r) e a
 pub wrote-node : {n : Node} {l m : List ℕ} {r : Size} → Appended 0 0 n l m r → Wrote (n ∷ []) l m r
 unfolding flatMap
 wrote-node {n} {l} {m} {r} a = wrote-parent {ns = []} {s = sizeIs 0 0} (record { stored = refl; nodesCounted = refl; bytesCounted = refl }) a
+
+-- one node alone, which is known to be this
+pub wrote-leaf : {n m : Node} {l k : List ℕ} {r : Size} → n ≡ m → Appended 0 0 n l k r → Wrote (m ∷ []) l k r
+wrote-leaf e a = wrote-node (appended-as e a)
 
 -- ---- room
 -- room for the first part of it
@@ -110,6 +125,15 @@ room-rest {m = m} {s = s} w c r p q =
 -- the rest begins inside
 pub rest-inside : {from n b i j : ℕ} {l m : List ℕ} {ns : List Node} {s : Size} → Wrote ns l m s → Counted ns i j → Room from n b l → j ≤ b → s .bytes ≤ length m
 rest-inside w c r q = omega (arith, r .fits, wrote-sized w c .bytesCounted, wrote-length w)
+
+-- what is left behind a first part for so many nodes and bytes
+pub record Rest (from nodes bytes : ℕ) (first : Size) (out : List ℕ) : Type 0 where
+  pub inside : first .bytes ≤ length out
+  pub room : Room (from + first .nodes) nodes bytes (restOf (first .bytes) out)
+
+pub rest-of : {from n b i j k h : ℕ} {l m : List ℕ} {ns : List Node} {s : Size} → Wrote ns l m s → Counted ns i j → Room from n b l → i + k ≤ n → j + h ≤ b
+    → Rest from k h s m
+rest-of w c r p q = record { inside = rest-inside w c r (omega arith); room = room-rest w c r p q }
 
 -- room for a parent
 pub room-parent : (size : ℕ) {from n b i j : ℕ} {l m : List ℕ} {ns : List Node} {s : Size} → Wrote ns l m s → Counted ns i j → Room from n b l → i + 1 ≤ n → j + size ≤ b

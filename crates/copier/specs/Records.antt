@@ -1,7 +1,7 @@
 -- A node's record as its kind and 2-byte fields: the form in which the code writes it. `record-bytes` and `record-size` of proofs/NodeRecords say
 -- that its bytes and its length are the node's.
 use Prim.Native.Nat.{ℕ, _/_, _%_}
-use mathlib.Core.List.{List, [], _∷_, _++_}
+use mathlib.Core.List.{List, _++_}
 use Rattle.bytes_le.specs.Numbers.{le}
 use Rattle.awhile.specs.declared.Node.{Node}
 use Rattle.awhile.specs.declared.Node.the-variants.{Number, Variable, Add, Subtract, Multiply, Choice}
@@ -29,6 +29,16 @@ recordOf (If b c d) = Three 51 b c d
 recordOf (While b c) = Two 52 b c
 recordOf (Read x a i) = Three 53 x a i
 recordOf (Write a i e) = Three 54 a i e
+
+abbrev pub kindOf : Record → ℕ
+kindOf (Bare k) = k
+kindOf (One k a) = k
+kindOf (Two k a b) = k
+kindOf (Three k a b c) = k
+
+-- the record of a node's kind over two other children
+abbrev pub recordOver : Node → (left right : ℕ) → Record
+recordOver n i j = Two (kindOf (recordOf n)) i j
 
 abbrev pub recordSize : Record → ℕ
 recordSize (Bare k) = 4

@@ -1,16 +1,24 @@
 -- What a function that writes nodes leaves in the slice it is lent, and how much it says it wrote.
 use Prim.Native.Nat.{ℕ, _+_, _-_, _≤_}
-use mathlib.Core.List.{List, _++_, flatMap}
+use mathlib.Core.List.{List, [], _∷_, _++_, flatMap}
 use mathlib.Core.Path.{_≡_}
 use lib.ListN.{length}
 use lib.Seq.{sets}
 use Rattle.awhile.specs.Nodes.{sizeOf, nodeBytes}
-use Rattle.awhile.specs.Encoding.{nodesOfA, writeA}
+use Rattle.awhile.specs.Encoding.{nodesOfA, binary, writeA}
 use Rattle.awhile.specs.Language.{AExp}
 use Rattle.awhile.specs.Tables.{maxNodes}
 use Rattle.awhile.specs.declared.Node.{Node}
+use Rattle.copier.specs.Records.{recordOf, recordOver, recordBytes, recordSize}
 use Rattle.copier.specs.declared.Pair.{Pair}
+use Rattle.copier.specs.declared.Record.{Record}
 use Rattle.copier.specs.declared.Size.{Size}
+
+-- one record behind so many nodes and bytes
+pub record AppendedRecord (nodes bytes : ℕ) (fields : Record) (before after : List ℕ) (answer : Size) : Type 0 where
+  pub stored : after ≡ sets before bytes (recordBytes fields)
+  pub nodesCounted : answer .nodes ≡ nodes + 1
+  pub bytesCounted : answer .bytes ≡ bytes + recordSize fields
 
 -- one node behind so many nodes and bytes
 pub record Appended (nodes bytes : ℕ) (node : Node) (before after : List ℕ) (answer : Size) : Type 0 where
@@ -51,3 +59,8 @@ pub record WrotePair (from : ℕ) (a b : AExp) (before after : List ℕ) (answer
   pub wrote : Wrote (writeA from a ++ writeA (from + nodesOfA a) b) before after (record { nodes = answer .nodes; bytes = answer .bytes })
   pub leftIs : answer .left ≡ from + nodesOfA a - 1
   pub rightIs : answer .right ≡ from + nodesOfA a + nodesOfA b - 1
+
+-- two numeric expressions and a node over both, whatever constructor makes the records of its kind
+pub record WroteBinary (node : Node) (from : ℕ) (a b : AExp) (before after : List ℕ) (answer : Size) : Type 0 where
+  pub wrote : (f : ℕ → ℕ → Node) → ((i j : ℕ) → recordOf (f i j) ≡ recordOver node i j)
+      → Wrote (writeA from a ++ (writeA (from + nodesOfA a) b ++ (binary f from (nodesOfA a) (nodesOfA b) ∷ []))) before after answer

@@ -2,18 +2,21 @@
 use crate::Pair;
 use crate::Size;
 use crate::records::append;
+use crate::records::append_record;
+use crate::records::record_over;
 use awhile::Node;
 use reader::lookup::numeric_at;
 use reader::lookup::truth_at;
 ghost use Prim.Native.Nat.{_+_, _-_, _≤_, _<_};
 ghost use mathlib.Core.Path.{_≡_};
+ghost use Rattle.awhile.specs.Language.{choice, and};
 ghost use Rattle.awhile.specs.Encoding.{nodesOfA, nodesOfB, writeA, writeB};
 ghost use Rattle.reader.specs.Index.{numericIn, truthIn};
 ghost use Rattle.awhile.specs.Tables.{maxNodes};
 ghost use Rattle.awhile.specs.declared.Sort.the-variants.{Numeric, Truth};
 ghost use Rattle.analysis.specs.Conditions.{OfSort};
 ghost use Rattle.copier.specs.Sizes.{bytesOfA, bytesOfB, Few};
-ghost use Rattle.copier.specs.Written.{Room, Wrote, WrotePair, Both};
+ghost use Rattle.copier.specs.Written.{Room, Wrote, WrotePair, WroteBinary, Both};
 
 // The number of the last of so many nodes.
 pub fn last(from: usize, nodes: usize) -> usize
@@ -47,56 +50,11 @@ pub fn copy_numeric(table: &[u8], index: &[u16], n: usize, from: usize, out: &mu
     match node {
         Node::Number { .. } => append(out, 0, 0, node),
         Node::Variable { .. } => append(out, 0, 0, node),
-        Node::Add { left, right } => {
-            let parts = copy_pair(table, index, left, right, from, &mut *out);
-            append(
-                out,
-                parts.nodes,
-                parts.bytes,
-                Node::Add {
-                    left: parts.left,
-                    right: parts.right,
-                },
-            )
-        }
-        Node::Subtract { left, right } => {
-            let parts = copy_pair(table, index, left, right, from, &mut *out);
-            append(
-                out,
-                parts.nodes,
-                parts.bytes,
-                Node::Subtract {
-                    left: parts.left,
-                    right: parts.right,
-                },
-            )
-        }
-        Node::Multiply { left, right } => {
-            let parts = copy_pair(table, index, left, right, from, &mut *out);
-            append(
-                out,
-                parts.nodes,
-                parts.bytes,
-                Node::Multiply {
-                    left: parts.left,
-                    right: parts.right,
-                },
-            )
-        }
+        Node::Add { left, right } => copy_binary(table, index, node, left, right, from, out),
+        Node::Subtract { left, right } => copy_binary(table, index, node, left, right, from, out),
+        Node::Multiply { left, right } => copy_binary(table, index, node, left, right, from, out),
         Node::Choice { condition, yes, no } => {
-            let first = copy_truth(table, index, condition, from, &mut *out);
-            let at = first.bytes;
-            let rest = copy_pair(table, index, yes, no, from + first.nodes, &mut out[at..]);
-            append(
-                out,
-                first.nodes + rest.nodes,
-                at + rest.bytes,
-                Node::Choice {
-                    condition: last(from, first.nodes),
-                    yes: rest.left,
-                    no: rest.right,
-                },
-            )
+            copy_choice(table, index, condition, yes, no, from, out)
         }
         // nodes of other sorts never stand here
         _ => Size { nodes: 0, bytes: 0 },
@@ -112,56 +70,14 @@ pub fn copy_truth(table: &[u8], index: &[u16], n: usize, from: usize, out: &mut 
     let node = truth_at(table, index, n);
     match node {
         Node::Constant { .. } => append(out, 0, 0, node),
-        Node::Equal { left, right } => {
-            let parts = copy_pair(table, index, left, right, from, &mut *out);
-            append(
-                out,
-                parts.nodes,
-                parts.bytes,
-                Node::Equal {
-                    left: parts.left,
-                    right: parts.right,
-                },
-            )
-        }
-        Node::Less { left, right } => {
-            let parts = copy_pair(table, index, left, right, from, &mut *out);
-            append(
-                out,
-                parts.nodes,
-                parts.bytes,
-                Node::Less {
-                    left: parts.left,
-                    right: parts.right,
-                },
-            )
-        }
+        Node::Equal { left, right } => copy_binary(table, index, node, left, right, from, out),
+        Node::Less { left, right } => copy_binary(table, index, node, left, right, from, out),
         Node::Not { truth } => {
             let part = copy_truth(table, index, truth, from, &mut *out);
-            append(
-                out,
-                part.nodes,
-                part.bytes,
-                Node::Not {
-                    truth: last(from, part.nodes),
-                },
-            )
+            let truth = last(from, part.nodes);
+            append(out, part.nodes, part.bytes, Node::Not { truth })
         }
-        Node::And { left, right } => {
-            let first = copy_truth(table, index, left, from, &mut *out);
-            let at = first.bytes;
-            let second = copy_truth(table, index, right, from + first.nodes, &mut out[at..]);
-            let parts = both(from, first, second);
-            append(
-                out,
-                parts.nodes,
-                parts.bytes,
-                Node::And {
-                    left: parts.left,
-                    right: parts.right,
-                },
-            )
-        }
+        Node::And { left, right } => copy_and(table, index, left, right, from, out),
         // nodes of other sorts never stand here
         _ => Size { nodes: 0, bytes: 0 },
     }
@@ -189,4 +105,92 @@ fn copy_pair(
     let at = first.bytes;
     let second = copy_numeric(table, index, right, from + first.nodes, &mut out[at..]);
     both(from, first, second)
+}
+
+// Copies two numeric nodes and behind them the node over both.
+fn copy_binary(
+    table: &[u8],
+    index: &[u16],
+    node: Node,
+    left: usize,
+    right: usize,
+    from: usize,
+    out: &mut [u8],
+) -> Size
+    requires { ⌜ OfSort (now table) (now index) Numeric left × OfSort (now table) (now index) Numeric right ⌝ }
+    requires { ⌜
+        Room from
+        (nodesOfA (numericIn (now table) left) + nodesOfA (numericIn (now table) right) + 1)
+        (bytesOfA (numericIn (now table) left) + bytesOfA (numericIn (now table) right) + 8)
+        (now out) ⌝ }
+    ensures { λ r. ⌜
+        WroteBinary node from (numericIn (now (table .entry)) left) (numericIn (now (table .entry)) right) (now (out .entry)) (now (out .exit)) r ⌝ }
+{
+    let parts = copy_pair(table, index, left, right, from, &mut *out);
+    let copy = record_over(node, parts.left, parts.right);
+    append_record(out, parts.nodes, parts.bytes, copy)
+}
+
+// Copies a choice: its condition, its two sides, and the node over them.
+fn copy_choice(
+    table: &[u8],
+    index: &[u16],
+    condition: usize,
+    yes: usize,
+    no: usize,
+    from: usize,
+    out: &mut [u8],
+) -> Size
+    requires { ⌜
+        OfSort (now table) (now index) Truth condition
+        × OfSort (now table) (now index) Numeric yes
+        × OfSort (now table) (now index) Numeric no ⌝ }
+    requires { ⌜
+        Room from
+        (nodesOfB (truthIn (now table) condition) + nodesOfA (numericIn (now table) yes) + nodesOfA (numericIn (now table) no) + 1)
+        (bytesOfB (truthIn (now table) condition) + bytesOfA (numericIn (now table) yes) + bytesOfA (numericIn (now table) no) + 10)
+        (now out) ⌝ }
+    ensures { λ r. ⌜
+        Wrote
+        (writeA from (choice (truthIn (now (table .entry)) condition) (numericIn (now (table .entry)) yes) (numericIn (now (table .entry)) no)))
+        (now (out .entry)) (now (out .exit)) r ⌝ }
+{
+    let first = copy_truth(table, index, condition, from, &mut *out);
+    let at = first.bytes;
+    let sides = copy_pair(table, index, yes, no, from + first.nodes, &mut out[at..]);
+    let copy = Node::Choice {
+        condition: last(from, first.nodes),
+        yes: sides.left,
+        no: sides.right,
+    };
+    append(out, first.nodes + sides.nodes, at + sides.bytes, copy)
+}
+
+// Copies two truth nodes, the second from the byte where the first ended, and the `and` over both.
+fn copy_and(
+    table: &[u8],
+    index: &[u16],
+    left: usize,
+    right: usize,
+    from: usize,
+    out: &mut [u8],
+) -> Size
+    requires { ⌜ OfSort (now table) (now index) Truth left × OfSort (now table) (now index) Truth right ⌝ }
+    requires { ⌜
+        Room from
+        (nodesOfB (truthIn (now table) left) + nodesOfB (truthIn (now table) right) + 1)
+        (bytesOfB (truthIn (now table) left) + bytesOfB (truthIn (now table) right) + 8)
+        (now out) ⌝ }
+    ensures { λ r. ⌜
+        Wrote (writeB from (and (truthIn (now (table .entry)) left) (truthIn (now (table .entry)) right))) (now (out .entry)) (now (out .exit)) r ⌝ }
+{
+    let first = copy_truth(table, index, left, from, &mut *out);
+    let at = first.bytes;
+    let second = copy_truth(table, index, right, from + first.nodes, &mut out[at..]);
+    let parts = both(from, first, second);
+    let copy = Node::And {
+        left: parts.left,
+        right: parts.right,
+    };
+    append(out, parts.nodes, parts.bytes, copy)
 }

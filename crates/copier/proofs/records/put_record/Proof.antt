@@ -8,36 +8,6 @@ use borrow.Author.Needs.{needs}
 use Rattle.copier.proofs.records.put_record.Statement.{statement}
 use Rattle.copier.proofs.records.put_record.Tie as tie
 
-put-head-requires : tie.Need-put-head-requires
-put-head-requires c κs = omega (arith, ap recordSize (c .before .before .fields .given .1))
-
-put-head-requires-2 : tie.Need-put-head-requires-2
-put-head-requires-2 c κs = omega (arith, ap recordSize (c .before .before .fields2 .given .1))
-
-put16-requires : tie.Need-put16-requires
-put16-requires c κs = omega (arith, ap recordSize (c .before .before .before .before .before .before .fields2 .given .1))
-
-put-head-requires-3 : tie.Need-put-head-requires-3
-put-head-requires-3 c κs = omega (arith, ap recordSize (c .before .before .fields3 .given .1))
-
-put16-requires-2 : tie.Need-put16-requires-2
-put16-requires-2 c κs = omega (arith, ap recordSize (c .before .before .before .before .before .before .fields3 .given .1))
-
-put16-requires-3 : tie.Need-put16-requires-3
-put16-requires-3 c κs = omega (arith, ap recordSize (c .before .before .before .before .before .before .before .before .before .before .fields3 .given .1))
-
-put-head-requires-4 : tie.Need-put-head-requires-4
-put-head-requires-4 c κs = omega (arith, ap recordSize (c .before .before .fields4 .given .1))
-
-put16-requires-4 : tie.Need-put16-requires-4
-put16-requires-4 c κs = omega (arith, ap recordSize (c .before .before .before .before .before .before .fields4 .given .1))
-
-put16-requires-5 : tie.Need-put16-requires-5
-put16-requires-5 c κs = omega (arith, ap recordSize (c .before .before .before .before .before .before .before .before .before .before .fields4 .given .1))
-
-put16-requires-6 : tie.Need-put16-requires-6
-put16-requires-6 c κs = omega (arith, ap recordSize (c .before .before .before .before .before .before .before .before .before .before .before .before .before .before .fields4 .given .1))
-
 returns : tie.Need-returns
 unfolding recordBytes
 returns c =
@@ -67,19 +37,19 @@ put-record-spec =
     tie.close
     (tie.spec
     (λ c. search needs)
-    put-head-requires
+    (λ c κs. omega (arith, ap recordSize (c .before .before .fields .given .1)))
     (λ c. search needs)
-    put-head-requires-2
-    put16-requires
+    (λ c κs. omega (arith, ap recordSize (c .before .before .fields2 .given .1)))
+    (λ c κs. omega (arith, ap recordSize (c .before .before .before .before .before .before .fields2 .given .1)))
     (λ c. search needs)
-    put-head-requires-3
-    put16-requires-2
-    put16-requires-3
+    (λ c κs. omega (arith, ap recordSize (c .before .before .fields3 .given .1)))
+    (λ c κs. omega (arith, ap recordSize (c .before .before .before .before .before .before .fields3 .given .1)))
+    (λ c κs. omega (arith, ap recordSize (c .before .before .before .before .before .before .before .before .before .before .fields3 .given .1)))
     (λ c. search needs)
-    put-head-requires-4
-    put16-requires-4
-    put16-requires-5
-    put16-requires-6
+    (λ c κs. omega (arith, ap recordSize (c .before .before .fields4 .given .1)))
+    (λ c κs. omega (arith, ap recordSize (c .before .before .before .before .before .before .fields4 .given .1)))
+    (λ c κs. omega (arith, ap recordSize (c .before .before .before .before .before .before .before .before .before .before .fields4 .given .1)))
+    (λ c κs. omega (arith, ap recordSize (c .before .before .before .before .before .before .before .before .before .before .before .before .before .before .fields4 .given .1)))
     (λ c. search needs)
     returns
     (λ c. search needs)

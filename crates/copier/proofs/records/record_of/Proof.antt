@@ -1,104 +1,45 @@
--- `record_of` is `recordOf`, kind by kind.
+-- `record_of` is `recordOf`, kind by kind: first what each arm's call asks, then what each arm answers.
 use borrow.Author.Needs.{needs}
 use Rattle.copier.proofs.records.record_of.Statement.{statement}
 use Rattle.copier.proofs.records.record_of.Tie as tie
-
-enum-told : tie.Need-enum-told
-enum-told c = search needs
-
-returns : tie.Need-returns
-returns c = rw (c .before .node .given .1)
-
-returns-2 : tie.Need-returns-2
-returns-2 c = rw (c .before .node2 .given .1)
-
-returns-3 : tie.Need-returns-3
-returns-3 c = rw (c .before .node3 .given .1)
-
-returns-4 : tie.Need-returns-4
-returns-4 c = rw (c .before .node4 .given .1)
-
-returns-5 : tie.Need-returns-5
-returns-5 c = rw (c .before .node5 .given .1)
-
-returns-6 : tie.Need-returns-6
-returns-6 c = rw (c .before .node6 .given .1)
-
-returns-7 : tie.Need-returns-7
-returns-7 c = rw (c .before .node7 .given .1)
-
-returns-8 : tie.Need-returns-8
-returns-8 c = rw (c .before .node8 .given .1)
-
-returns-9 : tie.Need-returns-9
-returns-9 c = rw (c .before .node9 .given .1)
-
-returns-10 : tie.Need-returns-10
-returns-10 c = rw (c .before .node10 .given .1)
-
-returns-11 : tie.Need-returns-11
-returns-11 c = rw (c .before .node11 .given .1)
-
-returns-12 : tie.Need-returns-12
-returns-12 c = rw (c .enum-told .given .1)
-
-returns-13 : tie.Need-returns-13
-returns-13 c = rw (c .before .node12 .given .1)
-
-returns-14 : tie.Need-returns-14
-returns-14 c = rw (c .before .node13 .given .1)
-
-returns-15 : tie.Need-returns-15
-returns-15 c = rw (c .before .node14 .given .1)
-
-returns-16 : tie.Need-returns-16
-returns-16 c = rw (c .before .node15 .given .1)
-
-returns-17 : tie.Need-returns-17
-returns-17 c = rw (c .before .node16 .given .1)
-
-returns-18 : tie.Need-returns-18
-returns-18 c = rw (c .before .node17 .given .1)
 
 pub record-of-spec : {M : Type 1} → statement M
 record-of-spec =
     tie.close
     (tie.spec
+    (λ c. search needs) (λ c. search needs) (λ c. search needs) (λ c κs. search needs)
+    (λ c. search needs) (λ c κs. search needs)
+    (λ c. search needs) (λ c κs. search needs)
+    (λ c. search needs) (λ c κs. search needs)
+    (λ c. search needs) (λ c κs. search needs)
+    (λ c. search needs) (λ c κs. search needs)
+    (λ c. search needs) (λ c κs. search needs)
+    (λ c. search needs) (λ c κs. search needs)
+    (λ c. search needs) (λ c κs. search needs)
+    (λ c. search needs) (λ c κs. search needs)
+    (λ c. search needs) (λ c κs. search needs)
     (λ c. search needs)
-    (λ c. search needs)
-    (λ c. search needs)
-    (λ c. search needs)
-    (λ c. search needs)
-    (λ c. search needs)
-    (λ c. search needs)
-    (λ c. search needs)
-    (λ c. search needs)
-    (λ c. search needs)
-    (λ c. search needs)
-    (λ c. search needs)
-    (λ c. search needs)
-    enum-told
-    (λ c. search needs)
-    (λ c. search needs)
-    (λ c. search needs)
-    (λ c. search needs)
-    (λ c. search needs)
-    (λ c. search needs)
-    returns
-    returns-2
-    returns-3
-    returns-4
-    returns-5
-    returns-6
-    returns-7
-    returns-8
-    returns-9
-    returns-10
-    returns-11
-    returns-12
-    returns-13
-    returns-14
-    returns-15
-    returns-16
-    returns-17
-    returns-18)
+    (λ c. search needs) (λ c κs. search needs)
+    (λ c. search needs) (λ c κs. search needs)
+    (λ c. search needs) (λ c κs. search needs)
+    (λ c. search needs) (λ c κs. search needs)
+    (λ c. search needs) (λ c κs. search needs)
+    (λ c. search needs) (λ c κs. search needs)
+    (λ c. rw (c .before .before .node .given .1) (c .two .ensures))
+    (λ c. rw (c .before .before .node2 .given .1) (c .one .ensures))
+    (λ c. rw (c .before .before .node3 .given .1) (c .two2 .ensures))
+    (λ c. rw (c .before .before .node4 .given .1) (c .two3 .ensures))
+    (λ c. rw (c .before .before .node5 .given .1) (c .two4 .ensures))
+    (λ c. rw (c .before .before .node6 .given .1) (c .three .ensures))
+    (λ c. rw (c .before .before .node7 .given .1) (c .one2 .ensures))
+    (λ c. rw (c .before .before .node8 .given .1) (c .two5 .ensures))
+    (λ c. rw (c .before .before .node9 .given .1) (c .two6 .ensures))
+    (λ c. rw (c .before .before .node10 .given .1) (c .one3 .ensures))
+    (λ c. rw (c .before .before .node11 .given .1) (c .two7 .ensures))
+    (λ c. rw (c .enum-told .given .1))
+    (λ c. rw (c .before .before .node12 .given .1) (c .two8 .ensures))
+    (λ c. rw (c .before .before .node13 .given .1) (c .two9 .ensures))
+    (λ c. rw (c .before .before .node14 .given .1) (c .three2 .ensures))
+    (λ c. rw (c .before .before .node15 .given .1) (c .two10 .ensures))
+    (λ c. rw (c .before .before .node16 .given .1) (c .three3 .ensures))
+    (λ c. rw (c .before .before .node17 .given .1) (c .three4 .ensures)))
