@@ -104,14 +104,14 @@ module _ (table variables : List ℕ) (n : ℕ) where
 
 -- which of two values a test chooses, and whether a second test counts
 module _ {test told : Bool} (is : test ≡ told) where
-  pub chosen-first : (x y : ℕ) {r : ℕ} → test ≡ true → r ≡ x → r ≡ cond told x y
-  chosen-first x y taken value = value ∙ rw (sym is ∙ taken)
+  pub chosen-first : {x r : ℕ} (y : ℕ) → test ≡ true → r ≡ x → r ≡ cond told x y
+  chosen-first y taken value = value ∙ rw (sym is ∙ taken)
 
-  pub chosen-second : (x y : ℕ) {r : ℕ} → test ≡ false → r ≡ y → r ≡ cond told x y
-  chosen-second x y left value = value ∙ rw (sym is ∙ left)
+  pub chosen-second : (x : ℕ) {y r : ℕ} → test ≡ false → r ≡ y → r ≡ cond told x y
+  chosen-second x left value = value ∙ rw (sym is ∙ left)
 
-  pub both-second : (b : Bool) {r : Bool} → test ≡ true → r ≡ b → r ≡ (told && b)
-  both-second b taken value = value ∙ rw (sym is ∙ taken)
+  pub both-second : {b r : Bool} → test ≡ true → r ≡ b → r ≡ (told && b)
+  both-second taken value = value ∙ rw (sym is ∙ taken)
 
   pub both-first : (b : Bool) → test ≡ false → false ≡ (told && b)
   both-first b left = rw (sym is ∙ left)

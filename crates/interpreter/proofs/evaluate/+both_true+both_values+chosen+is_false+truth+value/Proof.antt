@@ -152,16 +152,12 @@ chosen-value-requires-2 t c κs =
 chosen-returns : (t : ℕ) → chosen-lts.Need-returns (chosen-calls t) (chosen-at t) chosen.Post
 chosen-returns t c =
     let args = c .before .before .before .before .before .before .args in
-    chosen-first (c .before .before .truth .ensures)
-    (valueIn (now (args .table)) (now (args .variables)) (args .yes)) (valueIn (now (args .table)) (now (args .variables)) (args .no))
-    (c .before .if1 .taken) (c .value .ensures)
+    chosen-first (c .before .before .truth .ensures) (valueIn (now (args .table)) (now (args .variables)) (args .no)) (c .before .if1 .taken) (c .value .ensures)
 
 chosen-returns-2 : (t : ℕ) → chosen-lts.Need-returns-2 (chosen-calls t) (chosen-at t) chosen.Post
 chosen-returns-2 t c =
     let args = c .before .before .before .before .before .before .args in
-    chosen-second (c .before .before .truth .ensures)
-    (valueIn (now (args .table)) (now (args .variables)) (args .yes)) (valueIn (now (args .table)) (now (args .variables)) (args .no))
-    (c .before .if1 .left) (c .value2 .ensures)
+    chosen-second (c .before .before .truth .ensures) (valueIn (now (args .table)) (now (args .variables)) (args .yes)) (c .before .if1 .left) (c .value2 .ensures)
 
 both-true-truth-requires : (t : ℕ) → both-true-lts.Need-truth-requires (both-true-calls t) (both-true-at t) both-true.Post
 both-true-truth-requires t c κs =
@@ -172,9 +168,7 @@ both-true-truth-requires-2 t c κs =
     let start = c .before .before .before .before .before in (subst (λ m. 2 * start .args .right + 1 < m) (start .pre .0) (omega arith), start .pre .1 .1)
 
 both-true-returns : (t : ℕ) → both-true-lts.Need-returns (both-true-calls t) (both-true-at t) both-true.Post
-both-true-returns t c =
-    let args = c .before .before .before .before .before .before .args in
-    both-second (c .before .before .truth .ensures) (truthIn (now (args .table)) (now (args .variables)) (args .right)) (c .before .if1 .taken) (c .truth2 .ensures)
+both-true-returns t c = both-second (c .before .before .truth .ensures) (c .before .if1 .taken) (c .truth2 .ensures)
 
 both-true-returns-2 : (t : ℕ) → both-true-lts.Need-returns-2 (both-true-calls t) (both-true-at t) both-true.Post
 both-true-returns-2 t c =
