@@ -2,7 +2,7 @@
 use Prim.Native.Nat.{ℕ}
 use mathlib.Core.Bool.{Bool, true, false, _||_}
 use mathlib.Core.List.{List, [], _∷_}
-use mathlib.Core.Path.{_≡_, refl}
+use mathlib.Core.Path.{_≡_, sym, _∙_}
 use denote.Enum.Declared.{tagOf}
 use types.Run.{OneOf, miss}
 use Rattle.reader.specs.Index.{Indexed, numericIn, truthIn}
@@ -24,15 +24,14 @@ use Rattle.labels.specs.Labellings.{labelOfA, labelOfB}
 pub child-of-sort : {table index : List ℕ} {s : Sort} {n k : ℕ} → Indexed table index → Child table s n k → OfSort table index s k
 child-of-sort i c = record { indexed = i; inside = c .inside; isSort = c .isSort }
 
--- a join whose first label is secret
-pub first-secret : (a b : Bool) → a ≡ true → true ≡ (a || b)
-first-secret true b e = refl
-first-secret false b e = cc
+module _ {found a : Bool} (is : found ≡ a) where
+  -- a join whose first label was found secret
+  pub first-secret : (b : Bool) → found ≡ true → true ≡ (a || b)
+  first-secret b secret = rw (sym is ∙ secret)
 
--- a join whose first label is public
-pub second-label : (a b r : Bool) → a ≡ false → r ≡ b → r ≡ (a || b)
-second-label true b r e f = cc
-second-label false b r e f = f
+  -- a join whose first label was found public
+  pub second-label : {b r : Bool} → found ≡ false → r ≡ b → r ≡ (a || b)
+  second-label public label = label ∙ rw (sym is ∙ public)
 
 -- the label of an expression is that of what it is
 pub same-numeric : (l : Labelling) {e f : AExp} {r : Bool} → e ≡ f → r ≡ labelOfA l f → r ≡ labelOfA l e

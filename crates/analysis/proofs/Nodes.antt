@@ -7,7 +7,7 @@ use Rattle.bytes_le.proofs.Numbers.{Below}
 use Rattle.reader.specs.Index.{Indexed, nodesIn, nodeIn}
 use Rattle.awhile.specs.Nodes.{form, sortOf}
 use Rattle.awhile.specs.declared.Sort.{Sort}
-use Rattle.awhile.specs.declared.Sort.the-variants.{Command}
+use Rattle.awhile.specs.declared.Sort.the-variants.{Numeric, Truth, Command}
 use Rattle.awhile.specs.declared.Node.{Node}
 use Rattle.awhile.specs.declared.Node.the-variants.{Number, Variable, Add, Subtract, Multiply, Choice}
 use Rattle.awhile.specs.declared.Node.the-variants.{Constant, Equal, Less, Not, And}
@@ -21,14 +21,20 @@ pub node-parts : {table index : List ℕ} {n : ℕ} {r : Node} → Below 256 tab
     → (m : Node) → r ≡ m → Parts table n m
 node-parts {table} {index} {n} bytes indexed inside e m h = indexed-parts table index bytes indexed n inside m (sym e ∙ h)
 
-module _ {table index : List ℕ} (indexed : Indexed table index) {t n : ℕ} (at : 2 * n + 1 ≡ t) where
+module _ {table index : List ℕ} (indexed : Indexed table index) {t n : ℕ} (at : 3 * n + 1 ≡ t) where
   -- one child is below its parent, for a call on it
-  pub child-below : {s : Sort} (k : ℕ) → Child table s n k → (2 * k + 1 < t) × OfSort table index s k
+  pub child-below : {s : Sort} (k : ℕ) → Child table s n k → (3 * k + 2 < t) × OfSort table index s k
   child-below k c = (omega (arith, c .below), child-of-sort indexed c)
 
   -- and so are two, for a call on both
-  pub pair-below : {s : Sort} (j k : ℕ) → Child table s n j → Child table s n k → (2 * max j k + 2 < t) × (OfSort table index s j × OfSort table index s k)
+  pub pair-below : {s : Sort} (j k : ℕ) → Child table s n j → Child table s n k → (3 * max j k + 2 < t) × (OfSort table index s j × OfSort table index s k)
   pair-below j k c d = (omega (arith, c .below, d .below), (child-of-sort indexed c, child-of-sort indexed d))
+
+  -- and so are a choice's three
+  pub choice-below : (i j k : ℕ) → Child table Truth n i → Child table Numeric n j → Child table Numeric n k
+      → (3 * max i (max j k) + 3 < t) × (OfSort table index Truth i × OfSort table index Numeric j × OfSort table index Numeric k)
+  choice-below i j k b c d =
+      (omega (arith, b .below, c .below, d .below), (child-of-sort indexed b, child-of-sort indexed c, child-of-sort indexed d))
 
 -- what holds of every kind of command holds of every command node
 pub command-kinds : (P : Node → Type 0) → P Skip → ((x e : ℕ) → P (Assign x e)) → ((c d : ℕ) → P (Sequence c d)) → ((b c d : ℕ) → P (If b c d))

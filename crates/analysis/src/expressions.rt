@@ -1,4 +1,5 @@
-// The labels of expressions: an expression is secret if any variable in it is.
+// The labels of expressions: an expression is secret if any variable in it is. `numeric_label` and `truth_label` leave the parts of a node to
+// functions of their own: only these copy slices and labels to hand them on, and a node without parts is quick.
 use crate::labelling::variable_label;
 use awhile::Labelling;
 use awhile::Node;
@@ -22,13 +23,14 @@ pub fn numeric_label(table: &[u8], index: &[u16], labels: Labelling, n: usize) -
         Node::Add { left, right } => either_secret(table, index, labels, left, right),
         Node::Subtract { left, right } => either_secret(table, index, labels, left, right),
         Node::Multiply { left, right } => either_secret(table, index, labels, left, right),
-        Node::Choice { condition, yes, no } => {
-            if truth_label(table, index, labels, condition) {
-                true
-            } else {
-                either_secret(table, index, labels, yes, no)
-            }
-        }
+        Node::Choice { condition, yes, no } => choice_label(
+            table,
+            index,
+            labels,
+            condition,
+            yes,
+            no,
+        ),
         // a number; nodes of other sorts never stand here
         _ => false,
     }
@@ -43,14 +45,8 @@ pub fn truth_label(table: &[u8], index: &[u16], labels: Labelling, n: usize) -> 
     match node {
         Node::Equal { left, right } => either_secret(table, index, labels, left, right),
         Node::Less { left, right } => either_secret(table, index, labels, left, right),
-        Node::Not { truth } => truth_label(table, index, labels, truth),
-        Node::And { left, right } => {
-            if truth_label(table, index, labels, left) {
-                true
-            } else {
-                truth_label(table, index, labels, right)
-            }
-        }
+        Node::Not { truth } => not_label(table, index, labels, truth),
+        Node::And { left, right } => and_label(table, index, labels, left, right),
         // a constant; nodes of other sorts never stand here
         _ => false,
     }
@@ -65,5 +61,45 @@ fn either_secret(table: &[u8], index: &[u16], labels: Labelling, left: usize, ri
         true
     } else {
         numeric_label(table, index, labels, right)
+    }
+}
+
+// The label of a choice.
+fn choice_label(
+    table: &[u8],
+    index: &[u16],
+    labels: Labelling,
+    condition: usize,
+    yes: usize,
+    no: usize,
+) -> bool
+    requires { ⌜ OfSort (now table) (now index) Truth condition × OfSort (now table) (now index) Numeric yes × OfSort (now table) (now index) Numeric no ⌝ }
+    ensures { λ r. ⌜ r ≡ (labelOfB labels (truthIn (now (table .entry)) condition)
+        || (labelOfA labels (numericIn (now (table .entry)) yes) || labelOfA labels (numericIn (now (table .entry)) no))) ⌝ }
+{
+    if truth_label(table, index, labels, condition) {
+        true
+    } else {
+        either_secret(table, index, labels, yes, no)
+    }
+}
+
+// The label of a not.
+fn not_label(table: &[u8], index: &[u16], labels: Labelling, part: usize) -> bool
+    requires { ⌜ OfSort (now table) (now index) Truth part ⌝ }
+    ensures { λ r. ⌜ r ≡ labelOfB labels (truthIn (now (table .entry)) part) ⌝ }
+{
+    truth_label(table, index, labels, part)
+}
+
+// The label of an and.
+fn and_label(table: &[u8], index: &[u16], labels: Labelling, left: usize, right: usize) -> bool
+    requires { ⌜ OfSort (now table) (now index) Truth left × OfSort (now table) (now index) Truth right ⌝ }
+    ensures { λ r. ⌜ r ≡ (labelOfB labels (truthIn (now (table .entry)) left) || labelOfB labels (truthIn (now (table .entry)) right)) ⌝ }
+{
+    if truth_label(table, index, labels, left) {
+        true
+    } else {
+        truth_label(table, index, labels, right)
     }
 }

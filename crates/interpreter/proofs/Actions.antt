@@ -1,5 +1,6 @@
 -- What the command of a node does, by the node's kind.
 use Prim.Native.Nat.{ℕ}
+use mathlib.Core.Bool.{Bool}
 use mathlib.Core.Path.{_≡_}
 use mathlib.Core.List.{List, _∷_}
 use Rattle.awhile.specs.Language.{Com}
@@ -25,31 +26,35 @@ module _ (table variables : List ℕ) (n : ℕ) where
   unfolding look lookOf quietLook backOn
   looked-skip r is parts = rw is (record { isLook = λ rest. rw (parts, look); fits = tt })
 
-  pub looked-assign : (x e : ℕ) (r : Action) → r ≡ Quiet (Assign x (valueIn table variables e)) → Parts table n (AssignNode x e) → Looked table variables n r
+  pub looked-assign : (x e v : ℕ) (r : Action) → r ≡ Quiet (Assign x v) → v ≡ valueIn table variables e → Parts table n (AssignNode x e)
+      → Looked table variables n r
   unfolding look lookOf quietLook valueIn
-  looked-assign x e r is parts = rw is (record { isLook = λ rest. rw (parts .2, look); fits = parts .0 })
+  looked-assign x e v r is value parts = rw is (rw value (record { isLook = λ rest. rw (parts .2, look); fits = parts .0 }))
 
   pub looked-sequence : (c d : ℕ) (r : Action) → r ≡ Quiet (PutBack (Two d c)) → Parts table n (Sequence c d) → Looked table variables n r
   unfolding look lookOf quietLook backOn
   looked-sequence c d r is parts =
       rw is (record { isLook = λ rest. rw (parts .2, look); fits = (child-command d (parts .1), child-command c (parts .0)) })
 
-  pub looked-if : (b c d : ℕ) (r : Action) → r ≡ Show (Fork (truthIn table variables b) (One c) (One d)) → Parts table n (If b c d) → Looked table variables n r
-  unfolding look lookOf shownLook backOn truthIn
-  looked-if b c d r is parts =
-      rw is (record { isLook = λ rest. rw (parts .3, look); fits = (child-command c (parts .1), child-command d (parts .2)) })
-
-  pub looked-while : (b c : ℕ) (r : Action) → r ≡ Show (Fork (truthIn table variables b) (Two n c) Nothing) → CommandAt table n → Parts table n (While b c)
+  pub looked-if : (b c d : ℕ) (v : Bool) (r : Action) → r ≡ Show (Fork v (One c) (One d)) → v ≡ truthIn table variables b → Parts table n (If b c d)
       → Looked table variables n r
   unfolding look lookOf shownLook backOn truthIn
-  looked-while b c r is self parts =
-      rw is (record { isLook = λ rest. rw (parts .2, look); fits = ((self, child-command c (parts .1)), tt) })
+  looked-if b c d v r is truth parts =
+      rw is (rw truth (record { isLook = λ rest. rw (parts .3, look); fits = (child-command c (parts .1), child-command d (parts .2)) }))
 
-  pub looked-read : (x a e : ℕ) (r : Action) → r ≡ Show (Get x a (valueIn table variables e)) → Parts table n (Read x a e) → Looked table variables n r
-  unfolding look lookOf shownLook valueIn
-  looked-read x a e r is parts = rw is (record { isLook = λ rest. rw (parts .3, look); fits = parts .0 })
+  pub looked-while : (b c : ℕ) (v : Bool) (r : Action) → r ≡ Show (Fork v (Two n c) Nothing) → v ≡ truthIn table variables b → CommandAt table n
+      → Parts table n (While b c)
+      → Looked table variables n r
+  unfolding look lookOf shownLook backOn truthIn
+  looked-while b c v r is truth self parts =
+      rw is (rw truth (record { isLook = λ rest. rw (parts .2, look); fits = ((self, child-command c (parts .1)), tt) }))
 
-  pub looked-write : (a e f : ℕ) (r : Action) → r ≡ Show (Put a (valueIn table variables e) (valueIn table variables f)) → Parts table n (Write a e f)
+  pub looked-read : (x a e v : ℕ) (r : Action) → r ≡ Show (Get x a v) → v ≡ valueIn table variables e → Parts table n (Read x a e)
       → Looked table variables n r
   unfolding look lookOf shownLook valueIn
-  looked-write a e f r is parts = rw is (record { isLook = λ rest. rw (parts .3, look); fits = tt })
+  looked-read x a e v r is value parts = rw is (rw value (record { isLook = λ rest. rw (parts .3, look); fits = parts .0 }))
+
+  pub looked-write : (a e f i v : ℕ) (r : Action) → r ≡ Show (Put a i v) → i ≡ valueIn table variables e → v ≡ valueIn table variables f
+      → Parts table n (Write a e f) → Looked table variables n r
+  unfolding look lookOf shownLook valueIn
+  looked-write a e f i v r is index value parts = rw is (rw (index, value) (record { isLook = λ rest. rw (parts .3, look); fits = tt }))

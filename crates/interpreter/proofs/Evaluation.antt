@@ -1,10 +1,11 @@
 -- Laws of evaluation over a table's bytes: the value of a node from those of its children.
-use Prim.Native.Nat.{ℕ, _+_, _-_, _*_, _%_, _^_, _<_}
-use mathlib.Core.Bool.{Bool, true, false, _&&_}
+use Prim.Native.Nat.{ℕ, _+_, _-_, _*_, _%_, _^_, _<_, max}
+use mathlib.Core.Bool.{Bool, true, false, cond, _&&_}
 use mathlib.Core.Bool.{not as negated}
 use mathlib.Core.Path.{_≡_, refl, sym, ap, _∙_}
 use mathlib.Core.List.{List}
 use lib.Dec.{eqb, ltb}
+use native.Mathlib.Omega.{arith}
 use Rattle.bytes_le.specs.Numbers.{leAt}
 use Rattle.bytes_le.proofs.Numbers.{Below}
 use Rattle.awhile.specs.Language.{AExp, BExp, valueOf, truthOf}
@@ -12,6 +13,7 @@ use Rattle.reader.specs.Index.{nodeIn, numericIn}
 use Rattle.reader.specs.Index.{truthIn as truthTreeIn}
 use Rattle.reader.proofs.Index.{Child, Parts, indexed-parts}
 use Rattle.awhile.specs.declared.Sort.{Sort}
+use Rattle.awhile.specs.declared.Sort.the-variants.{Numeric, Truth}
 use Rattle.awhile.specs.declared.Node.{Node}
 use Rattle.awhile.specs.declared.Node.the-variants.{Number, Variable, Add, Subtract, Multiply, Choice}
 use Rattle.awhile.specs.declared.Node.the-variants.{Constant, Equal, Less, Not, And}
@@ -27,6 +29,23 @@ module _ (table index variables : List ℕ) (n : ℕ) where
   -- what the node that was found says of its fields and its tree
   pub asked-parts : (sort : Sort) → NodeOf sort table index variables n → Below 256 table → (found m : Node) → found ≡ nodeIn table n → found ≡ m → Parts table n m
   asked-parts sort asked bytes found m e is = indexed-parts table index bytes (asked .indexed) n (asked .inside) m (sym e ∙ is)
+
+module _ {table index variables : List ℕ} {n t : ℕ} {sort : Sort} (asked : NodeOf sort table index variables n) (at : 2 * n + 1 ≡ t) where
+  below-asked : {wanted : Sort} {k : ℕ} → Child table wanted n k → NodeOf wanted table index variables k
+  below-asked {wanted} {k} child = child-asked table index variables n sort wanted k asked child
+
+  -- children are below their parent, for a call on one, two or three of them
+  pub part-below : {wanted : Sort} (k : ℕ) → Child table wanted n k → (2 * k + 2 < t) × NodeOf wanted table index variables k
+  part-below k c = (omega (arith, c .below), below-asked c)
+
+  pub pair-below : {wanted : Sort} (j k : ℕ) → Child table wanted n j → Child table wanted n k
+      → (2 * max j k + 2 < t) × (NodeOf wanted table index variables j × NodeOf wanted table index variables k)
+  pair-below j k c d = (omega (arith, c .below, d .below), (below-asked c, below-asked d))
+
+  pub choice-below : (i j k : ℕ) → Child table Truth n i → Child table Numeric n j → Child table Numeric n k
+      → (2 * max i (max j k) + 2 < t)
+      × (NodeOf Truth table index variables i × NodeOf Numeric table index variables j × NodeOf Numeric table index variables k)
+  choice-below i j k b c d = (omega (arith, b .below, c .below, d .below), (below-asked b, below-asked c, below-asked d))
 
 module _ (table variables : List ℕ) (n : ℕ) where
   value-tree : (e : AExp) → numericIn table n ≡ e → valueIn table variables n ≡ valueOf e (variablesIn table variables)
@@ -66,28 +85,33 @@ module _ (table variables : List ℕ) (n : ℕ) where
     unfolding truthOf valueIn
     truth-less parts = rw (left, right) (sym (truth-tree _ (parts .2)))
 
-  module _ (c a b r : ℕ) (test : Bool) (parts : Parts table n (Choice c a b)) (condition : test ≡ truthIn table variables c) where
-    pub value-chosen : test ≡ true → r ≡ valueIn table variables a → r ≡ valueIn table variables n
-    unfolding valueOf valueIn truthIn
-    value-chosen taken is = is ∙ sym (value-tree _ (parts .3) ∙ rw (sym condition ∙ taken))
-
-    pub value-other : test ≡ false → r ≡ valueIn table variables b → r ≡ valueIn table variables n
-    unfolding valueOf valueIn truthIn
-    value-other left is = is ∙ sym (value-tree _ (parts .3) ∙ rw (sym condition ∙ left))
+  pub value-choice : (c a b r : ℕ) → Parts table n (Choice c a b)
+      → r ≡ cond (truthIn table variables c) (valueIn table variables a) (valueIn table variables b) → r ≡ valueIn table variables n
+  unfolding valueOf valueIn truthIn
+  value-choice c a b r parts is = is ∙ sym (value-tree _ (parts .3))
 
   pub truth-constant : (v : ℕ) → Parts table n (Constant v) → eqb v 1 ≡ truthIn table variables n
   unfolding truthOf
   truth-constant v parts = sym (truth-tree _ (parts .1))
 
-  pub truth-not : (a : ℕ) (t : Bool) → Parts table n (Not a) → t ≡ truthIn table variables a → negated t ≡ truthIn table variables n
+  pub truth-not : (a : ℕ) (r : Bool) → Parts table n (Not a) → r ≡ negated (truthIn table variables a) → r ≡ truthIn table variables n
   unfolding truthOf truthIn
-  truth-not a t parts is = rw is (sym (truth-tree _ (parts .1)))
+  truth-not a r parts is = is ∙ sym (truth-tree _ (parts .1))
 
-  module _ (a b : ℕ) (t : Bool) (parts : Parts table n (And a b)) (first : t ≡ truthIn table variables a) where
-    pub truth-both : (r : Bool) → t ≡ true → r ≡ truthIn table variables b → r ≡ truthIn table variables n
-    unfolding truthOf truthIn
-    truth-both r taken is = is ∙ sym (truth-tree _ (parts .2) ∙ rw (sym first ∙ taken))
+  pub truth-and : (a b : ℕ) (r : Bool) → Parts table n (And a b) → r ≡ (truthIn table variables a && truthIn table variables b) → r ≡ truthIn table variables n
+  unfolding truthOf truthIn
+  truth-and a b r parts is = is ∙ sym (truth-tree _ (parts .2))
 
-    pub truth-not-first : t ≡ false → false ≡ truthIn table variables n
-    unfolding truthOf truthIn
-    truth-not-first left = sym (truth-tree _ (parts .2) ∙ rw (sym first ∙ left))
+-- which of two values a test chooses, and whether a second test counts
+module _ {test told : Bool} (is : test ≡ told) where
+  pub chosen-first : {x r : ℕ} (y : ℕ) → test ≡ true → r ≡ x → r ≡ cond told x y
+  chosen-first y taken value = value ∙ rw (sym is ∙ taken)
+
+  pub chosen-second : (x : ℕ) {y r : ℕ} → test ≡ false → r ≡ y → r ≡ cond told x y
+  chosen-second x left value = value ∙ rw (sym is ∙ left)
+
+  pub both-second : {b r : Bool} → test ≡ true → r ≡ b → r ≡ (told && b)
+  both-second taken value = value ∙ rw (sym is ∙ taken)
+
+  pub both-first : (b : Bool) → test ≡ false → false ≡ (told && b)
+  both-first b left = rw (sym is ∙ left)

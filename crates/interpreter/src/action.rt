@@ -5,10 +5,9 @@ use awhile::Node;
 use reader::lookup::command_at;
 ghost use Prim.Native.Nat.{_<_};
 ghost use mathlib.Core.Path.{_≡_};
-ghost use Rattle.awhile.specs.declared.Sort.the-variants.{Numeric, Truth, Command};
-ghost use Rattle.interpreter.specs.Evaluation.{NodeOf, valueIn, truthIn};
+ghost use Rattle.awhile.specs.declared.Sort.the-variants.{Command};
+ghost use Rattle.interpreter.specs.Evaluation.{NodeOf};
 ghost use Rattle.interpreter.specs.Actions.{Looked, heightOf};
-ghost use Rattle.interpreter.specs.declared.action.Back.the-variants.{Nothing, One, Two};
 ghost use Rattle.interpreter.specs.declared.action.Change.the-variants.{PutBack, Assign};
 ghost use Rattle.interpreter.specs.declared.action.Shown.the-variants.{Fork, Get, Put};
 ghost use Rattle.interpreter.specs.declared.action.Action.the-variants.{Quiet, Show};
@@ -79,105 +78,46 @@ fn put_back(back: Back) -> Action
     }
 }
 
-// A variable gets the value of a numeric node.
-fn assign(table: &[u8], index: &[u16], variables: &[u8], variable: usize, part: usize) -> Action
-    requires { ⌜ NodeOf Numeric (now table) (now index) (now variables) part ⌝ }
-    ensures { λ r. ⌜ r ≡ Quiet (Assign variable (valueIn (now (table .entry)) (now (variables .entry)) part)) ⌝ }
+// A variable gets a value.
+fn assign(variable: usize, value: u32) -> Action
+    ensures { λ r. ⌜ r ≡ Quiet (Assign variable value) ⌝ }
 {
-    let v = value(table, index, variables, part);
     Action::Quiet {
-        change: Change::Assign { variable, value: v },
+        change: Change::Assign { variable, value },
     }
 }
 
-// An if goes on with one of its sides.
-fn fork_if(
-    table: &[u8],
-    index: &[u16],
-    variables: &[u8],
-    condition: usize,
-    yes: usize,
-    no: usize,
-) -> Action
-    requires { ⌜ NodeOf Truth (now table) (now index) (now variables) condition ⌝ }
-    ensures { λ r. ⌜ r ≡ Show (Fork (truthIn (now (table .entry)) (now (variables .entry)) condition) (One yes) (One no)) ⌝ }
+// A branch goes on with one of its sides.
+fn fork(value: bool, yes: Back, no: Back) -> Action
+    ensures { λ r. ⌜ r ≡ Show (Fork value yes no) ⌝ }
 {
-    let v = truth(table, index, variables, condition);
     Action::Show {
-        shown: Shown::Fork {
-            value: v,
-            yes: Back::One { next: yes },
-            no: Back::One { next: no },
-        },
+        shown: Shown::Fork { value, yes, no },
     }
 }
 
-// "a true while puts back itself, then its body"
-fn fork_while(
-    table: &[u8],
-    index: &[u16],
-    variables: &[u8],
-    condition: usize,
-    itself: usize,
-    body: usize,
-) -> Action
-    requires { ⌜ NodeOf Truth (now table) (now index) (now variables) condition ⌝ }
-    ensures { λ r. ⌜ r ≡ Show (Fork (truthIn (now (table .entry)) (now (variables .entry)) condition) (Two itself body) Nothing) ⌝ }
+// A read into a variable.
+fn get(variable: usize, array: usize, index: u32) -> Action
+    ensures { λ r. ⌜ r ≡ Show (Get variable array index) ⌝ }
 {
-    let v = truth(table, index, variables, condition);
-    Action::Show {
-        shown: Shown::Fork {
-            value: v,
-            yes: Back::Two {
-                below: itself,
-                next: body,
-            },
-            no: Back::Nothing,
-        },
-    }
-}
-
-// A read at the value of a numeric node.
-fn get(
-    table: &[u8],
-    index: &[u16],
-    variables: &[u8],
-    variable: usize,
-    array: usize,
-    part: usize,
-) -> Action
-    requires { ⌜ NodeOf Numeric (now table) (now index) (now variables) part ⌝ }
-    ensures { λ r. ⌜ r ≡ Show (Get variable array (valueIn (now (table .entry)) (now (variables .entry)) part)) ⌝ }
-{
-    let i = value(table, index, variables, part);
     Action::Show {
         shown: Shown::Get {
             variable,
             array,
-            index: i,
+            index,
         },
     }
 }
 
-// A write of the value of one numeric node at that of another.
-fn put(
-    table: &[u8],
-    index: &[u16],
-    variables: &[u8],
-    array: usize,
-    part: usize,
-    other: usize,
-) -> Action
-    requires { ⌜ NodeOf Numeric (now table) (now index) (now variables) part × NodeOf Numeric (now table) (now index) (now variables) other ⌝ }
-    ensures { λ r. ⌜ r ≡ Show (Put array (valueIn (now (table .entry)) (now (variables .entry)) part) (valueIn (now (table .entry)) (now (variables .entry)) other)) ⌝ }
+// A write of a value.
+fn put(array: usize, index: u32, value: u32) -> Action
+    ensures { λ r. ⌜ r ≡ Show (Put array index value) ⌝ }
 {
-    let i = value(table, index, variables, part);
-    let v = value(table, index, variables, other);
     Action::Show {
         shown: Shown::Put {
             array,
-            index: i,
-            value: v,
+            index,
+            value,
         },
     }
 }
@@ -192,23 +132,38 @@ pub fn look_at(table: &[u8], index: &[u16], variables: &[u8], n: usize) -> Actio
         Node::Assign {
             variable,
             value: part,
-        } => assign(table, index, variables, variable, part),
+        } => assign(variable, value(table, index, variables, part)),
         Node::Sequence { first, second } => put_back(Back::Two {
             below: second,
             next: first,
         }),
-        Node::If { condition, yes, no } => fork_if(table, index, variables, condition, yes, no),
-        Node::While { condition, body } => fork_while(table, index, variables, condition, n, body),
+        Node::If { condition, yes, no } => fork(
+            truth(table, index, variables, condition),
+            Back::One { next: yes },
+            Back::One { next: no },
+        ),
+        Node::While { condition, body } => fork(
+            truth(table, index, variables, condition),
+            Back::Two {
+                below: n,
+                next: body,
+            },
+            Back::Nothing,
+        ),
         Node::Read {
             variable,
             array,
             index: part,
-        } => get(table, index, variables, variable, array, part),
+        } => get(variable, array, value(table, index, variables, part)),
         Node::Write {
             array,
             index: part,
             value: other,
-        } => put(table, index, variables, array, part, other),
+        } => put(
+            array,
+            value(table, index, variables, part),
+            value(table, index, variables, other),
+        ),
         Node::Skip => put_back(Back::Nothing),
         // no other node is a command
         _ => put_back(Back::Nothing),

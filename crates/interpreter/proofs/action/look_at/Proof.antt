@@ -34,43 +34,45 @@ module _ (d : tie.After-command-at) where
   self : CommandAt (now (d .before .before .before .before .args .table)) (d .before .before .before .before .args .n)
   self = let asked = d .before .before .before .before .pre in record { inside = asked .inside; isCommand = asked .isSort }
 
-assign-requires : tie.Need-assign-requires
-assign-requires c κs = child (c .before .before .before) Numeric _ (parts (c .before .before .before) _ (c .before .node .given .1) .1)
+value-requires : tie.Need-value-requires
+value-requires c κs = child (c .before .before .before) Numeric _ (parts (c .before .before .before) _ (c .before .node .given .1) .1)
 
-fork-if-requires : tie.Need-fork-if-requires
-fork-if-requires c κs = child (c .before .before .before) Truth _ (parts (c .before .before .before) _ (c .before .node3 .given .1) .0)
+truth-requires : tie.Need-truth-requires
+truth-requires c κs = child (c .before .before .before) Truth _ (parts (c .before .before .before) _ (c .before .node3 .given .1) .0)
 
-fork-while-requires : tie.Need-fork-while-requires
-fork-while-requires c κs = child (c .before .before .before) Truth _ (parts (c .before .before .before) _ (c .before .node4 .given .1) .0)
+truth-requires-2 : tie.Need-truth-requires-2
+truth-requires-2 c κs = child (c .before .before .before) Truth _ (parts (c .before .before .before) _ (c .before .node4 .given .1) .0)
 
-get-requires : tie.Need-get-requires
-get-requires c κs = child (c .before .before .before) Numeric _ (parts (c .before .before .before) _ (c .before .node5 .given .1) .2)
+value-requires-2 : tie.Need-value-requires-2
+value-requires-2 c κs = child (c .before .before .before) Numeric _ (parts (c .before .before .before) _ (c .before .node5 .given .1) .2)
 
-put-requires : tie.Need-put-requires
-put-requires c κs =
-    let p = parts (c .before .before .before) _ (c .before .node6 .given .1) in
-    (child (c .before .before .before) Numeric _ (p .1), child (c .before .before .before) Numeric _ (p .2))
+value-requires-3 : tie.Need-value-requires-3
+value-requires-3 c κs = child (c .before .before .before) Numeric _ (parts (c .before .before .before) _ (c .before .node6 .given .1) .1)
 
-enum-told : tie.Need-enum-told
-enum-told c = search needs
+value-requires-4 : tie.Need-value-requires-4
+value-requires-4 c κs = child (c .before .before .before .before) Numeric _ (parts (c .before .before .before .before) _ (c .before .before .node6 .given .1) .2)
 
 returns : tie.Need-returns
-returns c = looked-assign _ _ _ _ _ _ (c .assign .ensures) (parts (c .before .before .before .before) _ (c .before .before .node .given .1))
+returns c = looked-assign _ _ _ _ _ _ _ (c .assign .ensures) (c .before .value .ensures) (parts (c .before .before .before .before .before) _ (c .before .before .before .node .given .1))
 
 returns-2 : tie.Need-returns-2
 returns-2 c = looked-sequence _ _ _ _ _ _ (c .put-back .ensures) (parts (c .before .before .before .before) _ (c .before .before .node2 .given .1))
 
 returns-3 : tie.Need-returns-3
-returns-3 c = looked-if _ _ _ _ _ _ _ (c .fork-if .ensures) (parts (c .before .before .before .before) _ (c .before .before .node3 .given .1))
+returns-3 c = looked-if _ _ _ _ _ _ _ _ (c .fork .ensures) (c .before .truth .ensures) (parts (c .before .before .before .before .before) _ (c .before .before .before .node3 .given .1))
 
 returns-4 : tie.Need-returns-4
-returns-4 c = looked-while _ _ _ _ _ _ (c .fork-while .ensures) (self (c .before .before .before .before)) (parts (c .before .before .before .before) _ (c .before .before .node4 .given .1))
+returns-4 c =
+    let found = c .before .before .before .before .before in
+    looked-while _ _ _ _ _ _ _ (c .fork2 .ensures) (c .before .truth2 .ensures) (self found) (parts found _ (c .before .before .before .node4 .given .1))
 
 returns-5 : tie.Need-returns-5
-returns-5 c = looked-read _ _ _ _ _ _ _ (c .get .ensures) (parts (c .before .before .before .before) _ (c .before .before .node5 .given .1))
+returns-5 c = looked-read _ _ _ _ _ _ _ _ (c .get .ensures) (c .before .value2 .ensures) (parts (c .before .before .before .before .before) _ (c .before .before .before .node5 .given .1))
 
 returns-6 : tie.Need-returns-6
-returns-6 c = looked-write _ _ _ _ _ _ _ (c .put .ensures) (parts (c .before .before .before .before) _ (c .before .before .node6 .given .1))
+returns-6 c =
+    looked-write _ _ _ _ _ _ _ _ _ (c .put .ensures) (c .before .before .value3 .ensures) (c .before .value4 .ensures)
+    (parts (c .before .before .before .before .before .before) _ (c .before .before .before .before .node6 .given .1))
 
 returns-7 : tie.Need-returns-7
 returns-7 c = looked-skip _ _ _ _ (c .put-back2 .ensures) (parts (c .before .before .before) _ (c .before .enum-told .given .1))
@@ -84,18 +86,24 @@ look-at-spec =
     (tie.spec
     (λ c κs. search needs)
     (λ c. search needs)
-    assign-requires
+    value-requires
+    (λ c κs. search needs)
     (λ c. search needs)
     (λ c κs. search needs)
     (λ c. search needs)
-    fork-if-requires
+    truth-requires
+    (λ c κs. search needs)
     (λ c. search needs)
-    fork-while-requires
+    truth-requires-2
+    (λ c κs. search needs)
     (λ c. search needs)
-    get-requires
+    value-requires-2
+    (λ c κs. search needs)
     (λ c. search needs)
-    put-requires
-    enum-told
+    value-requires-3
+    value-requires-4
+    (λ c κs. search needs)
+    (λ c. search needs)
     (λ c κs. search needs)
     (λ c κs. search needs)
     returns
