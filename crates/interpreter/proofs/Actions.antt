@@ -2,14 +2,13 @@
 use Prim.Native.Nat.{ℕ}
 use mathlib.Core.Bool.{Bool}
 use mathlib.Core.Path.{_≡_}
-use mathlib.Core.List.{List, _∷_}
-use Rattle.awhile.specs.Language.{Com}
+use mathlib.Core.List.{List}
 use Rattle.reader.proofs.Index.{Child, Parts}
 use Rattle.awhile.specs.declared.Sort.the-variants.{Command}
 use Rattle.awhile.specs.declared.Node.the-variants.{Skip, Sequence, If, While, Read, Write}
 use Rattle.awhile.specs.declared.Node.the-variants.{Assign as AssignNode}
 use Rattle.machine.specs.Look.{look}
-use Rattle.interpreter.specs.Evaluation.{variablesIn, valueIn, truthIn}
+use Rattle.interpreter.specs.Evaluation.{valueIn, truthIn}
 use Rattle.interpreter.specs.Actions.{backOn, quietLook, shownLook, lookOf, CommandAt, Looked}
 use Rattle.interpreter.specs.declared.action.Back.the-variants.{Nothing, One, Two}
 use Rattle.interpreter.specs.declared.action.Change.the-variants.{PutBack, Assign}
