@@ -1,4 +1,5 @@
 -- Laws for sizes and writes of hardened commands and tables.
+pub mod TwoParts
 pub mod CommandWrites
 pub mod CommandSizes
 pub mod TableWrites
