@@ -245,14 +245,6 @@ harden-command-returns-3 t c =
     let entry = indexed-note table (now (start .args .index)) (command-bytes t (c .before .before .before .before .before .before .before)) (start .pre .1 .0 .node .indexed) (given .0 .1 .0) (p .1 .inside) (p .1 .isSort) in
     let is = in-while table vs arrs (start .args .flag) (start .args .n) (given .0 .0) (given .0 .1 .0) (p .2) entry refl in wrote-C (start .args .from) is (c .before .before .harden-while .ensures)
 
-harden-command-harden-single-requires : (t : ℕ) → harden-command-lts.Need-harden-single-requires (harden-command-calls t) (harden-command-at t) harden-command.Post
-harden-command-harden-single-requires t c κs =
-    ((c .before .before .before .before .before .before .before .before .pre .1 .0, c .before .before .command-at .ensures, unnamed-single (c .before .before .command-at .result) (c .before .match .keys4)), c .before .before .before .before .before .before .before .before .pre .1 .1)
-
-harden-command-returns-4 : (t : ℕ) → harden-command-lts.Need-returns-4 (harden-command-calls t) (harden-command-at t) harden-command.Post
-harden-command-returns-4 t c =
-    c .before .before .harden-single .ensures
-
 -- ---- two commands, one behind the other
 harden-sequence-harden-command-requires : (t : ℕ) → harden-sequence-lts.Need-harden-command-requires (harden-sequence-calls t) (harden-sequence-at t) harden-sequence.Post
 unfolding sequenceIn nodesOf bytesOf
@@ -273,25 +265,9 @@ module _ (t : ℕ) (d : harden-sequence-lts.After-harden-command (harden-sequenc
   unfolding sequenceIn nodesOf bytesOf
   sequence-begun = command-written sequence-one sequence-two (sequence-start .pre .1 .1) (d .harden-command .ensures)
 
-harden-sequence-add-harden-command : (t : ℕ) → harden-sequence-lts.Need-add-harden-command (harden-sequence-calls t) (harden-sequence-at t) harden-sequence.Post
-harden-sequence-add-harden-command t c =
-    rest-number (sequence-begun t (c .before .before .before))
-
-harden-sequence-sub-harden-command : (t : ℕ) → harden-sequence-lts.Need-sub-harden-command (harden-sequence-calls t) (harden-sequence-at t) harden-sequence.Post
-harden-sequence-sub-harden-command t c =
-    rest-begins (sequence-begun t (c .before .before .before))
-
-harden-sequence-part-harden-command-start : (t : ℕ) → harden-sequence-lts.Need-part-harden-command-start (harden-sequence-calls t) (harden-sequence-at t) harden-sequence.Post
-harden-sequence-part-harden-command-start t c =
-    rest-begins (sequence-begun t (c .before .before .before))
-
 harden-sequence-harden-command-requires-2 : (t : ℕ) → harden-sequence-lts.Need-harden-command-requires-2 (harden-sequence-calls t) (harden-sequence-at t) harden-sequence.Post
 harden-sequence-harden-command-requires-2 t c κs =
     let start = c .before .before .before .before .before .before .before .before .before .before .before in (subst (λ m. 4 * start .args .second + 1 < m) (start .pre .0) (omega arith), (start .pre .1 .0 .1, rest-room (sequence-begun t (c .before .before .before .before))))
-
-harden-sequence-append-sequence-requires : (t : ℕ) → harden-sequence-lts.Need-append-sequence-requires (harden-sequence-calls t) (harden-sequence-at t) harden-sequence.Post
-harden-sequence-append-sequence-requires t c κs =
-    sequence-asks (sequence-begun t (c .before .before .before .before .before .before .before .before)) (c .before .before .before .harden-command2 .ensures)
 
 harden-sequence-returns : (t : ℕ) → harden-sequence-lts.Need-returns (harden-sequence-calls t) (harden-sequence-at t) harden-sequence.Post
 unfolding sequenceIn writeC
@@ -318,25 +294,9 @@ module _ (t : ℕ) (d : harden-side-lts.After-put-flag-update (harden-side-calls
   unfolding sideIn testIn nodesOf bytesOf
   side-begun = command-written side-update side-rest (side-start .pre .1 .1) (d .put-flag-update .ensures)
 
-harden-side-add-harden-command : (t : ℕ) → harden-side-lts.Need-add-harden-command (harden-side-calls t) (harden-side-at t) harden-side.Post
-harden-side-add-harden-command t c =
-    rest-number (side-begun t (c .before .before .before))
-
-harden-side-sub-harden-command : (t : ℕ) → harden-side-lts.Need-sub-harden-command (harden-side-calls t) (harden-side-at t) harden-side.Post
-harden-side-sub-harden-command t c =
-    rest-begins (side-begun t (c .before .before .before))
-
-harden-side-part-harden-command-start : (t : ℕ) → harden-side-lts.Need-part-harden-command-start (harden-side-calls t) (harden-side-at t) harden-side.Post
-harden-side-part-harden-command-start t c =
-    rest-begins (side-begun t (c .before .before .before))
-
 harden-side-harden-command-requires : (t : ℕ) → harden-side-lts.Need-harden-command-requires (harden-side-calls t) (harden-side-at t) harden-side.Post
 harden-side-harden-command-requires t c κs =
     let start = c .before .before .before .before .before .before .before .before .before .before .before in (subst (λ m. 4 * start .args .side + 1 < m) (start .pre .0) (omega arith), (start .pre .1 .0 .1, rest-room (side-begun t (c .before .before .before .before))))
-
-harden-side-append-sequence-requires : (t : ℕ) → harden-side-lts.Need-append-sequence-requires (harden-side-calls t) (harden-side-at t) harden-side.Post
-harden-side-append-sequence-requires t c κs =
-    sequence-asks (side-begun t (c .before .before .before .before .before .before .before .before)) (c .before .before .before .harden-command .ensures)
 
 harden-side-returns : (t : ℕ) → harden-side-lts.Need-returns (harden-side-calls t) (harden-side-at t) harden-side.Post
 unfolding sideIn testIn writeC
@@ -361,29 +321,9 @@ module _ (t : ℕ) (d : harden-sides-lts.After-harden-side (harden-sides-calls t
   sides-begun : CommandWritten (sides-start .args .from) sides-one sides-two 0 0 (now (sides-start .args .out)) (d .harden-side .last .1 .1 .1 .1 .1 .1 .1 .1 .1 .1 .0) (d .harden-side .result)
   sides-begun = command-written sides-one sides-two (room-first (sides-start .pre .1 .1) (omega arith) (omega arith)) (d .harden-side .ensures)
 
-harden-sides-add-harden-side : (t : ℕ) → harden-sides-lts.Need-add-harden-side (harden-sides-calls t) (harden-sides-at t) harden-sides.Post
-harden-sides-add-harden-side t c =
-    rest-number (sides-begun t (c .before .before .before))
-
-harden-sides-sub-harden-side : (t : ℕ) → harden-sides-lts.Need-sub-harden-side (harden-sides-calls t) (harden-sides-at t) harden-sides.Post
-harden-sides-sub-harden-side t c =
-    rest-begins (sides-begun t (c .before .before .before))
-
-harden-sides-part-harden-side-start : (t : ℕ) → harden-sides-lts.Need-part-harden-side-start (harden-sides-calls t) (harden-sides-at t) harden-sides.Post
-harden-sides-part-harden-side-start t c =
-    rest-begins (sides-begun t (c .before .before .before))
-
 harden-sides-harden-side-requires-2 : (t : ℕ) → harden-sides-lts.Need-harden-side-requires-2 (harden-sides-calls t) (harden-sides-at t) harden-sides.Post
 harden-sides-harden-side-requires-2 t c κs =
     let start = c .before .before .before .before .before .before .before .before .before .before .before in (subst (λ m. 4 * start .args .second + 2 < m) (start .pre .0) (omega arith), ((start .pre .1 .0 .0, start .pre .1 .0 .2), rest-room (sides-begun t (c .before .before .before .before))))
-
-harden-sides-both-requires : (t : ℕ) → harden-sides-lts.Need-both-requires (harden-sides-calls t) (harden-sides-at t) harden-sides.Post
-harden-sides-both-requires t c κs =
-    both-few (sides-begun t (c .before .before .before .before .before .before .before)) (c .before .before .harden-side2 .ensures)
-
-harden-sides-returns : (t : ℕ) → harden-sides-lts.Need-returns (harden-sides-calls t) (harden-sides-at t) harden-sides.Post
-harden-sides-returns t c =
-    both-wrote (sides-begun t (c .before .before .before .before .before .before .before .before)) (c .before .before .before .harden-side2 .ensures) (c .both .ensures)
 
 -- ---- an if: its condition and both sides
 harden-if-mask-condition-requires : (t : ℕ) → harden-if-lts.Need-mask-condition-requires (harden-if-calls t) (harden-if-at t) harden-if.Post
@@ -417,37 +357,9 @@ module _ (t : ℕ) (d : harden-if-lts.After-copy-condition (harden-if-calls t) (
   if-begun : let before = d .before .before in TestWritten (if-start t before .args .from) (if-test t before) (if-one t before) (if-two t before) 1 10 (now (if-start t before .args .out)) (d .copy-condition .last .1 .1 .1 .1 .1 .1 .0) (d .copy-condition .result)
   if-begun = let before = d .before .before in test-written (if-test t before) (if-one t before) (if-two t before) (if-room t before) (d .copy-condition .ensures)
 
-harden-if-copy-condition-requires : (t : ℕ) → harden-if-lts.Need-copy-condition-requires (harden-if-calls t) (harden-if-at t) harden-if.Post
-harden-if-copy-condition-requires t c κs =
-    (c .before .before .before .before .before .before .before .pre .1 .0 .0, room-first (if-room t (c .before)) (omega arith) (omega arith))
-
-harden-if-add-harden-sides : (t : ℕ) → harden-if-lts.Need-add-harden-sides (harden-if-calls t) (harden-if-at t) harden-if.Post
-harden-if-add-harden-sides t c =
-    rest-number (if-begun t (c .before .before .before))
-
-harden-if-sub-harden-sides : (t : ℕ) → harden-if-lts.Need-sub-harden-sides (harden-if-calls t) (harden-if-at t) harden-if.Post
-harden-if-sub-harden-sides t c =
-    rest-begins (if-begun t (c .before .before .before))
-
-harden-if-part-harden-sides-start : (t : ℕ) → harden-if-lts.Need-part-harden-sides-start (harden-if-calls t) (harden-if-at t) harden-if.Post
-harden-if-part-harden-sides-start t c =
-    rest-begins (if-begun t (c .before .before .before))
-
 harden-if-harden-sides-requires : (t : ℕ) → harden-if-lts.Need-harden-sides-requires (harden-if-calls t) (harden-if-at t) harden-if.Post
 harden-if-harden-sides-requires t c κs =
     let start = c .before .before .before .before .before .before .before .before .before .before .before .before in (subst (λ m. 4 * max (start .args .first) (start .args .second) + 3 < m) (start .pre .0) (omega arith), ((start .pre .1 .0 .0, start .pre .1 .0 .2, start .pre .1 .0 .3), rest-room (if-begun t (c .before .before .before .before))))
-
-harden-if-add-append : (t : ℕ) → harden-if-lts.Need-add-append (harden-if-calls t) (harden-if-at t) harden-if.Post
-harden-if-add-append t c =
-    if-nodes (if-test t (c .before .before .before .before .before .before .before .before .before .before .before .before)) (if-one t (c .before .before .before .before .before .before .before .before .before .before .before .before)) (if-two t (c .before .before .before .before .before .before .before .before .before .before .before .before)) (if-begun t (c .before .before .before .before .before .before .before .before .before .before)) (c .before .before .before .before .before .harden-sides .ensures)
-
-harden-if-add-append-2 : (t : ℕ) → harden-if-lts.Need-add-append-2 (harden-if-calls t) (harden-if-at t) harden-if.Post
-harden-if-add-append-2 t c =
-    if-bytes (if-test t (c .before .before .before .before .before .before .before .before .before .before .before .before .before)) (if-one t (c .before .before .before .before .before .before .before .before .before .before .before .before .before)) (if-two t (c .before .before .before .before .before .before .before .before .before .before .before .before .before)) (if-begun t (c .before .before .before .before .before .before .before .before .before .before .before)) (c .before .before .before .before .before .before .harden-sides .ensures)
-
-harden-if-last-requires : (t : ℕ) → harden-if-lts.Need-last-requires (harden-if-calls t) (harden-if-at t) harden-if.Post
-harden-if-last-requires t c κs =
-    first-last (if-begun t (c .before .before .before .before .before .before .before .before .before .before .before))
 
 harden-if-append-requires : (t : ℕ) → harden-if-lts.Need-append-requires (harden-if-calls t) (harden-if-at t) harden-if.Post
 unfolding sizeOf form fieldSize sum
@@ -479,25 +391,9 @@ module _ (t : ℕ) (d : harden-loop-lts.After-copy-condition (harden-loop-calls 
   unfolding loopIn testIn nodesOf bytesOf
   loop-begun = condition-written loop-test loop-side (loop-start .pre .1 .1) (d .copy-condition .ensures)
 
-harden-loop-add-harden-side : (t : ℕ) → harden-loop-lts.Need-add-harden-side (harden-loop-calls t) (harden-loop-at t) harden-loop.Post
-harden-loop-add-harden-side t c =
-    rest-number (loop-begun t (c .before .before .before))
-
-harden-loop-sub-harden-side : (t : ℕ) → harden-loop-lts.Need-sub-harden-side (harden-loop-calls t) (harden-loop-at t) harden-loop.Post
-harden-loop-sub-harden-side t c =
-    rest-begins (loop-begun t (c .before .before .before))
-
-harden-loop-part-harden-side-start : (t : ℕ) → harden-loop-lts.Need-part-harden-side-start (harden-loop-calls t) (harden-loop-at t) harden-loop.Post
-harden-loop-part-harden-side-start t c =
-    rest-begins (loop-begun t (c .before .before .before))
-
 harden-loop-harden-side-requires : (t : ℕ) → harden-loop-lts.Need-harden-side-requires (harden-loop-calls t) (harden-loop-at t) harden-loop.Post
 harden-loop-harden-side-requires t c κs =
     let start = c .before .before .before .before .before .before .before .before .before .before .before in (subst (λ m. 4 * start .args .body + 2 < m) (start .pre .0) (omega arith), (start .pre .1 .0, rest-room (loop-begun t (c .before .before .before .before))))
-
-harden-loop-both-requires : (t : ℕ) → harden-loop-lts.Need-both-requires (harden-loop-calls t) (harden-loop-at t) harden-loop.Post
-harden-loop-both-requires t c κs =
-    both-few (loop-begun t (c .before .before .before .before .before .before .before)) (c .before .before .harden-side .ensures)
 
 harden-loop-append-requires : (t : ℕ) → harden-loop-lts.Need-append-requires (harden-loop-calls t) (harden-loop-at t) harden-loop.Post
 unfolding sizeOf form fieldSize sum
@@ -542,26 +438,6 @@ harden-while-harden-loop-requires : (t : ℕ) → harden-while-lts.Need-harden-l
 harden-while-harden-loop-requires t c κs =
     let start = c .before .before .before .before .before .before .before in (subst (λ m. 4 * start .args .body + 3 < m) (start .pre .0) (omega arith), (start .pre .1 .0, room-first (while-room t (c .before)) (omega arith) (omega arith)))
 
-harden-while-add-put-flag-update : (t : ℕ) → harden-while-lts.Need-add-put-flag-update (harden-while-calls t) (harden-while-at t) harden-while.Post
-harden-while-add-put-flag-update t c =
-    rest-number (while-begun t (c .before .before .before))
-
-harden-while-sub-put-flag-update : (t : ℕ) → harden-while-lts.Need-sub-put-flag-update (harden-while-calls t) (harden-while-at t) harden-while.Post
-harden-while-sub-put-flag-update t c =
-    rest-begins (while-begun t (c .before .before .before))
-
-harden-while-part-put-flag-update-start : (t : ℕ) → harden-while-lts.Need-part-put-flag-update-start (harden-while-calls t) (harden-while-at t) harden-while.Post
-harden-while-part-put-flag-update-start t c =
-    rest-begins (while-begun t (c .before .before .before))
-
-harden-while-put-flag-update-requires : (t : ℕ) → harden-while-lts.Need-put-flag-update-requires (harden-while-calls t) (harden-while-at t) harden-while.Post
-harden-while-put-flag-update-requires t c κs =
-    (c .before .before .before .before .before .before .before .before .before .before .before .before .pre .1 .0 .0, rest-room (while-begun t (c .before .before .before .before)))
-
-harden-while-append-sequence-requires : (t : ℕ) → harden-while-lts.Need-append-sequence-requires (harden-while-calls t) (harden-while-at t) harden-while.Post
-harden-while-append-sequence-requires t c κs =
-    sequence-asks (while-begun t (c .before .before .before .before .before .before .before .before)) (c .before .before .before .put-flag-update .ensures)
-
 harden-while-returns : (t : ℕ) → harden-while-lts.Need-returns (harden-while-calls t) (harden-while-at t) harden-while.Post
 unfolding whileIn testIn writeC
 harden-while-returns t c =
@@ -586,7 +462,7 @@ pub +harden-command+harden-if+harden-loop+harden-sequence+harden-side+harden-sid
     (harden-command-harden-if-requires t)
     (λ c. search needs)
     (harden-command-harden-while-requires t)
-    (harden-command-harden-single-requires t)
+    (λ c κs. ((c .before .before .before .before .before .before .before .before .pre .1 .0, c .before .before .command-at .ensures, unnamed-single (c .before .before .command-at .result) (c .before .match .keys4)), c .before .before .before .before .before .before .before .before .pre .1 .1))
     (λ c. search needs)
     (harden-command-returns t)
     (λ c. search needs)
@@ -594,76 +470,76 @@ pub +harden-command+harden-if+harden-loop+harden-sequence+harden-side+harden-sid
     (λ c. search needs)
     (harden-command-returns-3 t)
     (λ c. search needs)
-    (harden-command-returns-4 t))
+    (λ c. c .before .before .harden-single .ensures))
     (λ t. harden-if-lts.spec (harden-if-calls t) (harden-if-at t)
     harden-if.Post
     (harden-if-mask-condition-requires t)
-    (harden-if-copy-condition-requires t)
-    (harden-if-add-harden-sides t)
-    (harden-if-sub-harden-sides t)
-    (harden-if-part-harden-sides-start t)
+    (λ c κs. (c .before .before .before .before .before .before .before .pre .1 .0 .0, room-first (if-room t (c .before)) (omega arith) (omega arith)))
+    (λ c. rest-number (if-begun t (c .before .before .before)))
+    (λ c. rest-begins (if-begun t (c .before .before .before)))
+    (λ c. rest-begins (if-begun t (c .before .before .before)))
     (λ c. search needs)
     (harden-if-harden-sides-requires t)
-    (harden-if-add-append t)
-    (harden-if-add-append-2 t)
-    (harden-if-last-requires t)
+    (λ c. if-nodes (if-test t (c .before .before .before .before .before .before .before .before .before .before .before .before)) (if-one t (c .before .before .before .before .before .before .before .before .before .before .before .before)) (if-two t (c .before .before .before .before .before .before .before .before .before .before .before .before)) (if-begun t (c .before .before .before .before .before .before .before .before .before .before)) (c .before .before .before .before .before .harden-sides .ensures))
+    (λ c. if-bytes (if-test t (c .before .before .before .before .before .before .before .before .before .before .before .before .before)) (if-one t (c .before .before .before .before .before .before .before .before .before .before .before .before .before)) (if-two t (c .before .before .before .before .before .before .before .before .before .before .before .before .before)) (if-begun t (c .before .before .before .before .before .before .before .before .before .before .before)) (c .before .before .before .before .before .before .harden-sides .ensures))
+    (λ c κs. first-last (if-begun t (c .before .before .before .before .before .before .before .before .before .before .before)))
     (harden-if-append-requires t)
     (λ c. search needs)
     (harden-if-returns t))
     (λ t. harden-loop-lts.spec (harden-loop-calls t) (harden-loop-at t)
     harden-loop.Post
     (harden-loop-copy-condition-requires t)
-    (harden-loop-add-harden-side t)
-    (harden-loop-sub-harden-side t)
-    (harden-loop-part-harden-side-start t)
+    (λ c. rest-number (loop-begun t (c .before .before .before)))
+    (λ c. rest-begins (loop-begun t (c .before .before .before)))
+    (λ c. rest-begins (loop-begun t (c .before .before .before)))
     (λ c. search needs)
     (harden-loop-harden-side-requires t)
-    (harden-loop-both-requires t)
+    (λ c κs. both-few (loop-begun t (c .before .before .before .before .before .before .before)) (c .before .before .harden-side .ensures))
     (harden-loop-append-requires t)
     (λ c. search needs)
     (harden-loop-returns t))
     (λ t. harden-sequence-lts.spec (harden-sequence-calls t) (harden-sequence-at t)
     harden-sequence.Post
     (harden-sequence-harden-command-requires t)
-    (harden-sequence-add-harden-command t)
-    (harden-sequence-sub-harden-command t)
-    (harden-sequence-part-harden-command-start t)
+    (λ c. rest-number (sequence-begun t (c .before .before .before)))
+    (λ c. rest-begins (sequence-begun t (c .before .before .before)))
+    (λ c. rest-begins (sequence-begun t (c .before .before .before)))
     (λ c. search needs)
     (harden-sequence-harden-command-requires-2 t)
-    (harden-sequence-append-sequence-requires t)
+    (λ c κs. sequence-asks (sequence-begun t (c .before .before .before .before .before .before .before .before)) (c .before .before .before .harden-command2 .ensures))
     (λ c. search needs)
     (harden-sequence-returns t))
     (λ t. harden-side-lts.spec (harden-side-calls t) (harden-side-at t)
     harden-side.Post
     (harden-side-put-flag-update-requires t)
-    (harden-side-add-harden-command t)
-    (harden-side-sub-harden-command t)
-    (harden-side-part-harden-command-start t)
+    (λ c. rest-number (side-begun t (c .before .before .before)))
+    (λ c. rest-begins (side-begun t (c .before .before .before)))
+    (λ c. rest-begins (side-begun t (c .before .before .before)))
     (λ c. search needs)
     (harden-side-harden-command-requires t)
-    (harden-side-append-sequence-requires t)
+    (λ c κs. sequence-asks (side-begun t (c .before .before .before .before .before .before .before .before)) (c .before .before .before .harden-command .ensures))
     (λ c. search needs)
     (harden-side-returns t))
     (λ t. harden-sides-lts.spec (harden-sides-calls t) (harden-sides-at t)
     harden-sides.Post
     (harden-sides-harden-side-requires t)
-    (harden-sides-add-harden-side t)
-    (harden-sides-sub-harden-side t)
-    (harden-sides-part-harden-side-start t)
+    (λ c. rest-number (sides-begun t (c .before .before .before)))
+    (λ c. rest-begins (sides-begun t (c .before .before .before)))
+    (λ c. rest-begins (sides-begun t (c .before .before .before)))
     (λ c. search needs)
     (harden-sides-harden-side-requires-2 t)
-    (harden-sides-both-requires t)
+    (λ c κs. both-few (sides-begun t (c .before .before .before .before .before .before .before)) (c .before .before .harden-side2 .ensures))
     (λ c. search needs)
-    (harden-sides-returns t))
+    (λ c. both-wrote (sides-begun t (c .before .before .before .before .before .before .before .before)) (c .before .before .before .harden-side2 .ensures) (c .both .ensures)))
     λ t. harden-while-lts.spec (harden-while-calls t) (harden-while-at t)
     harden-while.Post
     (harden-while-mask-condition-requires t)
     (harden-while-harden-loop-requires t)
-    (harden-while-add-put-flag-update t)
-    (harden-while-sub-put-flag-update t)
-    (harden-while-part-put-flag-update-start t)
+    (λ c. rest-number (while-begun t (c .before .before .before)))
+    (λ c. rest-begins (while-begun t (c .before .before .before)))
+    (λ c. rest-begins (while-begun t (c .before .before .before)))
     (λ c. search needs)
-    (harden-while-put-flag-update-requires t)
-    (harden-while-append-sequence-requires t)
+    (λ c κs. (c .before .before .before .before .before .before .before .before .before .before .before .before .pre .1 .0 .0, rest-room (while-begun t (c .before .before .before .before))))
+    (λ c κs. sequence-asks (while-begun t (c .before .before .before .before .before .before .before .before)) (c .before .before .before .put-flag-update .ensures))
     (λ c. search needs)
     (harden-while-returns t)
