@@ -2,4 +2,5 @@
 pub mod TwoParts
 pub mod CommandWrites
 pub mod CommandSizes
+pub mod PartSizes
 pub mod TableWrites

@@ -5,7 +5,7 @@ use mathlib.Core.List.{List}
 use mathlib.Core.Option.{none}
 use Rattle.awhile.specs.Language.{Com, assign, sequence}
 use Rattle.reader.specs.Index.{numericIn, truthIn}
-use Rattle.labels.specs.Labellings.{labelOfB}
+use Rattle.labels.specs.Labellings.{labelOfA, labelOfB}
 use Rattle.analysis.specs.Notes.{noteIn}
 use Rattle.masks.specs.Hardening.{Origin}
 use Rattle.masking.specs.InMemory.{hardenedIn}
@@ -21,3 +21,7 @@ sequenceIn table vs arrs f c d = sequence none (hardenedIn table vs arrs f c) (h
 -- whether a condition is secret where a command is entered
 abbrev pub secretAt : (table variableNotes arrayNotes : List ℕ) → (command condition : ℕ) → Bool
 secretAt table vs arrs n b = labelOfB (noteIn vs arrs n .labelling) (truthIn table b)
+
+-- whether an index is
+abbrev pub secretIndexAt : (table variableNotes arrayNotes : List ℕ) → (command index : ℕ) → Bool
+secretIndexAt table vs arrs n i = labelOfA (noteIn vs arrs n .labelling) (numericIn table i)
