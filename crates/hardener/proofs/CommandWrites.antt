@@ -1,6 +1,5 @@
 -- What comes out for a node of each kind of command, by the notes in memory.
-use Prim.Native.Nat.{ℕ, _+_, _*_, _<_, max}
-use native.Mathlib.Omega.{arith}
+use Prim.Native.Nat.{ℕ}
 use mathlib.Core.Bool.{Bool, true, false, _||_}
 use mathlib.Core.Bool.{not as negated}
 use mathlib.Core.List.{List}
@@ -107,10 +106,3 @@ module _ (from f x a n : ℕ) (mask : Bool) (i : AExp) {l : List ℕ} where
   unfolding harden nodesOf bytesOf
   read-room-numbered true r = r
   read-room-numbered false r = r
-
--- ---- measures
-pub below-four : (k n : ℕ) {t : ℕ} → 4 * n + 1 ≡ t → k < n → 4 * k + 4 < t
-below-four k n e h = omega arith
-
-pub pair-below-four : (j k n : ℕ) {t : ℕ} → 4 * n + 1 ≡ t → j < n → k < n → 4 * max j k + 4 < t
-pair-below-four j k n e g h = omega arith

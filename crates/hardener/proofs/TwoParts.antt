@@ -70,13 +70,13 @@ module _ {from : ℕ} {ms : List Node} {ns : ℕ → List Node} {i j k h more si
 -- a sequence over them, as `append_sequence` asks and leaves it
 module _ {from : ℕ} {ms : List Node} {ns : ℕ → List Node} {i j k h : ℕ} {l m : List ℕ} {s : Size} (p : FirstWritten from ms ns i j k h 1 8 l m s)
     {rest : List ℕ} {u : Size} (v : Wrote (ns (from + s .nodes)) (restOf (s .bytes) m) rest u) where
-  pub sequence-asks : (Few (from + s .nodes + u .nodes) (s .bytes + u .bytes) × (0 < s .nodes)) × (s .bytes + u .bytes + 8 ≤ length (withRest (s .bytes) m rest))
-  sequence-asks = (both-few p v, parent-room p v (both-of from s u) (omega arith) .0)
+  pub joined-asks : (Few (from + s .nodes + u .nodes) (s .bytes + u .bytes) × (0 < s .nodes)) × (s .bytes + u .bytes + 8 ≤ length (withRest (s .bytes) m rest))
+  joined-asks = (both-few p v, parent-room p v (both-of from s u) (omega arith) .0)
 
-  pub sequence-wrote : {x : List ℕ} {r : Size}
+  pub joined-wrote : {x : List ℕ} {r : Size}
       → Appended (s .nodes + u .nodes) (s .bytes + u .bytes) (Sequence (pairOf from s u .left) (pairOf from s u .right)) (withRest (s .bytes) m rest) x r
       → Wrote (ms ++ (ns (from + i) ++ (binary Sequence from i k ∷ []))) l x r
-  sequence-wrote parent = parent-wrote p v (both-of from s u) Sequence parent
+  joined-wrote parent = parent-wrote p v (both-of from s u) Sequence parent
 
 -- ---- the parts that commands have
 -- two commands
@@ -119,26 +119,26 @@ module _ {from more size : ℕ} {l m : List ℕ} {s : Size} where
 -- an if over a condition and two sides that came as a pair
 module _ (b : BExp) (c d : Com Origin) {from : ℕ} {l m : List ℕ} {s : Size} (p : TestWritten from b c d 1 10 l m s) {rest : List ℕ} {q : Pair}
     (v : WroteTwo (from + s .nodes) (writeC (from + s .nodes) c) (writeC (from + s .nodes + nodesOf c) d) (restOf (s .bytes) m) rest q) where
-  if-sized : Sized (nodesOfB b + (nodesOf c + nodesOf d)) (bytesOfB b + (bytesOf c + bytesOf d)) (sizeIs (s .nodes + q .nodes) (s .bytes + q .bytes))
-  if-sized =
+  sides-sized : Sized (nodesOfB b + (nodesOf c + nodesOf d)) (bytesOfB b + (bytesOf c + bytesOf d)) (sizeIs (s .nodes + q .nodes) (s .bytes + q .bytes))
+  sides-sized =
       three-sized from (λ n. writeC n c) (λ n. writeC (n + nodesOf c) d) (p .wrote) (p .first) v (λ n. counted-C n c) (λ n. counted-C (n + nodesOf c) d)
 
   -- its parts' sizes can be added
-  pub if-nodes : Fits w64 (s .nodes + q .nodes)
-  if-nodes = omega (arith, p .room .numbers, if-sized .nodesCounted)
+  pub sides-nodes : Fits w64 (s .nodes + q .nodes)
+  sides-nodes = omega (arith, p .room .numbers, sides-sized .nodesCounted)
 
-  pub if-bytes : Fits w64 (s .bytes + q .bytes)
-  if-bytes = omega (arith, p .room .numbers, if-sized .bytesCounted, p .firstShort .short, p .secondShort .short)
+  pub sides-bytes : Fits w64 (s .bytes + q .bytes)
+  sides-bytes = omega (arith, p .room .numbers, sides-sized .bytesCounted, p .firstShort .short, p .secondShort .short)
 
   -- it has room, and is written behind them
-  pub if-asks : (s .bytes + q .bytes + 10 ≤ length (withRest (s .bytes) m rest)) × (s .nodes + q .nodes < 2 ^ 32)
-  if-asks =
+  pub sides-asks : (s .bytes + q .bytes + 10 ≤ length (withRest (s .bytes) m rest)) × (s .nodes + q .nodes < 2 ^ 32)
+  sides-asks =
       three-room from (λ n. writeC n c) (λ n. writeC (n + nodesOf c) d) (p .wrote) (p .first) v (λ n. counted-C n c) (λ n. counted-C (n + nodesOf c) d) 10 (p .room)
       (omega arith) (omega arith)
 
-  pub if-wrote : {e : ℕ} → e ≡ from + s .nodes - 1 → {x : List ℕ} {r : Size}
+  pub sides-wrote : {e : ℕ} → e ≡ from + s .nodes - 1 → {x : List ℕ} {r : Size}
       → Appended (s .nodes + q .nodes) (s .bytes + q .bytes) (If e (q .left) (q .right)) (withRest (s .bytes) m rest) x r → (o : Origin) → Wrote (writeC from (if o b c d)) l x r
   unfolding writeC
-  if-wrote e parent o =
+  sides-wrote e parent o =
       three-parent from (λ n. writeC n c) (λ n. writeC (n + nodesOf c) d) (p .wrote) (p .first) v (λ n. counted-C n c) (λ n. counted-C (n + nodesOf c) d) If e
       (omega (arith, p .room .fits)) parent

@@ -1,20 +1,18 @@
 -- Hardened commands: each function writes what its parts harden to behind each other, whose numbers are lower, and the node behind them.
 use mathlib.Core.Bool.{Bool, true, false}
-use mathlib.Core.List.{_++_}
 use mathlib.Core.Option.{none}
-use mathlib.Core.Path.{_≡_, refl, sym, ap, subst, _∙_}
+use mathlib.Core.Path.{_≡_, sym, ap, subst}
 use native.Mathlib.Omega.{arith}
 use denote.Ref.{now}
 use Rattle.bytes_le.proofs.Numbers.{Below, slice-bytes}
 use Rattle.awhile.specs.Lists.{sum}
 use Rattle.awhile.specs.Nodes.{sizeOf, form, fieldSize}
 use Rattle.awhile.specs.Encoding.{nodesOfB, nodesOf, writeC}
-use Rattle.awhile.specs.Language.{BExp, Com}
+use Rattle.awhile.specs.Language.{BExp, Com, noteOf}
 use Rattle.awhile.specs.declared.Node.{Node}
-use Rattle.awhile.specs.declared.Node.the-variants.{Sequence, If, While}
-use Rattle.reader.specs.Index.{truthIn}
+use Rattle.awhile.specs.declared.Node.the-variants.{While}
+use Rattle.reader.specs.Index.{truthIn, commandIn}
 use Rattle.reader.proofs.Index.{Parts, indexed-note}
-use Rattle.analysis.proofs.ExpressionLabels.{child-of-sort}
 use Rattle.analysis.proofs.Nodes.{node-parts}
 use Rattle.analysis.proofs.CommandCases.{unnamed-single}
 use Rattle.masks.specs.Hardening.{Origin, maskedCondition}
@@ -25,9 +23,9 @@ use Rattle.copier.specs.Written.{Room}
 use Rattle.copier.proofs.Writers.{room-first}
 use Rattle.hardener.specs.Forms.{sequenceIn, secretAt}
 use Rattle.hardener.proofs.TwoParts.{CommandWritten, ConditionWritten, TestWritten, command-written, condition-written, test-written}
-use Rattle.hardener.proofs.TwoParts.{rest-number, rest-begins, rest-room, first-last, both-few, parent-room, parent-wrote, both-wrote, sequence-asks, sequence-wrote}
-use Rattle.hardener.proofs.TwoParts.{if-nodes, if-bytes, if-asks, if-wrote}
-use Rattle.hardener.proofs.CommandWrites.{in-sequence, in-if, in-while, child-hardenable, below-four, pair-below-four}
+use Rattle.hardener.proofs.TwoParts.{rest-number, rest-begins, rest-room, first-last, both-few, parent-room, parent-wrote, both-wrote, joined-asks, joined-wrote}
+use Rattle.hardener.proofs.TwoParts.{sides-nodes, sides-bytes, sides-asks, sides-wrote}
+use Rattle.hardener.proofs.PartWrites.{sequence-asks, sequence-whole, if-asks, if-whole, while-asks, while-whole}
 use Prim.Native.Nat.{ℕ, _+_, _*_, _<_, max}
 use borrow.Author.Needs.{needs}
 use borrow.Fn.Kinds.{In}
@@ -164,86 +162,41 @@ module _ (t : ℕ) (d : harden-command-lts.After-command-at (harden-command-call
   command-parts : (m : Node) → d .command-at .result ≡ m → Parts (now (command-start .args .table)) (command-start .args .n) m
   command-parts = node-parts command-bytes (command-start .pre .1 .0 .node .indexed) (command-start .pre .1 .0 .node .inside) (d .command-at .ensures)
 
-harden-command-command-at-requires : (t : ℕ) → harden-command-lts.Need-command-at-requires (harden-command-calls t) (harden-command-at t) harden-command.Post
-harden-command-command-at-requires t c κs =
-    let node = c .before .before .before .before .before .pre .1 .0 .node in (node .indexed, node .inside, node .isSort)
+  -- a loop's body is noted with its own number
+  body-noted : (b c : ℕ) → d .command-at .result ≡ While b c → noteOf (commandIn (now (command-start .args .table)) c) ≡ c
+  body-noted b c e =
+      let p = command-parts (While b c) e in
+      indexed-note (now (command-start .args .table)) (now (command-start .args .index)) command-bytes (command-start .pre .1 .0 .node .indexed) c (p .1 .inside) (p .1 .isSort)
 
 harden-command-harden-sequence-requires : (t : ℕ) → harden-command-lts.Need-harden-sequence-requires (harden-command-calls t) (harden-command-at t) harden-command.Post
-unfolding sequenceIn nodesOf bytesOf
 harden-command-harden-sequence-requires t c κs =
     let start = c .before .before .before .before .before .before .before .before .before .before in
-    let table = now (start .args .table) in
-    let vs = now (start .args .variables) in
-    let arrs = now (start .args .arrays) in
-    let given = c .before .before .node .given in
-    let p = command-parts t (c .before .before .before .before) _ (given .1) in
-    let is = in-sequence table vs arrs (start .args .flag) (start .args .n) (given .0 .0) (given .0 .1 .0) (p .2) in (
-      pair-below-four _ _ _ (start .pre .0) (p .0 .below) (p .1 .below),
-      ((child-hardenable (start .pre .1 .0) (p .0), child-hardenable (start .pre .1 .0) (p .1)), room-C is (start .pre .1 .1)),
-    )
+    sequence-asks (start .args .flag) (start .args .from) (start .pre .1 .0) (start .pre .1 .1) (start .pre .0) _ _ (command-parts t (c .before .before .before .before) _ (c .before .before .node .given .1))
 
 harden-command-returns : (t : ℕ) → harden-command-lts.Need-returns (harden-command-calls t) (harden-command-at t) harden-command.Post
-unfolding sequenceIn nodesOf writeC
 harden-command-returns t c =
     let start = c .before .before .before .before .before .before .before .before .before .before .before .before .before in
-    let table = now (start .args .table) in
-    let vs = now (start .args .variables) in
-    let arrs = now (start .args .arrays) in
-    let given = c .before .before .before .before .before .node .given in
-    let p = command-parts t (c .before .before .before .before .before .before .before) _ (given .1) in
-    let is = in-sequence table vs arrs (start .args .flag) (start .args .n) (given .0 .0) (given .0 .1 .0) (p .2) in wrote-C (start .args .from) is (c .before .before .harden-sequence .ensures)
+    sequence-whole (start .args .flag) (start .args .from) (start .pre .1 .0) (start .pre .1 .1) _ _ (command-parts t (c .before .before .before .before .before .before .before) _ (c .before .before .before .before .before .node .given .1)) (c .before .before .harden-sequence .ensures)
 
 harden-command-harden-if-requires : (t : ℕ) → harden-command-lts.Need-harden-if-requires (harden-command-calls t) (harden-command-at t) harden-command.Post
-unfolding ifIn nodesOf bytesOf
 harden-command-harden-if-requires t c κs =
     let start = c .before .before .before .before .before .before .before .before .before .before in
-    let table = now (start .args .table) in
-    let vs = now (start .args .variables) in
-    let arrs = now (start .args .arrays) in
-    let given = c .before .before .node2 .given in
-    let p = command-parts t (c .before .before .before .before) _ (given .1) in
-    let is = in-if table vs arrs (start .args .flag) (start .args .n) (given .0 .0) (given .0 .1 .0) (given .0 .1 .1 .0) (p .3) refl in (
-      pair-below-four _ _ _ (start .pre .0) (p .1 .below) (p .2 .below),
-      ((child-of-sort (start .pre .1 .0 .node .indexed) (p .0), start .pre .1 .0 .node .inside, child-hardenable (start .pre .1 .0) (p .1), child-hardenable (start .pre .1 .0) (p .2)), room-C is (start .pre .1 .1)),
-    )
+    if-asks (start .args .flag) (start .args .from) (start .pre .1 .0) (start .pre .1 .1) (start .pre .0) _ _ _ (command-parts t (c .before .before .before .before) _ (c .before .before .node2 .given .1))
 
 harden-command-returns-2 : (t : ℕ) → harden-command-lts.Need-returns-2 (harden-command-calls t) (harden-command-at t) harden-command.Post
-unfolding ifIn nodesOf writeC
 harden-command-returns-2 t c =
     let start = c .before .before .before .before .before .before .before .before .before .before .before .before .before in
-    let table = now (start .args .table) in
-    let vs = now (start .args .variables) in
-    let arrs = now (start .args .arrays) in
-    let given = c .before .before .before .before .before .node2 .given in
-    let p = command-parts t (c .before .before .before .before .before .before .before) _ (given .1) in
-    let is = in-if table vs arrs (start .args .flag) (start .args .n) (given .0 .0) (given .0 .1 .0) (given .0 .1 .1 .0) (p .3) refl in wrote-C (start .args .from) is (c .before .before .harden-if .ensures)
+    if-whole (start .args .flag) (start .args .from) (start .pre .1 .0) (start .pre .1 .1) _ _ _ (command-parts t (c .before .before .before .before .before .before .before) _ (c .before .before .before .before .before .node2 .given .1)) (c .before .before .harden-if .ensures)
 
 harden-command-harden-while-requires : (t : ℕ) → harden-command-lts.Need-harden-while-requires (harden-command-calls t) (harden-command-at t) harden-command.Post
-unfolding whileIn loopIn nodesOf bytesOf
 harden-command-harden-while-requires t c κs =
     let start = c .before .before .before .before .before .before .before .before .before .before in
-    let table = now (start .args .table) in
-    let vs = now (start .args .variables) in
-    let arrs = now (start .args .arrays) in
-    let given = c .before .before .node3 .given in
-    let p = command-parts t (c .before .before .before .before) _ (given .1) in
-    let entry = indexed-note table (now (start .args .index)) (command-bytes t (c .before .before .before .before)) (start .pre .1 .0 .node .indexed) (given .0 .1 .0) (p .1 .inside) (p .1 .isSort) in
-    let is = in-while table vs arrs (start .args .flag) (start .args .n) (given .0 .0) (given .0 .1 .0) (p .2) entry refl in (
-      below-four _ _ (start .pre .0) (p .1 .below),
-      ((child-of-sort (start .pre .1 .0 .node .indexed) (p .0), child-hardenable (start .pre .1 .0) (p .1)), room-C is (start .pre .1 .1)),
-    )
+    while-asks (start .args .flag) (start .args .from) (start .pre .1 .0) (start .pre .1 .1) (start .pre .0) _ _ (command-parts t (c .before .before .before .before) _ (c .before .before .node3 .given .1)) (body-noted t (c .before .before .before .before) _ _ (c .before .before .node3 .given .1))
 
 harden-command-returns-3 : (t : ℕ) → harden-command-lts.Need-returns-3 (harden-command-calls t) (harden-command-at t) harden-command.Post
-unfolding whileIn loopIn nodesOf writeC
 harden-command-returns-3 t c =
     let start = c .before .before .before .before .before .before .before .before .before .before .before .before .before in
-    let table = now (start .args .table) in
-    let vs = now (start .args .variables) in
-    let arrs = now (start .args .arrays) in
-    let given = c .before .before .before .before .before .node3 .given in
-    let p = command-parts t (c .before .before .before .before .before .before .before) _ (given .1) in
-    let entry = indexed-note table (now (start .args .index)) (command-bytes t (c .before .before .before .before .before .before .before)) (start .pre .1 .0 .node .indexed) (given .0 .1 .0) (p .1 .inside) (p .1 .isSort) in
-    let is = in-while table vs arrs (start .args .flag) (start .args .n) (given .0 .0) (given .0 .1 .0) (p .2) entry refl in wrote-C (start .args .from) is (c .before .before .harden-while .ensures)
+    while-whole (start .args .flag) (start .args .from) (start .pre .1 .0) (start .pre .1 .1) _ _ (command-parts t (c .before .before .before .before .before .before .before) _ (c .before .before .before .before .before .node3 .given .1)) (body-noted t (c .before .before .before .before .before .before .before) _ _ (c .before .before .before .before .before .node3 .given .1)) (c .before .before .harden-while .ensures)
 
 -- ---- two commands, one behind the other
 harden-sequence-harden-command-requires : (t : ℕ) → harden-sequence-lts.Need-harden-command-requires (harden-sequence-calls t) (harden-sequence-at t) harden-sequence.Post
@@ -272,7 +225,7 @@ harden-sequence-harden-command-requires-2 t c κs =
 harden-sequence-returns : (t : ℕ) → harden-sequence-lts.Need-returns (harden-sequence-calls t) (harden-sequence-at t) harden-sequence.Post
 unfolding sequenceIn writeC
 harden-sequence-returns t c =
-    sequence-wrote (sequence-begun t (c .before .before .before .before .before .before .before .before .before .before .before)) (c .before .before .before .before .before .before .harden-command2 .ensures) (c .before .before .append-sequence .ensures)
+    joined-wrote (sequence-begun t (c .before .before .before .before .before .before .before .before .before .before .before)) (c .before .before .before .before .before .before .harden-command2 .ensures) (c .before .before .append-sequence .ensures)
 
 -- ---- a side: the flag's update and a command
 harden-side-put-flag-update-requires : (t : ℕ) → harden-side-lts.Need-put-flag-update-requires (harden-side-calls t) (harden-side-at t) harden-side.Post
@@ -301,7 +254,7 @@ harden-side-harden-command-requires t c κs =
 harden-side-returns : (t : ℕ) → harden-side-lts.Need-returns (harden-side-calls t) (harden-side-at t) harden-side.Post
 unfolding sideIn testIn writeC
 harden-side-returns t c =
-    sequence-wrote (side-begun t (c .before .before .before .before .before .before .before .before .before .before .before)) (c .before .before .before .before .before .before .harden-command .ensures) (c .before .before .append-sequence .ensures)
+    joined-wrote (side-begun t (c .before .before .before .before .before .before .before .before .before .before .before)) (c .before .before .before .before .before .before .harden-command .ensures) (c .before .before .append-sequence .ensures)
 
 -- ---- both sides
 harden-sides-harden-side-requires : (t : ℕ) → harden-sides-lts.Need-harden-side-requires (harden-sides-calls t) (harden-sides-at t) harden-sides.Post
@@ -364,12 +317,12 @@ harden-if-harden-sides-requires t c κs =
 harden-if-append-requires : (t : ℕ) → harden-if-lts.Need-append-requires (harden-if-calls t) (harden-if-at t) harden-if.Post
 unfolding sizeOf form fieldSize sum
 harden-if-append-requires t c κs =
-    if-asks (if-test t (c .before .before .before .before .before .before .before .before .before .before .before .before .before .before)) (if-one t (c .before .before .before .before .before .before .before .before .before .before .before .before .before .before)) (if-two t (c .before .before .before .before .before .before .before .before .before .before .before .before .before .before)) (if-begun t (c .before .before .before .before .before .before .before .before .before .before .before .before)) (c .before .before .before .before .before .before .before .harden-sides .ensures)
+    sides-asks (if-test t (c .before .before .before .before .before .before .before .before .before .before .before .before .before .before)) (if-one t (c .before .before .before .before .before .before .before .before .before .before .before .before .before .before)) (if-two t (c .before .before .before .before .before .before .before .before .before .before .before .before .before .before)) (if-begun t (c .before .before .before .before .before .before .before .before .before .before .before .before)) (c .before .before .before .before .before .before .before .harden-sides .ensures)
 
 harden-if-returns : (t : ℕ) → harden-if-lts.Need-returns (harden-if-calls t) (harden-if-at t) harden-if.Post
 unfolding ifIn testIn
 harden-if-returns t c =
-    wrote-C (c .before .before .before .before .before .before .before .before .before .before .before .before .before .before .before .before .before .before .before .before .before .before .before .args .from) (if-is t (c .before .before .before .before .before .before .before .before .before .before .before .before .before .before .before .before .before)) (if-wrote (if-test t (c .before .before .before .before .before .before .before .before .before .before .before .before .before .before .before .before .before)) (if-one t (c .before .before .before .before .before .before .before .before .before .before .before .before .before .before .before .before .before)) (if-two t (c .before .before .before .before .before .before .before .before .before .before .before .before .before .before .before .before .before)) (if-begun t (c .before .before .before .before .before .before .before .before .before .before .before .before .before .before .before)) (c .before .before .before .before .before .before .before .before .before .before .harden-sides .ensures) (c .before .before .before .last .ensures) (c .before .before .append .ensures) none)
+    wrote-C (c .before .before .before .before .before .before .before .before .before .before .before .before .before .before .before .before .before .before .before .before .before .before .before .args .from) (if-is t (c .before .before .before .before .before .before .before .before .before .before .before .before .before .before .before .before .before)) (sides-wrote (if-test t (c .before .before .before .before .before .before .before .before .before .before .before .before .before .before .before .before .before)) (if-one t (c .before .before .before .before .before .before .before .before .before .before .before .before .before .before .before .before .before)) (if-two t (c .before .before .before .before .before .before .before .before .before .before .before .before .before .before .before .before .before)) (if-begun t (c .before .before .before .before .before .before .before .before .before .before .before .before .before .before .before)) (c .before .before .before .before .before .before .before .before .before .before .harden-sides .ensures) (c .before .before .before .last .ensures) (c .before .before .append .ensures) none)
 
 -- ---- a loop: its condition and its body
 harden-loop-copy-condition-requires : (t : ℕ) → harden-loop-lts.Need-copy-condition-requires (harden-loop-calls t) (harden-loop-at t) harden-loop.Post
@@ -441,7 +394,7 @@ harden-while-harden-loop-requires t c κs =
 harden-while-returns : (t : ℕ) → harden-while-lts.Need-returns (harden-while-calls t) (harden-while-at t) harden-while.Post
 unfolding whileIn testIn writeC
 harden-while-returns t c =
-    wrote-C (c .before .before .before .before .before .before .before .before .before .before .before .before .before .before .before .before .before .before .before .args .from) (while-is t (c .before .before .before .before .before .before .before .before .before .before .before .before .before)) (sequence-wrote (while-begun t (c .before .before .before .before .before .before .before .before .before .before .before)) (c .before .before .before .before .before .before .put-flag-update .ensures) (c .before .before .append-sequence .ensures))
+    wrote-C (c .before .before .before .before .before .before .before .before .before .before .before .before .before .before .before .before .before .before .before .args .from) (while-is t (c .before .before .before .before .before .before .before .before .before .before .before .before .before)) (joined-wrote (while-begun t (c .before .before .before .before .before .before .before .before .before .before .before)) (c .before .before .before .before .before .before .put-flag-update .ensures) (c .before .before .append-sequence .ensures))
 
 pub +harden-command+harden-if+harden-loop+harden-sequence+harden-side+harden-sides+harden-while-spec : {M : Type 1} → statement M
 +harden-command+harden-if+harden-loop+harden-sequence+harden-side+harden-sides+harden-while-spec =
@@ -455,7 +408,7 @@ pub +harden-command+harden-if+harden-loop+harden-sequence+harden-side+harden-sid
     μ-harden-while
     (λ t. harden-command-lts.spec (harden-command-calls t) (harden-command-at t)
     harden-command.Post
-    (harden-command-command-at-requires t)
+    (λ c κs. (c .before .before .before .before .before .pre .1 .0 .node .indexed, c .before .before .before .before .before .pre .1 .0 .node .inside, c .before .before .before .before .before .pre .1 .0 .node .isSort))
     (λ c. search needs)
     (harden-command-harden-sequence-requires t)
     (λ c. search needs)
@@ -480,8 +433,8 @@ pub +harden-command+harden-if+harden-loop+harden-sequence+harden-side+harden-sid
     (λ c. rest-begins (if-begun t (c .before .before .before)))
     (λ c. search needs)
     (harden-if-harden-sides-requires t)
-    (λ c. if-nodes (if-test t (c .before .before .before .before .before .before .before .before .before .before .before .before)) (if-one t (c .before .before .before .before .before .before .before .before .before .before .before .before)) (if-two t (c .before .before .before .before .before .before .before .before .before .before .before .before)) (if-begun t (c .before .before .before .before .before .before .before .before .before .before)) (c .before .before .before .before .before .harden-sides .ensures))
-    (λ c. if-bytes (if-test t (c .before .before .before .before .before .before .before .before .before .before .before .before .before)) (if-one t (c .before .before .before .before .before .before .before .before .before .before .before .before .before)) (if-two t (c .before .before .before .before .before .before .before .before .before .before .before .before .before)) (if-begun t (c .before .before .before .before .before .before .before .before .before .before .before)) (c .before .before .before .before .before .before .harden-sides .ensures))
+    (λ c. sides-nodes (if-test t (c .before .before .before .before .before .before .before .before .before .before .before .before)) (if-one t (c .before .before .before .before .before .before .before .before .before .before .before .before)) (if-two t (c .before .before .before .before .before .before .before .before .before .before .before .before)) (if-begun t (c .before .before .before .before .before .before .before .before .before .before)) (c .before .before .before .before .before .harden-sides .ensures))
+    (λ c. sides-bytes (if-test t (c .before .before .before .before .before .before .before .before .before .before .before .before .before)) (if-one t (c .before .before .before .before .before .before .before .before .before .before .before .before .before)) (if-two t (c .before .before .before .before .before .before .before .before .before .before .before .before .before)) (if-begun t (c .before .before .before .before .before .before .before .before .before .before .before)) (c .before .before .before .before .before .before .harden-sides .ensures))
     (λ c κs. first-last (if-begun t (c .before .before .before .before .before .before .before .before .before .before .before)))
     (harden-if-append-requires t)
     (λ c. search needs)
@@ -506,7 +459,7 @@ pub +harden-command+harden-if+harden-loop+harden-sequence+harden-side+harden-sid
     (λ c. rest-begins (sequence-begun t (c .before .before .before)))
     (λ c. search needs)
     (harden-sequence-harden-command-requires-2 t)
-    (λ c κs. sequence-asks (sequence-begun t (c .before .before .before .before .before .before .before .before)) (c .before .before .before .harden-command2 .ensures))
+    (λ c κs. joined-asks (sequence-begun t (c .before .before .before .before .before .before .before .before)) (c .before .before .before .harden-command2 .ensures))
     (λ c. search needs)
     (harden-sequence-returns t))
     (λ t. harden-side-lts.spec (harden-side-calls t) (harden-side-at t)
@@ -517,7 +470,7 @@ pub +harden-command+harden-if+harden-loop+harden-sequence+harden-side+harden-sid
     (λ c. rest-begins (side-begun t (c .before .before .before)))
     (λ c. search needs)
     (harden-side-harden-command-requires t)
-    (λ c κs. sequence-asks (side-begun t (c .before .before .before .before .before .before .before .before)) (c .before .before .before .harden-command .ensures))
+    (λ c κs. joined-asks (side-begun t (c .before .before .before .before .before .before .before .before)) (c .before .before .before .harden-command .ensures))
     (λ c. search needs)
     (harden-side-returns t))
     (λ t. harden-sides-lts.spec (harden-sides-calls t) (harden-sides-at t)
@@ -540,6 +493,6 @@ pub +harden-command+harden-if+harden-loop+harden-sequence+harden-side+harden-sid
     (λ c. rest-begins (while-begun t (c .before .before .before)))
     (λ c. search needs)
     (λ c κs. (c .before .before .before .before .before .before .before .before .before .before .before .before .pre .1 .0 .0, rest-room (while-begun t (c .before .before .before .before))))
-    (λ c κs. sequence-asks (while-begun t (c .before .before .before .before .before .before .before .before)) (c .before .before .before .put-flag-update .ensures))
+    (λ c κs. joined-asks (while-begun t (c .before .before .before .before .before .before .before .before)) (c .before .before .before .put-flag-update .ensures))
     (λ c. search needs)
     (harden-while-returns t)
