@@ -29,11 +29,11 @@ use Rattle.analysis.proofs.CommandNotes.{second-ready, pair-analysed, p
 use Rattle.analysis.proofs.ExpressionLabels.{child-of-sort}
 use Rattle.analysis.proofs.Nodes.{command-kinds}
 
--- the kinds of nodes that `analyse` does not name
+-- the kinds of nodes that a function over commands with parts does not name
 abbrev pub unnamedCommand : List ℕ
 unnamedCommand = 0 ∷ 1 ∷ 2 ∷ 3 ∷ 4 ∷ 5 ∷ 6 ∷ 7 ∷ 8 ∷ 9 ∷ 10 ∷ 11 ∷ 12 ∷ 16 ∷ 17 ∷ []
 
--- the kinds of nodes that `after_single` does not name
+-- the kinds of nodes that a function over commands without parts does not name
 abbrev pub unnamedSingle : List ℕ
 unnamedSingle = 0 ∷ 1 ∷ 2 ∷ 3 ∷ 4 ∷ 5 ∷ 6 ∷ 7 ∷ 8 ∷ 9 ∷ 10 ∷ 11 ∷ 13 ∷ 14 ∷ 15 ∷ []
 
@@ -58,7 +58,7 @@ entry-noted {vs = vs} {arrs = arrs} {n = n} {x = x} {l = l} pre small e =
     let inside = pre .node .inside in
     note-stored n x l vs arrs (omega (arith, pre .room .variables)) (omega (arith, pre .room .arrays)) small e
 
--- a command that `after_single` does not name is a skip
+-- a command without parts that is not named is a skip
 pub unnamed-skip : (m : Node) → sortOf m ≡ Command → OneOf unnamedSingle (tagOf the-type m) → Single m → m ≡ Skip
 unnamed-skip =
     command-kinds (λ m. OneOf unnamedSingle (tagOf the-type m) → Single m → m ≡ Skip)

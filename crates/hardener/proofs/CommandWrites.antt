@@ -4,31 +4,21 @@ use mathlib.Core.Bool.{Bool, true, false, _||_}
 use mathlib.Core.Bool.{not as negated}
 use mathlib.Core.List.{List}
 use mathlib.Core.Option.{some}
-use mathlib.Core.Path.{_≡_, refl, sym, ap, _∙_}
-use Rattle.awhile.specs.Language.{AExp, BExp, Com, skip, assign, sequence, if, while, read, write, noteOf, mapNotes}
+use mathlib.Core.Path.{_≡_, sym, ap, _∙_}
+use Rattle.awhile.specs.Language.{AExp, skip, assign, sequence, if, while, read, write, noteOf, mapNotes}
 use Rattle.awhile.specs.Encoding.{nodesOf, writeC}
 use Rattle.reader.specs.Index.{truthIn, commandIn}
 use Rattle.reader.proofs.Index.{Child}
-use denote.Enum.Declared.{tagOf}
-use types.Run.{OneOf, miss}
-use Rattle.awhile.specs.Nodes.{sortOf}
-use Rattle.awhile.proofs.Node.{the-type}
-use Rattle.awhile.specs.declared.Node.{Node}
-use Rattle.awhile.specs.declared.Node.the-variants.{Skip}
-use Rattle.analysis.specs.Conditions.{Single}
-use Rattle.analysis.proofs.Nodes.{command-kinds}
-use Rattle.analysis.proofs.CommandCases.{unnamedSingle}
 use Rattle.awhile.specs.declared.Sort.{Sort}
 use Rattle.awhile.specs.declared.Sort.the-variants.{Command}
 use Rattle.analysis.proofs.ExpressionLabels.{child-of-sort}
 use Rattle.labels.specs.Analysis.{readLabel}
-use Rattle.labels.specs.Annotation.{Entry}
 use Rattle.labels.specs.Labellings.{labelOfA, labelOfB}
 use Rattle.analysis.specs.Notes.{noteIn}
 use Rattle.labels.specs.Sheet.{entryOf}
 use Rattle.awhile.proofs.Notes.{note-mapped}
 use Rattle.masks.specs.Decisions.{decision, decide}
-use Rattle.masks.specs.Hardening.{Origin, maskedCondition, maskedIndex, harden}
+use Rattle.masks.specs.Hardening.{harden}
 use Rattle.masking.specs.InMemory.{annotatedIn, hardenedIn, flagUpdate, testIn, sideIn, ifIn, loopIn, whileIn, Hardenable, NotedAt}
 use Rattle.copier.specs.Sizes.{bytesOf}
 use Rattle.copier.specs.Written.{Room, Wrote}
@@ -79,18 +69,6 @@ child-hardenable pre c = record { node = child-of-sort (pre .node .indexed) c; r
 -- an expression that is a part of it may be looked up with its notes
 pub child-noted : {table index vs arrs : List ℕ} {sort : Sort} {n k : ℕ} → Hardenable table index vs arrs n → Child table sort n k → NotedAt table index vs arrs sort k n
 child-noted pre c = record { node = child-of-sort (pre .node .indexed) c; room = pre .room; inside = pre .node .inside }
-
--- a command that `harden_single` does not name is a skip
-pub unnamed-skip : (m : Node) → sortOf m ≡ Command → OneOf unnamedSingle (tagOf the-type m) → Single m → m ≡ Skip
-unnamed-skip =
-    command-kinds (λ m. OneOf unnamedSingle (tagOf the-type m) → Single m → m ≡ Skip)
-    (λ o s. refl)
-    (λ v e o s. absurd (miss unnamedSingle 12 tt o))
-    (λ c d o s. absurd (s .noSequence c d refl))
-    (λ b c d o s. absurd (s .noIf b c d refl))
-    (λ b c o s. absurd (s .noWhile b c refl))
-    (λ v a i o s. absurd (miss unnamedSingle 16 tt o))
-    (λ a i e o s. absurd (miss unnamedSingle 17 tt o))
 
 -- the number that a read is noted with does not show
 module _ (from f x a n : ℕ) (mask : Bool) (i : AExp) {l : List ℕ} where

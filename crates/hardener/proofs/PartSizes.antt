@@ -6,7 +6,7 @@ use mathlib.Core.Bool.{not as negated}
 use mathlib.Core.List.{List}
 use mathlib.Core.Option.{some}
 use mathlib.Core.Path.{_≡_, refl, subst}
-use Rattle.awhile.specs.Language.{AExp, BExp, Com, noteOf}
+use Rattle.awhile.specs.Language.{Com, noteOf}
 use Rattle.awhile.specs.Encoding.{nodesOfA, nodesOfB, nodesOf}
 use Rattle.awhile.specs.Tables.{maxNodes}
 use Rattle.awhile.specs.declared.Node.the-variants.{Skip, Assign, Sequence, If, While, Read, Write}
@@ -14,7 +14,6 @@ use Rattle.awhile.specs.declared.Sort.the-variants.{Numeric, Truth, Command}
 use Rattle.reader.specs.Index.{numericIn, commandIn}
 use Rattle.reader.proofs.Index.{Child, Parts}
 use Rattle.labels.specs.Analysis.{readLabel}
-use Rattle.labels.specs.Labellings.{labelOfA}
 use Rattle.analysis.specs.Conditions.{OfSort}
 use Rattle.analysis.specs.Notes.{noteIn}
 use Rattle.analysis.proofs.ExpressionLabels.{child-of-sort}

@@ -9,9 +9,9 @@ use Rattle.awhile.specs.declared.Node.{Node}
 use Rattle.awhile.specs.declared.Node.the-variants.{Skip}
 use Rattle.awhile.proofs.Node.{the-type}
 use Rattle.reader.proofs.Index.{Parts}
-use Rattle.analysis.proofs.CommandCases.{unnamedSingle}
+use Rattle.analysis.proofs.CommandCases.{unnamedSingle, unnamed-skip}
 use Rattle.analysis.proofs.Nodes.{node-parts}
-use Rattle.hardener.proofs.CommandWrites.{child-noted, unnamed-skip}
+use Rattle.hardener.proofs.CommandWrites.{child-noted}
 use Rattle.hardener.proofs.PartWrites.{skip-asks, skip-wrote, assign-asks, assign-wrote, read-asks, read-wrote, write-asks, write-wrote}
 use borrow.Author.Needs.{needs}
 use Rattle.hardener.proofs.commands.harden_single.Statement.{statement}

@@ -6,7 +6,8 @@ use Rattle.awhile.specs.Nodes.{sortOf}
 use Rattle.awhile.specs.declared.Node.{Node}
 use Rattle.reader.proofs.Index.{Parts}
 use Rattle.analysis.proofs.Nodes.{node-parts}
-use Rattle.hardener.proofs.CommandWrites.{child-noted, unnamed-skip}
+use Rattle.analysis.proofs.CommandCases.{unnamed-skip}
+use Rattle.hardener.proofs.CommandWrites.{child-noted}
 use Rattle.hardener.proofs.PartSizes.{skip-sized, assign-value, assign-asks, assign-sized, read-place, read-asks, read-sized}
 use Rattle.hardener.proofs.PartSizes.{write-place, write-value, write-asks, write-sized}
 use borrow.Author.Needs.{needs}
