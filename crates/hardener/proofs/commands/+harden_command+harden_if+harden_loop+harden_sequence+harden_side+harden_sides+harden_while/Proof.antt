@@ -202,7 +202,8 @@ harden-command-returns-3 t c =
 harden-sequence-harden-command-requires : (t : ℕ) → harden-sequence-lts.Need-harden-command-requires (harden-sequence-calls t) (harden-sequence-at t) harden-sequence.Post
 unfolding sequenceIn nodesOf bytesOf
 harden-sequence-harden-command-requires t c κs =
-    let start = c .before .before .before .before .before .before in (subst (λ m. 4 * start .args .first + 1 < m) (start .pre .0) (omega arith), (start .pre .1 .0 .0, room-first (start .pre .1 .1) (omega arith) (omega arith)))
+    let start = c .before .before .before .before .before .before in
+    (subst (λ m. 4 * start .args .first + 1 < m) (start .pre .0) (omega arith), (start .pre .1 .0 .0, room-first (start .pre .1 .1) (omega arith) (omega arith)))
 
 module _ (t : ℕ) (d : harden-sequence-lts.After-harden-command (harden-sequence-calls t) (harden-sequence-at t) harden-sequence.Post) where
   abbrev sequence-start : harden-sequence-lts.Start (harden-sequence-calls t) (harden-sequence-at t) harden-sequence.Post
@@ -220,7 +221,8 @@ module _ (t : ℕ) (d : harden-sequence-lts.After-harden-command (harden-sequenc
 
 harden-sequence-harden-command-requires-2 : (t : ℕ) → harden-sequence-lts.Need-harden-command-requires-2 (harden-sequence-calls t) (harden-sequence-at t) harden-sequence.Post
 harden-sequence-harden-command-requires-2 t c κs =
-    let start = c .before .before .before .before .before .before .before .before .before .before .before in (subst (λ m. 4 * start .args .second + 1 < m) (start .pre .0) (omega arith), (start .pre .1 .0 .1, rest-room (sequence-begun t (c .before .before .before .before))))
+    let start = c .before .before .before .before .before .before .before .before .before .before .before in
+    (subst (λ m. 4 * start .args .second + 1 < m) (start .pre .0) (omega arith), (start .pre .1 .0 .1, rest-room (sequence-begun t (c .before .before .before .before))))
 
 harden-sequence-returns : (t : ℕ) → harden-sequence-lts.Need-returns (harden-sequence-calls t) (harden-sequence-at t) harden-sequence.Post
 unfolding sequenceIn writeC
@@ -231,7 +233,8 @@ harden-sequence-returns t c =
 harden-side-put-flag-update-requires : (t : ℕ) → harden-side-lts.Need-put-flag-update-requires (harden-side-calls t) (harden-side-at t) harden-side.Post
 unfolding sideIn testIn nodesOf bytesOf
 harden-side-put-flag-update-requires t c κs =
-    let start = c .before .before .before .before .before .before in (start .pre .1 .0 .0, room-first (start .pre .1 .1) (omega arith) (omega arith))
+    let start = c .before .before .before .before .before .before in
+    (start .pre .1 .0 .0, room-first (start .pre .1 .1) (omega arith) (omega arith))
 
 module _ (t : ℕ) (d : harden-side-lts.After-put-flag-update (harden-side-calls t) (harden-side-at t) harden-side.Post) where
   abbrev side-start : harden-side-lts.Start (harden-side-calls t) (harden-side-at t) harden-side.Post
@@ -249,7 +252,8 @@ module _ (t : ℕ) (d : harden-side-lts.After-put-flag-update (harden-side-calls
 
 harden-side-harden-command-requires : (t : ℕ) → harden-side-lts.Need-harden-command-requires (harden-side-calls t) (harden-side-at t) harden-side.Post
 harden-side-harden-command-requires t c κs =
-    let start = c .before .before .before .before .before .before .before .before .before .before .before in (subst (λ m. 4 * start .args .side + 1 < m) (start .pre .0) (omega arith), (start .pre .1 .0 .1, rest-room (side-begun t (c .before .before .before .before))))
+    let start = c .before .before .before .before .before .before .before .before .before .before .before in
+    (subst (λ m. 4 * start .args .side + 1 < m) (start .pre .0) (omega arith), (start .pre .1 .0 .1, rest-room (side-begun t (c .before .before .before .before))))
 
 harden-side-returns : (t : ℕ) → harden-side-lts.Need-returns (harden-side-calls t) (harden-side-at t) harden-side.Post
 unfolding sideIn testIn writeC
@@ -259,7 +263,8 @@ harden-side-returns t c =
 -- ---- both sides
 harden-sides-harden-side-requires : (t : ℕ) → harden-sides-lts.Need-harden-side-requires (harden-sides-calls t) (harden-sides-at t) harden-sides.Post
 harden-sides-harden-side-requires t c κs =
-    let start = c .before .before .before .before .before .before in (subst (λ m. 4 * start .args .first + 2 < m) (start .pre .0) (omega arith), ((start .pre .1 .0 .0, start .pre .1 .0 .1), room-first (start .pre .1 .1) (omega arith) (omega arith)))
+    let start = c .before .before .before .before .before .before in
+    (subst (λ m. 4 * start .args .first + 2 < m) (start .pre .0) (omega arith), ((start .pre .1 .0 .0, start .pre .1 .0 .1), room-first (start .pre .1 .1) (omega arith) (omega arith)))
 
 module _ (t : ℕ) (d : harden-sides-lts.After-harden-side (harden-sides-calls t) (harden-sides-at t) harden-sides.Post) where
   abbrev sides-start : harden-sides-lts.Start (harden-sides-calls t) (harden-sides-at t) harden-sides.Post
@@ -276,12 +281,14 @@ module _ (t : ℕ) (d : harden-sides-lts.After-harden-side (harden-sides-calls t
 
 harden-sides-harden-side-requires-2 : (t : ℕ) → harden-sides-lts.Need-harden-side-requires-2 (harden-sides-calls t) (harden-sides-at t) harden-sides.Post
 harden-sides-harden-side-requires-2 t c κs =
-    let start = c .before .before .before .before .before .before .before .before .before .before .before in (subst (λ m. 4 * start .args .second + 2 < m) (start .pre .0) (omega arith), ((start .pre .1 .0 .0, start .pre .1 .0 .2), rest-room (sides-begun t (c .before .before .before .before))))
+    let start = c .before .before .before .before .before .before .before .before .before .before .before in
+    (subst (λ m. 4 * start .args .second + 2 < m) (start .pre .0) (omega arith), ((start .pre .1 .0 .0, start .pre .1 .0 .2), rest-room (sides-begun t (c .before .before .before .before))))
 
 -- ---- an if: its condition and both sides
 harden-if-mask-condition-requires : (t : ℕ) → harden-if-lts.Need-mask-condition-requires (harden-if-calls t) (harden-if-at t) harden-if.Post
 harden-if-mask-condition-requires t c κs =
-    let pre = c .before .before .before .before .before .pre .1 .0 in record { node = pre .0; room = pre .2 .room; inside = pre .1 }
+    let pre = c .before .before .before .before .before .pre .1 .0 in
+    record { node = pre .0; room = pre .2 .room; inside = pre .1 }
 
 module _ (t : ℕ) (d : harden-if-lts.After-mask-condition (harden-if-calls t) (harden-if-at t) harden-if.Post) where
   abbrev if-start : harden-if-lts.Start (harden-if-calls t) (harden-if-at t) harden-if.Post
@@ -297,38 +304,40 @@ module _ (t : ℕ) (d : harden-if-lts.After-mask-condition (harden-if-calls t) (
   if-test = maskedCondition (if-start .args .flag) (d .mask-condition .result) (truthIn (now (if-start .args .table)) (if-start .args .condition))
 
   abbrev if-one : Com Origin
-  if-one = sideIn (now (if-start .args .table)) (now (if-start .args .variables)) (now (if-start .args .arrays)) (if-start .args .flag) (if-start .args .condition) ((d .mask-condition .result)) true (if-start .args .first)
+  if-one = sideIn (now (if-start .args .table)) (now (if-start .args .variables)) (now (if-start .args .arrays)) (if-start .args .flag) (if-start .args .condition) (d .mask-condition .result) true (if-start .args .first)
 
   abbrev if-two : Com Origin
-  if-two = sideIn (now (if-start .args .table)) (now (if-start .args .variables)) (now (if-start .args .arrays)) (if-start .args .flag) (if-start .args .condition) ((d .mask-condition .result)) false (if-start .args .second)
+  if-two = sideIn (now (if-start .args .table)) (now (if-start .args .variables)) (now (if-start .args .arrays)) (if-start .args .flag) (if-start .args .condition) (d .mask-condition .result) false (if-start .args .second)
 
   if-room : Room (if-start .args .from) (nodesOfB if-test + (nodesOf if-one + nodesOf if-two) + 1) (bytesOfB if-test + (bytesOf if-one + bytesOf if-two) + 10) (now (if-start .args .out))
   unfolding ifIn testIn nodesOf bytesOf
   if-room = room-first (room-C if-is (if-start .pre .1 .1)) (omega arith) (omega arith)
 
 module _ (t : ℕ) (d : harden-if-lts.After-copy-condition (harden-if-calls t) (harden-if-at t) harden-if.Post) where
-  if-begun : let before = d .before .before in TestWritten (if-start t before .args .from) (if-test t before) (if-one t before) (if-two t before) 1 10 (now (if-start t before .args .out)) (d .copy-condition .last .1 .1 .1 .1 .1 .1 .0) (d .copy-condition .result)
+  if-begun : let before = d .before .before in TestWritten (if-start t before .args .from) (if-test t before) (if-one t before) (if-two t before) (now (if-start t before .args .out)) (d .copy-condition .last .1 .1 .1 .1 .1 .1 .0) (d .copy-condition .result)
   if-begun = let before = d .before .before in test-written (if-test t before) (if-one t before) (if-two t before) (if-room t before) (d .copy-condition .ensures)
 
 harden-if-harden-sides-requires : (t : ℕ) → harden-if-lts.Need-harden-sides-requires (harden-if-calls t) (harden-if-at t) harden-if.Post
 harden-if-harden-sides-requires t c κs =
-    let start = c .before .before .before .before .before .before .before .before .before .before .before .before in (subst (λ m. 4 * max (start .args .first) (start .args .second) + 3 < m) (start .pre .0) (omega arith), ((start .pre .1 .0 .0, start .pre .1 .0 .2, start .pre .1 .0 .3), rest-room (if-begun t (c .before .before .before .before))))
+    let start = c .before .before .before .before .before .before .before .before .before .before .before .before in
+    (subst (λ m. 4 * max (start .args .first) (start .args .second) + 3 < m) (start .pre .0) (omega arith), ((start .pre .1 .0 .0, start .pre .1 .0 .2, start .pre .1 .0 .3), rest-room (if-begun t (c .before .before .before .before) .parts)))
 
 harden-if-append-requires : (t : ℕ) → harden-if-lts.Need-append-requires (harden-if-calls t) (harden-if-at t) harden-if.Post
 unfolding sizeOf form fieldSize sum
 harden-if-append-requires t c κs =
-    sides-asks (if-test t (c .before .before .before .before .before .before .before .before .before .before .before .before .before .before)) (if-one t (c .before .before .before .before .before .before .before .before .before .before .before .before .before .before)) (if-two t (c .before .before .before .before .before .before .before .before .before .before .before .before .before .before)) (if-begun t (c .before .before .before .before .before .before .before .before .before .before .before .before)) (c .before .before .before .before .before .before .before .harden-sides .ensures)
+    sides-asks (if-begun t (c .before .before .before .before .before .before .before .before .before .before .before .before)) (c .before .before .before .before .before .before .before .harden-sides .ensures)
 
 harden-if-returns : (t : ℕ) → harden-if-lts.Need-returns (harden-if-calls t) (harden-if-at t) harden-if.Post
 unfolding ifIn testIn
 harden-if-returns t c =
-    wrote-C (c .before .before .before .before .before .before .before .before .before .before .before .before .before .before .before .before .before .before .before .before .before .before .before .args .from) (if-is t (c .before .before .before .before .before .before .before .before .before .before .before .before .before .before .before .before .before)) (sides-wrote (if-test t (c .before .before .before .before .before .before .before .before .before .before .before .before .before .before .before .before .before)) (if-one t (c .before .before .before .before .before .before .before .before .before .before .before .before .before .before .before .before .before)) (if-two t (c .before .before .before .before .before .before .before .before .before .before .before .before .before .before .before .before .before)) (if-begun t (c .before .before .before .before .before .before .before .before .before .before .before .before .before .before .before)) (c .before .before .before .before .before .before .before .before .before .before .harden-sides .ensures) (c .before .before .before .last .ensures) (c .before .before .append .ensures) none)
+    wrote-C (c .before .before .before .before .before .before .before .before .before .before .before .before .before .before .before .before .before .before .before .before .before .before .before .args .from) (if-is t (c .before .before .before .before .before .before .before .before .before .before .before .before .before .before .before .before .before)) (sides-wrote (if-begun t (c .before .before .before .before .before .before .before .before .before .before .before .before .before .before .before)) (c .before .before .before .before .before .before .before .before .before .before .harden-sides .ensures) (c .before .before .before .last .ensures) (c .before .before .append .ensures) none)
 
 -- ---- a loop: its condition and its body
 harden-loop-copy-condition-requires : (t : ℕ) → harden-loop-lts.Need-copy-condition-requires (harden-loop-calls t) (harden-loop-at t) harden-loop.Post
 unfolding loopIn testIn nodesOf bytesOf
 harden-loop-copy-condition-requires t c κs =
-    let start = c .before .before .before .before .before .before in (start .pre .1 .0 .0, room-first (start .pre .1 .1) (omega arith) (omega arith))
+    let start = c .before .before .before .before .before .before in
+    (start .pre .1 .0 .0, room-first (start .pre .1 .1) (omega arith) (omega arith))
 
 module _ (t : ℕ) (d : harden-loop-lts.After-copy-condition (harden-loop-calls t) (harden-loop-at t) harden-loop.Post) where
   abbrev loop-start : harden-loop-lts.Start (harden-loop-calls t) (harden-loop-at t) harden-loop.Post
@@ -346,7 +355,8 @@ module _ (t : ℕ) (d : harden-loop-lts.After-copy-condition (harden-loop-calls 
 
 harden-loop-harden-side-requires : (t : ℕ) → harden-loop-lts.Need-harden-side-requires (harden-loop-calls t) (harden-loop-at t) harden-loop.Post
 harden-loop-harden-side-requires t c κs =
-    let start = c .before .before .before .before .before .before .before .before .before .before .before in (subst (λ m. 4 * start .args .body + 2 < m) (start .pre .0) (omega arith), (start .pre .1 .0, rest-room (loop-begun t (c .before .before .before .before))))
+    let start = c .before .before .before .before .before .before .before .before .before .before .before in
+    (subst (λ m. 4 * start .args .body + 2 < m) (start .pre .0) (omega arith), (start .pre .1 .0, rest-room (loop-begun t (c .before .before .before .before))))
 
 harden-loop-append-requires : (t : ℕ) → harden-loop-lts.Need-append-requires (harden-loop-calls t) (harden-loop-at t) harden-loop.Post
 unfolding sizeOf form fieldSize sum
@@ -361,7 +371,8 @@ harden-loop-returns t c =
 -- ---- a while: a loop and the flag's update
 harden-while-mask-condition-requires : (t : ℕ) → harden-while-lts.Need-mask-condition-requires (harden-while-calls t) (harden-while-at t) harden-while.Post
 harden-while-mask-condition-requires t c κs =
-    let pre = c .before .before .before .before .before .pre .1 .0 in record { node = pre .0; room = pre .1 .room; inside = pre .1 .node .inside }
+    let pre = c .before .before .before .before .before .pre .1 .0 in
+    record { node = pre .0; room = pre .1 .room; inside = pre .1 .node .inside }
 
 module _ (t : ℕ) (d : harden-while-lts.After-mask-condition (harden-while-calls t) (harden-while-at t) harden-while.Post) where
   abbrev while-start : harden-while-lts.Start (harden-while-calls t) (harden-while-at t) harden-while.Post
@@ -389,7 +400,8 @@ module _ (t : ℕ) (d : harden-while-lts.After-harden-loop (harden-while-calls t
 
 harden-while-harden-loop-requires : (t : ℕ) → harden-while-lts.Need-harden-loop-requires (harden-while-calls t) (harden-while-at t) harden-while.Post
 harden-while-harden-loop-requires t c κs =
-    let start = c .before .before .before .before .before .before .before in (subst (λ m. 4 * start .args .body + 3 < m) (start .pre .0) (omega arith), (start .pre .1 .0, room-first (while-room t (c .before)) (omega arith) (omega arith)))
+    let start = c .before .before .before .before .before .before .before in
+    (subst (λ m. 4 * start .args .body + 3 < m) (start .pre .0) (omega arith), (start .pre .1 .0, room-first (while-room t (c .before)) (omega arith) (omega arith)))
 
 harden-while-returns : (t : ℕ) → harden-while-lts.Need-returns (harden-while-calls t) (harden-while-at t) harden-while.Post
 unfolding whileIn testIn writeC
@@ -428,14 +440,14 @@ pub +harden-command+harden-if+harden-loop+harden-sequence+harden-side+harden-sid
     harden-if.Post
     (harden-if-mask-condition-requires t)
     (λ c κs. (c .before .before .before .before .before .before .before .pre .1 .0 .0, room-first (if-room t (c .before)) (omega arith) (omega arith)))
-    (λ c. rest-number (if-begun t (c .before .before .before)))
-    (λ c. rest-begins (if-begun t (c .before .before .before)))
-    (λ c. rest-begins (if-begun t (c .before .before .before)))
+    (λ c. rest-number (if-begun t (c .before .before .before) .parts))
+    (λ c. rest-begins (if-begun t (c .before .before .before) .parts))
+    (λ c. rest-begins (if-begun t (c .before .before .before) .parts))
     (λ c. search needs)
     (harden-if-harden-sides-requires t)
-    (λ c. sides-nodes (if-test t (c .before .before .before .before .before .before .before .before .before .before .before .before)) (if-one t (c .before .before .before .before .before .before .before .before .before .before .before .before)) (if-two t (c .before .before .before .before .before .before .before .before .before .before .before .before)) (if-begun t (c .before .before .before .before .before .before .before .before .before .before)) (c .before .before .before .before .before .harden-sides .ensures))
-    (λ c. sides-bytes (if-test t (c .before .before .before .before .before .before .before .before .before .before .before .before .before)) (if-one t (c .before .before .before .before .before .before .before .before .before .before .before .before .before)) (if-two t (c .before .before .before .before .before .before .before .before .before .before .before .before .before)) (if-begun t (c .before .before .before .before .before .before .before .before .before .before .before)) (c .before .before .before .before .before .before .harden-sides .ensures))
-    (λ c κs. first-last (if-begun t (c .before .before .before .before .before .before .before .before .before .before .before)))
+    (λ c. sides-nodes (if-begun t (c .before .before .before .before .before .before .before .before .before .before)) (c .before .before .before .before .before .harden-sides .ensures))
+    (λ c. sides-bytes (if-begun t (c .before .before .before .before .before .before .before .before .before .before .before)) (c .before .before .before .before .before .before .harden-sides .ensures))
+    (λ c κs. first-last (if-begun t (c .before .before .before .before .before .before .before .before .before .before .before) .parts))
     (harden-if-append-requires t)
     (λ c. search needs)
     (harden-if-returns t))
