@@ -9,7 +9,7 @@ use types.Run.{OneOf, miss}
 use lib.Dec.{eqb}
 use lib.ListN.{length, getD, set}
 use Rattle.reader.specs.Index.{numericIn, truthIn, commandIn}
-use Rattle.awhile.specs.Language.{sequence, if, while}
+use Rattle.awhile.specs.Language.{skip, assign, sequence, if, while, read, write}
 use Rattle.awhile.specs.Nodes.{sortOf}
 use Rattle.awhile.specs.declared.Labelling.{Labelling}
 use Rattle.awhile.specs.declared.Sort.the-variants.{Command}
@@ -19,12 +19,12 @@ use Rattle.reader.proofs.Index.{Child, Parts}
 use Rattle.awhile.proofs.Node.{the-type}
 use Rattle.labels.specs.Labellings.{variableMark, arrayMark, labelOfA, labelOfB, setLabel, join}
 use Rattle.labels.specs.Analysis.{readLabel, writeLabel, analyse}
-use Rattle.labels.specs.Annotation.{entered}
+use Rattle.labels.specs.Annotation.{entered, annotate}
 use Rattle.analysis.specs.Notes.{arrayNote}
 use Rattle.analysis.specs.Warm.{standing, Distinct, InOrder}
 use Rattle.analysis.specs.Conditions.{Single, NoteRoom, Analysable, Analysed, PairAnalysable, PairAnalysed, Settleable, SettledLoop}
 use Rattle.analysis.specs.Conditions.{SequenceAnalysable, SequenceAnalysed, SidesAnalysable, SidesAnalysed}
-use Rattle.analysis.proofs.CommandNotes.{NotedAt, note-stored, distinct-part, skip-analysed, assign-analysed, read-analysed, write-analysed}
+use Rattle.analysis.proofs.CommandNotes.{NotedAt, note-stored, distinct-part, alone-analysed}
 use Rattle.analysis.proofs.CommandNotes.{second-ready, pair-analysed, part-ready, sequence-analysed, if-analysed, loop-ready, while-analysed}
 use Rattle.analysis.proofs.ExpressionLabels.{child-of-sort}
 use Rattle.analysis.proofs.Nodes.{command-kinds}
@@ -149,15 +149,16 @@ module _ {table index vs arrs ws brrs : List ℕ} {n : ℕ} {x : Bool} {l : Labe
   -- one without parts leaves its own note
   pub single-analysed : (m : Node) → sortOf m ≡ Command → Single m → Parts table n m → (r : Labelling) → r ≡ analyse (commandIn table n) x l
       → Analysed (commandIn table n) x l vs arrs ws brrs r
+  unfolding annotate standing
   single-analysed =
       command-kinds (λ m. Single m → Parts table n m → (r : Labelling) → r ≡ analyse (commandIn table n) x l → Analysed (commandIn table n) x l vs arrs ws brrs r)
-      (λ s p r q. rw p (skip-analysed w (pre .room .fit) (rw p at q)))
-      (λ v e s p r q. rw (p .2) (assign-analysed w (pre .room .fit) (rw (p .2) at q)))
+      (λ s p r q. rw p (alone-analysed w (pre .room .fit) (skip n) (λ k. refl) (w .here) (rw p at q)))
+      (λ v e s p r q. rw (p .2) (alone-analysed w (pre .room .fit) (assign n v (numericIn table e)) (λ k. refl) (w .here) (rw (p .2) at q)))
       (λ c d s p r q. absurd (s .noSequence c d refl))
       (λ b c d s p r q. absurd (s .noIf b c d refl))
       (λ b c s p r q. absurd (s .noWhile b c refl))
-      (λ v a i s p r q. rw (p .3) (read-analysed w (pre .room .fit) (rw (p .3) at q)))
-      (λ a i e s p r q. rw (p .3) (write-analysed w (pre .room .fit) (rw (p .3) at q)))
+      (λ v a i s p r q. rw (p .3) (alone-analysed w (pre .room .fit) (read n v a (numericIn table i)) (λ k. refl) (w .here) (rw (p .3) at q)))
+      (λ a i e s p r q. rw (p .3) (alone-analysed w (pre .room .fit) (write n a (numericIn table i) (numericIn table e)) (λ k. refl) (w .here) (rw (p .3) at q)))
 
   module _ (first : length ws ≡ length vs) (second : length brrs ≡ length arrs) where
     entered-room : NoteRoom table ws brrs

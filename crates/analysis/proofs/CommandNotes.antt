@@ -9,7 +9,7 @@ use lib.Dec.{eqb}
 use lib.ListN.{length, getD, set}
 use lib.Seq.{getD-set-same, getD-set-other}
 use borrow.Author.Tests.{eq-eqb, ne-eqb, eqb-false}
-use Rattle.awhile.specs.Language.{AExp, BExp, Com, skip, assign, sequence, if, while, read, write, noteOf}
+use Rattle.awhile.specs.Language.{BExp, Com, sequence, if, while, noteOf}
 use Rattle.awhile.specs.declared.Labelling.{Labelling}
 use Rattle.labels.specs.Labellings.{labelOfB}
 use Rattle.labels.specs.Analysis.{analyse}
@@ -82,27 +82,11 @@ module _ {n : ℕ} {x : Bool} {l : Labelling} {v0 a0 v1 a1 : List ℕ} (w : Note
 own-apart : (n k : ℕ) → cond (eqb n n) 1 0 + k ≤ 1 → k ≡ 0
 own-apart n k h = let e : eqb n n ≡ true = eq-eqb n n refl in omega (arith, rw e at h)
 
--- ---- commands without parts
-module _ {n : ℕ} {x : Bool} {l : Labelling} {v0 a0 v1 a1 : List ℕ} (w : NotedAt n x l v0 a0 v1 a1) (fit : (p : ℕ) → getD a0 p 0 < 131072) {r : Labelling} where
-  -- a skip is noted
-  pub skip-analysed : r ≡ analyse (skip n) x l → Analysed (skip n) x l v0 a0 v1 a1 r
-  unfolding annotate standing
-  skip-analysed q = record { answers = q; notes = w .here; outside = record { same = λ p h. note-outside w p (omega arith) }; fit = w .fit fit }
-
-  -- so is an assignment
-  pub assign-analysed : {v : ℕ} {e : AExp} → r ≡ analyse (assign n v e) x l → Analysed (assign n v e) x l v0 a0 v1 a1 r
-  unfolding annotate standing
-  assign-analysed q = record { answers = q; notes = w .here; outside = record { same = λ p h. note-outside w p (omega arith) }; fit = w .fit fit }
-
-  -- and a read
-  pub read-analysed : {v a : ℕ} {i : AExp} → r ≡ analyse (read n v a i) x l → Analysed (read n v a i) x l v0 a0 v1 a1 r
-  unfolding annotate standing
-  read-analysed q = record { answers = q; notes = w .here; outside = record { same = λ p h. note-outside w p (omega arith) }; fit = w .fit fit }
-
-  -- and a write
-  pub write-analysed : {a : ℕ} {i e : AExp} → r ≡ analyse (write n a i e) x l → Analysed (write n a i e) x l v0 a0 v1 a1 r
-  unfolding annotate standing
-  write-analysed q = record { answers = q; notes = w .here; outside = record { same = λ p h. note-outside w p (omega arith) }; fit = w .fit fit }
+-- a command that stands alone leaves its own note
+pub alone-analysed : {n : ℕ} {x : Bool} {l : Labelling} {v0 a0 v1 a1 : List ℕ} → NotedAt n x l v0 a0 v1 a1 → ((p : ℕ) → getD a0 p 0 < 131072)
+    → (c : Com ℕ) → ((p : ℕ) → standing p c ≡ cond (eqb p n) 1 0) → Noted v1 a1 (annotate c x l) → {r : Labelling} → r ≡ analyse c x l → Analysed c x l v0 a0 v1 a1 r
+alone-analysed w fit c alone notes q =
+    record { answers = q; notes = notes; outside = record { same = λ p h. note-outside w p (omega (arith, alone p)) }; fit = w .fit fit }
 
 -- ---- two commands, analysed one after the other
 module _ (c d : Com ℕ) (apart : (p : ℕ) → standing p c + standing p d ≤ 1) {v1 a1 v2 a2 : List ℕ} where
@@ -132,30 +116,25 @@ module _ {n : ℕ} {x : Bool} {l : Labelling} {v0 a0 v1 a1 : List ℕ} (w : Note
       own-note : noteIn v3 a3 n ≡ entered n x l
       own-note = g .outside n (own-apart n (standing n c + standing n d) (omega (arith, once n))) ∙ w .here
 
-      both-outside : (p : ℕ) → cond (eqb p n) 1 0 + standing p c + standing p d ≤ 0 → noteIn v3 a3 p ≡ noteIn v0 a0 p
-      both-outside p h = g .outside p (omega arith) ∙ note-outside w p (omega arith)
+      over-pair : (whole : Com ℕ) → ((p : ℕ) → standing p whole ≡ cond (eqb p n) 1 0 + standing p c + standing p d) → Noted v3 a3 (annotate whole x l)
+          → {s : Labelling} → s ≡ analyse whole x l → Analysed whole x l v0 a0 v3 a3 s
+      over-pair whole stands notes q =
+          record {
+            answers = q;
+            notes = notes;
+            outside = record { same = λ p h. g .outside p (omega (arith, stands p)) ∙ note-outside w p (omega (arith, stands p)) };
+            fit = g .fit;
+          }
 
     -- a sequence's parts leave what the sequence does
     pub sequence-analysed : {s : Labelling} → SequenceAnalysed c d x l v1 a1 v3 a3 s → Analysed (sequence n c d) x l v0 a0 v3 a3 s
     unfolding analyse annotate standing
-    sequence-analysed f =
-        record {
-          answers = f .answers;
-          notes = (own-note (f .both), f .both .firstNotes, f .both .secondNotes);
-          outside = record { same = λ p h. both-outside (f .both) p (omega arith) };
-          fit = f .both .fit;
-        }
+    sequence-analysed f = over-pair (f .both) (sequence n c d) (λ p. refl) (own-note (f .both), f .both .firstNotes, f .both .secondNotes) (f .answers)
 
     -- an if's sides leave what the if does
     pub if-analysed : {b : BExp} {s : Labelling} → SidesAnalysed b c d x l v1 a1 v3 a3 s → Analysed (if n b c d) x l v0 a0 v3 a3 s
     unfolding analyse annotate standing
-    if-analysed f =
-        record {
-          answers = f .answers;
-          notes = (own-note (f .both), f .both .firstNotes, f .both .secondNotes);
-          outside = record { same = λ p h. both-outside (f .both) p (omega arith) };
-          fit = f .both .fit;
-        }
+    if-analysed {b} f = over-pair (f .both) (if n b c d) (λ p. refl) (own-note (f .both), f .both .firstNotes, f .both .secondNotes) (f .answers)
 
 -- ---- loops
 module _ (n : ℕ) (b : BExp) (c : Com ℕ) (once : (p : ℕ) → cond (eqb p n) 1 0 + standing p c ≤ 1)
