@@ -1,38 +1,39 @@
 -- The analysis in code, by the kind of a node: what its parts require, and what it leaves.
-use Prim.Native.Nat.{ℕ, _+_, _≤_, _<_}
+use Prim.Native.Nat.{ℕ, _+_, _*_, _≤_, _<_, max}
 use mathlib.Core.Bool.{Bool, cond, _||_}
 use mathlib.Core.List.{List, [], _∷_}
-use mathlib.Core.Path.{_≡_, refl, subst}
+use mathlib.Core.Path.{_≡_, refl, sym, ap, ap₂, subst, _∙_}
 use native.Mathlib.Omega.{arith}
 use denote.Enum.Declared.{tagOf}
 use types.Run.{OneOf, miss}
 use lib.Dec.{eqb}
 use lib.ListN.{length, getD, set}
 use Rattle.reader.specs.Index.{numericIn, truthIn, commandIn}
-use Rattle.awhile.specs.Language.{sequence, if, while}
+use Rattle.awhile.specs.Language.{skip, assign, sequence, if, while, read, write}
 use Rattle.awhile.specs.Nodes.{sortOf}
 use Rattle.awhile.specs.declared.Labelling.{Labelling}
 use Rattle.awhile.specs.declared.Sort.the-variants.{Command}
 use Rattle.awhile.specs.declared.Node.{Node}
-use Rattle.awhile.specs.declared.Node.the-variants.{Assign, Sequence, If, While, Read, Write}
-use Rattle.reader.proofs.Index.{Parts}
+use Rattle.awhile.specs.declared.Node.the-variants.{Skip, Assign, Sequence, If, While, Read, Write}
+use Rattle.reader.proofs.Index.{Child, Parts}
 use Rattle.awhile.proofs.Node.{the-type}
 use Rattle.labels.specs.Labellings.{variableMark, arrayMark, labelOfA, labelOfB, setLabel, join}
 use Rattle.labels.specs.Analysis.{readLabel, writeLabel, analyse}
-use Rattle.labels.specs.Annotation.{entered}
+use Rattle.labels.specs.Annotation.{entered, annotate}
 use Rattle.analysis.specs.Notes.{arrayNote}
 use Rattle.analysis.specs.Warm.{standing, Distinct, InOrder}
-use Rattle.analysis.specs.Conditions.{Single, NoteRoom, Analysable, Analysed, Settleable, SettledLoop}
-use Rattle.analysis.proofs.CommandNotes.{NotedAt, note-stored, distinct-part, skip-analysed, assign-analysed, read-analysed, write-analysed}
-use Rattle.analysis.proofs.CommandNotes.{first-ready, second-ready, sequence-analysed, if-analysed, loop-ready, while-analysed}
+use Rattle.analysis.specs.Conditions.{Single, NoteRoom, Analysable, Analysed, PairAnalysable, PairAnalysed, Settleable, SettledLoop}
+use Rattle.analysis.specs.Conditions.{SequenceAnalysable, SequenceAnalysed, SidesAnalysable, SidesAnalysed}
+use Rattle.analysis.proofs.CommandNotes.{NotedAt, note-stored, distinct-part, alone-analysed}
+use Rattle.analysis.proofs.CommandNotes.{second-ready, pair-analysed, part-ready, sequence-analysed, if-analysed, loop-ready, while-analysed}
 use Rattle.analysis.proofs.ExpressionLabels.{child-of-sort}
 use Rattle.analysis.proofs.Nodes.{command-kinds}
 
--- the kinds of nodes that `analyse` does not name
+-- the kinds of nodes that a function over commands with parts does not name
 abbrev pub unnamedCommand : List ℕ
 unnamedCommand = 0 ∷ 1 ∷ 2 ∷ 3 ∷ 4 ∷ 5 ∷ 6 ∷ 7 ∷ 8 ∷ 9 ∷ 10 ∷ 11 ∷ 12 ∷ 16 ∷ 17 ∷ []
 
--- the kinds of nodes that `analyse_single` does not name
+-- the kinds of nodes that a function over commands without parts does not name
 abbrev pub unnamedSingle : List ℕ
 unnamedSingle = 0 ∷ 1 ∷ 2 ∷ 3 ∷ 4 ∷ 5 ∷ 6 ∷ 7 ∷ 8 ∷ 9 ∷ 10 ∷ 11 ∷ 13 ∷ 14 ∷ 15 ∷ []
 
@@ -57,119 +58,166 @@ entry-noted {vs = vs} {arrs = arrs} {n = n} {x = x} {l = l} pre small e =
     let inside = pre .node .inside in
     note-stored n x l vs arrs (omega (arith, pre .room .variables)) (omega (arith, pre .room .arrays)) small e
 
+-- a command without parts that is not named is a skip
+pub unnamed-skip : (m : Node) → sortOf m ≡ Command → OneOf unnamedSingle (tagOf the-type m) → Single m → m ≡ Skip
+unnamed-skip =
+    command-kinds (λ m. OneOf unnamedSingle (tagOf the-type m) → Single m → m ≡ Skip)
+    (λ o s. refl)
+    (λ v e o s. absurd (miss unnamedSingle 12 tt o))
+    (λ c d o s. absurd (s .noSequence c d refl))
+    (λ b c d o s. absurd (s .noIf b c d refl))
+    (λ b c o s. absurd (s .noWhile b c refl))
+    (λ v a i o s. absurd (miss unnamedSingle 16 tt o))
+    (λ a i e o s. absurd (miss unnamedSingle 17 tt o))
+
+-- ---- commands without parts: what their functions answer is what the analysis does
+module _ (table : List ℕ) (n : ℕ) (x : Bool) (l : Labelling) {r : Labelling} where
+  pub after-assign : (v e : ℕ) → Parts table n (Assign v e) → r ≡ setLabel l (variableMark v) (labelOfA l (numericIn table e) || x) → r ≡ analyse (commandIn table n) x l
+  unfolding analyse
+  after-assign v e p q = rw (p .2) q
+
+  pub after-read : (v a i : ℕ) → Parts table n (Read v a i) → r ≡ setLabel l (variableMark v) (readLabel l x a (numericIn table i)) → r ≡ analyse (commandIn table n) x l
+  unfolding analyse
+  after-read v a i p q = rw (p .3) q
+
+  pub after-write : (a i e : ℕ) → Parts table n (Write a i e) → r ≡ setLabel l (arrayMark a) (writeLabel l x a (numericIn table i) (numericIn table e))
+      → r ≡ analyse (commandIn table n) x l
+  unfolding analyse
+  after-write a i e p q = rw (p .3) q
+
+  pub after-skip : Parts table n Skip → r ≡ l → r ≡ analyse (commandIn table n) x l
+  unfolding analyse
+  after-skip p q = rw p q
+
+-- ---- two commands, analysed one after the other
+module _ {table index vs arrs : List ℕ} {c d : ℕ} {x : Bool} {l m : Labelling} (pre : PairAnalysable table index vs arrs c d x l m) where
+  -- what the first requires is there
+  pub pair-first : Analysable table index vs arrs c x l
+  pair-first =
+      record { node = pre .firstNode; distinct = record { once = λ p. omega (arith, pre .apart p) }; room = pre .room; inOrder = pre .firstInOrder }
+
+  module _ {us urrs : List ℕ} {r : Labelling} (f : Analysed (commandIn table c) x l vs arrs us urrs r) where
+    -- and what the second requires, after the first
+    pub pair-second : length us ≡ length vs → length urrs ≡ length arrs → Analysable table index us urrs d x m
+    pair-second g h =
+        record {
+          node = pre .secondNode;
+          distinct = record { once = λ p. omega (arith, pre .apart p) };
+          room = same-room (pre .room) g h (f .fit);
+          inOrder = second-ready (commandIn table c) (commandIn table d) (pre .apart) x m (f .outside) (pre .secondInOrder);
+        }
+
+    pub pair-both : {v3 a3 : List ℕ} {s : Labelling} → Analysed (commandIn table d) x m us urrs v3 a3 s → PairAnalysed (commandIn table c) (commandIn table d) x l m vs arrs v3 a3
+    pair-both g = pair-analysed (commandIn table c) (commandIn table d) (pre .apart) f g
+
+-- a sequence's second part is entered with what its first part leaves
+module _ {table index vs arrs : List ℕ} {c d : ℕ} {x : Bool} {l : Labelling} (pre : SequenceAnalysable table index vs arrs c d x l)
+    {us urrs : List ℕ} {r : Labelling} (f : Analysed (commandIn table c) x l vs arrs us urrs r) where
+  pub sequence-second : length us ≡ length vs → length urrs ≡ length arrs → Analysable table index us urrs d x r
+  sequence-second g h = subst (λ m. Analysable table index us urrs d x m) (sym (f .answers)) (pair-second pre f g h)
+
+  pub sequence-both : {v3 a3 : List ℕ} {s : Labelling} → Analysed (commandIn table d) x r us urrs v3 a3 s
+      → SequenceAnalysed (commandIn table c) (commandIn table d) x l vs arrs v3 a3 s
+  sequence-both {v3} {a3} {s} g =
+      let h = subst (λ m. Analysed (commandIn table d) x m us urrs v3 a3 s) (f .answers) g in
+      record { answers = h .answers; both = pair-both pre f h }
+
+-- both sides of an if are entered with what enters it
+module _ {table index vs arrs : List ℕ} {b c d : ℕ} {x y : Bool} {l : Labelling} (e : y ≡ (labelOfB l (truthIn table b) || x))
+    (pre : SidesAnalysable table index vs arrs b c d x l) where
+  sides : PairAnalysable table index vs arrs c d y l l
+  sides = rw e (pre .both)
+
+  pub if-first : Analysable table index vs arrs c y l
+  if-first = pair-first sides
+
+  module _ {us urrs : List ℕ} {r : Labelling} (f : Analysed (commandIn table c) y l vs arrs us urrs r) where
+    pub if-second : length us ≡ length vs → length urrs ≡ length arrs → Analysable table index us urrs d y l
+    if-second g h = pair-second sides f g h
+
+    pub if-both : {v3 a3 : List ℕ} {s t : Labelling} → Analysed (commandIn table d) y l us urrs v3 a3 s → t ≡ join r s
+        → SidesAnalysed (truthIn table b) (commandIn table c) (commandIn table d) x l vs arrs v3 a3 t
+    if-both {v3} {a3} g j =
+        record {
+          answers = j ∙ ap₂ join (f .answers ∙ ap (λ z. analyse (commandIn table c) z l) e) (g .answers ∙ ap (λ z. analyse (commandIn table d) z l) e);
+          both = subst (λ z. PairAnalysed (commandIn table c) (commandIn table d) z l l vs arrs v3 a3) e (pair-both sides f g);
+        }
+
+-- ---- a command that is noted before its parts are analysed
 module _ {table index vs arrs ws brrs : List ℕ} {n : ℕ} {x : Bool} {l : Labelling} (pre : Analysable table index vs arrs n x l)
     (w : NotedAt n x l vs arrs ws brrs) where
-  -- ---- commands without parts
-  -- what `after_assign` answers is what the analysis does
-  pub after-assign : (v e : ℕ) → Parts table n (Assign v e) → {r : Labelling} → r ≡ setLabel l (variableMark v) (labelOfA l (numericIn table e) || x)
+  -- one without parts leaves its own note
+  pub single-analysed : (m : Node) → sortOf m ≡ Command → Single m → Parts table n m → (r : Labelling) → r ≡ analyse (commandIn table n) x l
       → Analysed (commandIn table n) x l vs arrs ws brrs r
-  unfolding analyse
-  after-assign v e p q = rw (p .2) (assign-analysed w (pre .room .fit) q)
+  unfolding annotate standing
+  single-analysed =
+      command-kinds (λ m. Single m → Parts table n m → (r : Labelling) → r ≡ analyse (commandIn table n) x l → Analysed (commandIn table n) x l vs arrs ws brrs r)
+      (λ s p r q. rw p (alone-analysed w (pre .room .fit) (skip n) (λ k. refl) (w .here) (rw p at q)))
+      (λ v e s p r q. rw (p .2) (alone-analysed w (pre .room .fit) (assign n v (numericIn table e)) (λ k. refl) (w .here) (rw (p .2) at q)))
+      (λ c d s p r q. absurd (s .noSequence c d refl))
+      (λ b c d s p r q. absurd (s .noIf b c d refl))
+      (λ b c s p r q. absurd (s .noWhile b c refl))
+      (λ v a i s p r q. rw (p .3) (alone-analysed w (pre .room .fit) (read n v a (numericIn table i)) (λ k. refl) (w .here) (rw (p .3) at q)))
+      (λ a i e s p r q. rw (p .3) (alone-analysed w (pre .room .fit) (write n a (numericIn table i) (numericIn table e)) (λ k. refl) (w .here) (rw (p .3) at q)))
 
-  -- the same of `after_read`
-  pub after-read : (v a i : ℕ) → Parts table n (Read v a i) → {r : Labelling} → r ≡ setLabel l (variableMark v) (readLabel l x a (numericIn table i))
-      → Analysed (commandIn table n) x l vs arrs ws brrs r
-  unfolding analyse
-  after-read v a i p q = rw (p .3) (read-analysed w (pre .room .fit) q)
-
-  -- and of `after_write`
-  pub after-write : (a i e : ℕ) → Parts table n (Write a i e) → {r : Labelling}
-      → r ≡ setLabel l (arrayMark a) (writeLabel l x a (numericIn table i) (numericIn table e)) → Analysed (commandIn table n) x l vs arrs ws brrs r
-  unfolding analyse
-  after-write a i e p q = rw (p .3) (write-analysed w (pre .room .fit) q)
-
-  -- a command that is not named is a skip
-  pub after-skip : (m : Node) → sortOf m ≡ Command → OneOf unnamedSingle (tagOf the-type m) → Single m → Parts table n m → Analysed (commandIn table n) x l vs arrs ws brrs l
-  after-skip =
-      command-kinds (λ m. OneOf unnamedSingle (tagOf the-type m) → Single m → Parts table n m → Analysed (commandIn table n) x l vs arrs ws brrs l)
-      (λ o s p. rw p (skip-analysed w (pre .room .fit)))
-      (λ v e o s p. absurd (miss unnamedSingle 12 tt o))
-      (λ c d o s p. absurd (s .noSequence c d refl))
-      (λ b c d o s p. absurd (s .noIf b c d refl))
-      (λ b c o s p. absurd (s .noWhile b c refl))
-      (λ v a i o s p. absurd (miss unnamedSingle 16 tt o))
-      (λ a i e o s p. absurd (miss unnamedSingle 17 tt o))
-
-  -- ---- commands with parts
   module _ (first : length ws ≡ length vs) (second : length brrs ≡ length arrs) where
     entered-room : NoteRoom table ws brrs
     entered-room = same-room (pre .room) first second (w .fit (pre .room .fit))
+
+    module _ (c d : ℕ) (once : (k : ℕ) → cond (eqb k n) 1 0 + standing k (commandIn table c) + standing k (commandIn table d) ≤ 1)
+        (p : Child table Command n c) (q : Child table Command n d) where
+      entered-pair : (y : Bool) (m k : Labelling) → InOrder vs arrs (commandIn table c) y m → InOrder vs arrs (commandIn table d) y k
+          → PairAnalysable table index ws brrs c d y m k
+      entered-pair y m k g h =
+          record {
+            firstNode = child-of-sort (pre .node .indexed) p;
+            secondNode = child-of-sort (pre .node .indexed) q;
+            apart = λ i. omega (arith, once i);
+            room = entered-room;
+            firstInOrder = part-ready w (commandIn table c) (λ i. omega (arith, once i)) y m g;
+            secondInOrder = part-ready w (commandIn table d) (λ i. omega (arith, once i)) y k h;
+          }
 
     module _ (c d : ℕ) (p : Parts table n (Sequence c d)) where
       sequence-distinct : Distinct (sequence n (commandIn table c) (commandIn table d))
       sequence-distinct = rw (p .2) at (pre .distinct)
 
-      sequence-order : InOrder vs arrs (sequence n (commandIn table c) (commandIn table d)) x l
-      sequence-order = subst (λ m. InOrder vs arrs m x l) (p .2) (pre .inOrder)
-
       sequence-once : (k : ℕ) → cond (eqb k n) 1 0 + standing k (commandIn table c) + standing k (commandIn table d) ≤ 1
       unfolding standing
       sequence-once k = sequence-distinct .once k
 
-      -- what a sequence's first part requires is there
-      pub sequence-first : Analysable table index ws brrs c x l
-      unfolding standing
-      sequence-first =
-          record {
-            node = child-of-sort (pre .node .indexed) (p .0);
-            distinct = distinct-part {c = sequence n (commandIn table c) (commandIn table d)} (λ k. omega arith) sequence-distinct;
-            room = entered-room;
-            inOrder = first-ready n (commandIn table c) (commandIn table d) sequence-once w x l (sequence-order .0);
-          }
+      -- what a sequence's parts require is there
+      pub sequence-ready : SequenceAnalysable table index ws brrs c d x l
+      sequence-ready =
+          let o = subst (λ m. InOrder vs arrs m x l) (p .2) (pre .inOrder) in
+          entered-pair c d sequence-once (p .0) (p .1) x l (analyse (commandIn table c) x l) (o .0) (o .1)
 
-      module _ {us urrs : List ℕ} {r : Labelling} (f : Analysed (commandIn table c) x l ws brrs us urrs r) where
-        -- and what its second part requires, after the first
-        pub sequence-second : length us ≡ length ws → length urrs ≡ length brrs → Analysable table index us urrs d x r
-        unfolding standing
-        sequence-second g h =
-            record {
-              node = child-of-sort (pre .node .indexed) (p .1);
-              distinct = distinct-part {c = sequence n (commandIn table c) (commandIn table d)} (λ k. omega arith) sequence-distinct;
-              room = same-room entered-room g h (f .fit);
-              inOrder = rw (f .answers) (second-ready n (commandIn table c) (commandIn table d) sequence-once w (f .outside) x (analyse (commandIn table c) x l) (sequence-order .1));
-            }
+      -- they leave what the sequence does
+      pub sequence-left : {v3 a3 : List ℕ} {s : Labelling} → SequenceAnalysed (commandIn table c) (commandIn table d) x l ws brrs v3 a3 s
+          → Analysed (commandIn table n) x l vs arrs v3 a3 s
+      sequence-left f = rw (p .2) (sequence-analysed w (commandIn table c) (commandIn table d) sequence-once f)
 
-        -- both leave what the sequence does
-        pub sequence-both : {v3 a3 : List ℕ} {s : Labelling} → Analysed (commandIn table d) x r us urrs v3 a3 s → Analysed (commandIn table n) x l vs arrs v3 a3 s
-        sequence-both g = rw (p .2) (sequence-analysed n (commandIn table c) (commandIn table d) sequence-once w f g)
-
-    module _ (b c d : ℕ) (p : Parts table n (If b c d)) {y : Bool} (e : y ≡ (labelOfB l (truthIn table b) || x)) where
+    module _ (b c d : ℕ) (p : Parts table n (If b c d)) where
       if-distinct : Distinct (if n (truthIn table b) (commandIn table c) (commandIn table d))
       if-distinct = rw (p .3) at (pre .distinct)
-
-      if-order : InOrder vs arrs (if n (truthIn table b) (commandIn table c) (commandIn table d)) x l
-      if-order = subst (λ m. InOrder vs arrs m x l) (p .3) (pre .inOrder)
 
       if-once : (k : ℕ) → cond (eqb k n) 1 0 + standing k (commandIn table c) + standing k (commandIn table d) ≤ 1
       unfolding standing
       if-once k = if-distinct .once k
 
-      -- what the first side of an if requires is there
-      pub if-first : Analysable table index ws brrs c y l
-      unfolding standing
-      if-first =
+      -- what an if's sides require is there
+      pub if-ready : SidesAnalysable table index ws brrs b c d x l
+      if-ready =
+          let o = subst (λ m. InOrder vs arrs m x l) (p .3) (pre .inOrder) in
           record {
-            node = child-of-sort (pre .node .indexed) (p .1);
-            distinct = distinct-part {c = if n (truthIn table b) (commandIn table c) (commandIn table d)} (λ k. omega arith) if-distinct;
-            room = entered-room;
-            inOrder = first-ready n (commandIn table c) (commandIn table d) if-once w y l (rw e (if-order .0));
+            test = child-of-sort (pre .node .indexed) (p .0);
+            both = entered-pair c d if-once (p .1) (p .2) (labelOfB l (truthIn table b) || x) l l (o .0) (o .1);
           }
 
-      module _ {us urrs : List ℕ} {r : Labelling} (f : Analysed (commandIn table c) y l ws brrs us urrs r) where
-        -- and what the second requires, after the first
-        pub if-second : length us ≡ length ws → length urrs ≡ length brrs → Analysable table index us urrs d y l
-        unfolding standing
-        if-second g h =
-            record {
-              node = child-of-sort (pre .node .indexed) (p .2);
-              distinct = distinct-part {c = if n (truthIn table b) (commandIn table c) (commandIn table d)} (λ k. omega arith) if-distinct;
-              room = same-room entered-room g h (f .fit);
-              inOrder = second-ready n (commandIn table c) (commandIn table d) if-once w (f .outside) y l (rw e (if-order .1));
-            }
-
-        -- both leave what the if does
-        pub if-both : {v3 a3 : List ℕ} {s t : Labelling} → Analysed (commandIn table d) y l us urrs v3 a3 s → t ≡ join r s → Analysed (commandIn table n) x l vs arrs v3 a3 t
-        if-both g j = rw (p .3) (if-analysed n (commandIn table c) (commandIn table d) if-once w {b = truthIn table b} e f g j)
+      -- they leave what the if does
+      pub if-left : {v3 a3 : List ℕ} {s : Labelling} → SidesAnalysed (truthIn table b) (commandIn table c) (commandIn table d) x l ws brrs v3 a3 s
+          → Analysed (commandIn table n) x l vs arrs v3 a3 s
+      if-left f = rw (p .3) (if-analysed w (commandIn table c) (commandIn table d) if-once f)
 
     module _ (b c : ℕ) (p : Parts table n (While b c)) where
       loop-distinct : Distinct (while n (truthIn table b) (commandIn table c))
@@ -194,3 +242,10 @@ module _ {table index vs arrs ws brrs : List ℕ} {n : ℕ} {x : Bool} {l : Labe
       -- the settled loop leaves what the while does
       pub loop-settled : {v2 a2 : List ℕ} {r : Labelling} → SettledLoop (truthIn table b) (commandIn table c) x l ws brrs v2 a2 r → Analysed (commandIn table n) x l vs arrs v2 a2 r
       loop-settled f = rw (p .2) (while-analysed n (truthIn table b) (commandIn table c) loop-once w f)
+
+-- ---- measures
+pub lower : (k n : ℕ) {t : ℕ} → 2 * n + 2 ≡ t → k < n → 2 * k + 3 < t
+lower k n e h = omega arith
+
+pub pair-lower : (j k n : ℕ) {t : ℕ} → 2 * n + 2 ≡ t → j < n → k < n → 2 * max j k + 3 < t
+pair-lower j k n e g h = omega arith

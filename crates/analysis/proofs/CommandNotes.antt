@@ -2,21 +2,21 @@
 use Prim.Native.Nat.{ℕ, _+_, _*_, _/_, _%_, _≤_, _<_}
 use mathlib.Core.Bool.{Bool, true, false, cond, _||_}
 use mathlib.Core.List.{List}
-use mathlib.Core.Path.{_≡_, refl, sym, ap, ap₂, subst, _∙_}
+use mathlib.Core.Path.{_≡_, refl, sym, subst, _∙_}
 use native.Mathlib.Decide.{ℕ-discrete}
 use native.Mathlib.Omega.{arith}
 use lib.Dec.{eqb}
 use lib.ListN.{length, getD, set}
 use lib.Seq.{getD-set-same, getD-set-other}
 use borrow.Author.Tests.{eq-eqb, ne-eqb, eqb-false}
-use Rattle.awhile.specs.Language.{AExp, BExp, Com, skip, assign, sequence, if, while, read, write, noteOf}
+use Rattle.awhile.specs.Language.{BExp, Com, sequence, if, while, noteOf}
 use Rattle.awhile.specs.declared.Labelling.{Labelling}
-use Rattle.labels.specs.Labellings.{labelOfB, join}
+use Rattle.labels.specs.Labellings.{labelOfB}
 use Rattle.labels.specs.Analysis.{analyse}
 use Rattle.labels.specs.Annotation.{entered, annotate}
 use Rattle.analysis.specs.Notes.{noteIn, arrayNote, Noted}
 use Rattle.analysis.specs.Warm.{standing, Distinct, Outside, InOrder}
-use Rattle.analysis.specs.Conditions.{Analysed, SettledLoop}
+use Rattle.analysis.specs.Conditions.{Analysed, PairAnalysed, SequenceAnalysed, SidesAnalysed, SettledLoop}
 use Rattle.labels.proofs.Masks.{digit-small}
 use Rattle.analysis.proofs.Warm.{SameOn, outside-same, in-order-same, in-order-loop, noted-same}
 
@@ -67,9 +67,6 @@ apart false k h g = refl
 pub distinct-part : {c d : Com ℕ} → ((p : ℕ) → standing p d ≤ standing p c) → Distinct c → Distinct d
 distinct-part h o = record { once = λ p. omega (arith, h p, o .once p) }
 
-same-then : {c : Com ℕ} {vs arrs ws brrs us urrs : List ℕ} → SameOn c vs arrs ws brrs → SameOn c ws brrs us urrs → SameOn c vs arrs us urrs
-same-then f g = record { same = λ p h. g .same p h ∙ f .same p h }
-
 module _ {n : ℕ} {x : Bool} {l : Labelling} {v0 a0 v1 a1 : List ℕ} (w : NotedAt n x l v0 a0 v1 a1) where
   note-apart : {c : Com ℕ} → ((p : ℕ) → cond (eqb p n) 1 0 + standing p c ≤ 1) → SameOn c v0 a0 v1 a1
   note-apart {c} once = record { same = λ p h. w .others p (apart (eqb p n) (standing p c) (once p) h) }
@@ -85,85 +82,59 @@ module _ {n : ℕ} {x : Bool} {l : Labelling} {v0 a0 v1 a1 : List ℕ} (w : Note
 own-apart : (n k : ℕ) → cond (eqb n n) 1 0 + k ≤ 1 → k ≡ 0
 own-apart n k h = let e : eqb n n ≡ true = eq-eqb n n refl in omega (arith, rw e at h)
 
--- ---- commands without parts
-module _ {n : ℕ} {x : Bool} {l : Labelling} {v0 a0 v1 a1 : List ℕ} (w : NotedAt n x l v0 a0 v1 a1) (fit : (p : ℕ) → getD a0 p 0 < 131072) where
-  -- a skip is noted, and changes nothing
-  pub skip-analysed : Analysed (skip n) x l v0 a0 v1 a1 l
-  unfolding analyse annotate standing
-  skip-analysed = record { answers = refl; notes = w .here; outside = record { same = λ p h. note-outside w p (omega arith) }; fit = w .fit fit }
+-- a command that stands alone leaves its own note
+pub alone-analysed : {n : ℕ} {x : Bool} {l : Labelling} {v0 a0 v1 a1 : List ℕ} → NotedAt n x l v0 a0 v1 a1 → ((p : ℕ) → getD a0 p 0 < 131072)
+    → (c : Com ℕ) → ((p : ℕ) → standing p c ≡ cond (eqb p n) 1 0) → Noted v1 a1 (annotate c x l) → {r : Labelling} → r ≡ analyse c x l → Analysed c x l v0 a0 v1 a1 r
+alone-analysed w fit c alone notes q =
+    record { answers = q; notes = notes; outside = record { same = λ p h. note-outside w p (omega (arith, alone p)) }; fit = w .fit fit }
 
-  -- an assignment is noted, and sets one label
-  pub assign-analysed : {v : ℕ} {e : AExp} {r : Labelling} → r ≡ analyse (assign n v e) x l → Analysed (assign n v e) x l v0 a0 v1 a1 r
-  unfolding annotate standing
-  assign-analysed q = record { answers = q; notes = w .here; outside = record { same = λ p h. note-outside w p (omega arith) }; fit = w .fit fit }
+-- ---- two commands, analysed one after the other
+module _ (c d : Com ℕ) (apart : (p : ℕ) → standing p c + standing p d ≤ 1) {v1 a1 v2 a2 : List ℕ} where
+  -- the kept masks stay in order for the second
+  pub second-ready : (y : Bool) (m : Labelling) → Outside c v1 a1 v2 a2 → InOrder v1 a1 d y m → InOrder v2 a2 d y m
+  second-ready y m o h = in-order-same d y m (outside-same {c = d} (λ p. omega (arith, apart p)) o) h
 
-  -- so is a read
-  pub read-analysed : {v a : ℕ} {i : AExp} {r : Labelling} → r ≡ analyse (read n v a i) x l → Analysed (read n v a i) x l v0 a0 v1 a1 r
-  unfolding annotate standing
-  read-analysed q = record { answers = q; notes = w .here; outside = record { same = λ p h. note-outside w p (omega arith) }; fit = w .fit fit }
+  -- the notes of the first stay
+  pub pair-analysed : {y : Bool} {l m r s : Labelling} {v3 a3 : List ℕ} → Analysed c y l v1 a1 v2 a2 r → Analysed d y m v2 a2 v3 a3 s
+      → PairAnalysed c d y l m v1 a1 v3 a3
+  pair-analysed {y} {l} f g =
+      record {
+        firstNotes = noted-same c y l (outside-same {c = c} (λ p. omega (arith, apart p)) (g .outside)) (f .notes);
+        secondNotes = g .notes;
+        outside = λ p h. g .outside .same p (omega arith) ∙ f .outside .same p (omega arith);
+        fit = g .fit;
+      }
 
-  -- and a write
-  pub write-analysed : {a : ℕ} {i e : AExp} {r : Labelling} → r ≡ analyse (write n a i e) x l → Analysed (write n a i e) x l v0 a0 v1 a1 r
-  unfolding annotate standing
-  write-analysed q = record { answers = q; notes = w .here; outside = record { same = λ p h. note-outside w p (omega arith) }; fit = w .fit fit }
+-- a command that is noted before its parts are analysed
+module _ {n : ℕ} {x : Bool} {l : Labelling} {v0 a0 v1 a1 : List ℕ} (w : NotedAt n x l v0 a0 v1 a1) where
+  -- the kept masks are in order for a part
+  pub part-ready : (c : Com ℕ) → ((p : ℕ) → cond (eqb p n) 1 0 + standing p c ≤ 1) → (y : Bool) (m : Labelling) → InOrder v0 a0 c y m → InOrder v1 a1 c y m
+  part-ready c once y m h = in-order-same c y m (note-apart w once) h
 
--- ---- commands with two parts, analysed one after the other
-module _ (n : ℕ) (c d : Com ℕ) (once : (p : ℕ) → cond (eqb p n) 1 0 + standing p c + standing p d ≤ 1)
-    {x : Bool} {l : Labelling} {v0 a0 v1 a1 : List ℕ} (w : NotedAt n x l v0 a0 v1 a1) where
-  -- the kept masks are in order for the first part
-  pub first-ready : (y : Bool) (m : Labelling) → InOrder v0 a0 c y m → InOrder v1 a1 c y m
-  first-ready y m h = in-order-same c y m (note-apart w (λ p. omega (arith, once p))) h
-
-  module _ {v2 a2 : List ℕ} (o : Outside c v1 a1 v2 a2) where
-    -- and for the second after it
-    pub second-ready : (y : Bool) (m : Labelling) → InOrder v0 a0 d y m → InOrder v2 a2 d y m
-    second-ready y m h =
-        in-order-same d y m (same-then (note-apart w (λ p. omega (arith, once p))) (outside-same {c = d} (λ p. omega (arith, once p)) o)) h
-
-    module _ {v3 a3 : List ℕ} (q : Outside d v2 a2 v3 a3) where
+  module _ (c d : Com ℕ) (once : (p : ℕ) → cond (eqb p n) 1 0 + standing p c + standing p d ≤ 1) {v3 a3 : List ℕ} where
+    module _ {y : Bool} {k m : Labelling} (g : PairAnalysed c d y k m v1 a1 v3 a3) where
       own-note : noteIn v3 a3 n ≡ entered n x l
-      own-note =
-          let both : standing n c + standing n d ≡ 0 = own-apart n (standing n c + standing n d) (omega (arith, once n)) in
-          q .same n (omega arith) ∙ o .same n (omega arith) ∙ w .here
+      own-note = g .outside n (own-apart n (standing n c + standing n d) (omega (arith, once n))) ∙ w .here
 
-      first-stays : (y : Bool) (m : Labelling) → Noted v2 a2 (annotate c y m) → Noted v3 a3 (annotate c y m)
-      first-stays y m h = noted-same c y m (outside-same {c = c} (λ p. omega (arith, once p)) q) h
+      over-pair : (whole : Com ℕ) → ((p : ℕ) → standing p whole ≡ cond (eqb p n) 1 0 + standing p c + standing p d) → Noted v3 a3 (annotate whole x l)
+          → {s : Labelling} → s ≡ analyse whole x l → Analysed whole x l v0 a0 v3 a3 s
+      over-pair whole stands notes q =
+          record {
+            answers = q;
+            notes = notes;
+            outside = record { same = λ p h. g .outside p (omega (arith, stands p)) ∙ note-outside w p (omega (arith, stands p)) };
+            fit = g .fit;
+          }
 
-      both-outside : (p : ℕ) → cond (eqb p n) 1 0 + standing p c + standing p d ≤ 0 → noteIn v3 a3 p ≡ noteIn v0 a0 p
-      both-outside p h = q .same p (omega arith) ∙ o .same p (omega arith) ∙ note-outside w p (omega arith)
+    -- a sequence's parts leave what the sequence does
+    pub sequence-analysed : {s : Labelling} → SequenceAnalysed c d x l v1 a1 v3 a3 s → Analysed (sequence n c d) x l v0 a0 v3 a3 s
+    unfolding analyse annotate standing
+    sequence-analysed f = over-pair (f .both) (sequence n c d) (λ p. refl) (own-note (f .both), f .both .firstNotes, f .both .secondNotes) (f .answers)
 
-  -- a sequence's second part is entered with what its first part leaves
-  pub sequence-analysed : {v2 a2 v3 a3 : List ℕ} {r s : Labelling} → Analysed c x l v1 a1 v2 a2 r → Analysed d x r v2 a2 v3 a3 s
-      → Analysed (sequence n c d) x l v0 a0 v3 a3 s
-  unfolding analyse annotate standing
-  sequence-analysed {v2} {a2} {v3} {a3} {r} {s} f g =
-      let e = f .answers in
-      record {
-        answers = g .answers ∙ ap (analyse d x) e;
-        notes = (
-          own-note (f .outside) (g .outside),
-          first-stays (f .outside) (g .outside) x l (f .notes),
-          subst (λ m. Noted v3 a3 (annotate d x m)) e (g .notes),
-        );
-        outside = record { same = λ p h. both-outside (f .outside) (g .outside) p (omega arith) };
-        fit = g .fit;
-      }
-
-  -- both sides of an if are entered with what enters it
-  pub if-analysed : {b : BExp} {y : Bool} {v2 a2 v3 a3 : List ℕ} {r s t : Labelling} → y ≡ (labelOfB l b || x) → Analysed c y l v1 a1 v2 a2 r
-      → Analysed d y l v2 a2 v3 a3 s → t ≡ join r s → Analysed (if n b c d) x l v0 a0 v3 a3 t
-  unfolding analyse annotate standing
-  if-analysed {b} {y} {v2} {a2} {v3} {a3} {r} {s} {t} e f g j =
-      record {
-        answers = j ∙ ap₂ join (f .answers ∙ ap (λ z. analyse c z l) e) (g .answers ∙ ap (λ z. analyse d z l) e);
-        notes = (
-          own-note (f .outside) (g .outside),
-          subst (λ z. Noted v3 a3 (annotate c z l)) e (first-stays (f .outside) (g .outside) y l (f .notes)),
-          subst (λ z. Noted v3 a3 (annotate d z l)) e (g .notes),
-        );
-        outside = record { same = λ p h. both-outside (f .outside) (g .outside) p (omega arith) };
-        fit = g .fit;
-      }
+    -- an if's sides leave what the if does
+    pub if-analysed : {b : BExp} {s : Labelling} → SidesAnalysed b c d x l v1 a1 v3 a3 s → Analysed (if n b c d) x l v0 a0 v3 a3 s
+    unfolding analyse annotate standing
+    if-analysed {b} f = over-pair (f .both) (if n b c d) (λ p. refl) (own-note (f .both), f .both .firstNotes, f .both .secondNotes) (f .answers)
 
 -- ---- loops
 module _ (n : ℕ) (b : BExp) (c : Com ℕ) (once : (p : ℕ) → cond (eqb p n) 1 0 + standing p c ≤ 1)

@@ -10,4 +10,5 @@ pub mod SheetRecords
 pub mod SheetNodes
 pub mod Stored
 pub mod SheetLengths
+pub mod RecordWrites
 pub mod WholeProgram

@@ -1,5 +1,5 @@
 -- What the functions of src/ require of a table, its index and the notes, and what the analysis leaves.
-use Prim.Native.Nat.{ℕ, _<_, _≤_}
+use Prim.Native.Nat.{ℕ, _+_, _<_, _≤_}
 use mathlib.Core.Bool.{Bool, false, _||_}
 use mathlib.Core.List.{List}
 use mathlib.Core.Path.{_≡_}
@@ -14,12 +14,12 @@ use Rattle.awhile.specs.declared.Node.{Node}
 use Rattle.awhile.specs.declared.Node.the-variants.{Sequence, If, While}
 use Rattle.awhile.specs.declared.Sort.{Sort}
 use Rattle.awhile.specs.declared.Sort.the-variants.{Truth, Command}
-use Rattle.labels.specs.Labellings.{labelOfB}
+use Rattle.labels.specs.Labellings.{labelOfB, join}
 use Rattle.labels.specs.Analysis.{analyse}
 use Rattle.labels.specs.Annotation.{annotate}
-use Rattle.analysis.specs.Notes.{Noted}
+use Rattle.analysis.specs.Notes.{noteIn, Noted}
 use Rattle.labels.specs.Sheet.{annotated}
-use Rattle.analysis.specs.Warm.{Distinct, Outside, InOrder}
+use Rattle.analysis.specs.Warm.{standing, Distinct, Outside, InOrder}
 
 -- a node of this sort, in a table that was read and indexed
 pub record OfSort (table index : List ℕ) (sort : Sort) (n : ℕ) : Type 0 where
@@ -52,6 +52,50 @@ pub record Single (node : Node) : Type 0 where
   pub noSequence : (c d : ℕ) → node ≡ Sequence c d → ⊥
   pub noIf : (b c d : ℕ) → node ≡ If b c d → ⊥
   pub noWhile : (b c : ℕ) → node ≡ While b c → ⊥
+
+-- such a node, in a table that was read and indexed
+pub record SingleIn (table index : List ℕ) (node : Node) : Type 0 where
+  pub at : ℕ
+  pub command : OfSort table index Command at
+  pub isNode : node ≡ nodeIn table at
+  pub single : Single node
+
+-- the labelling after it, wherever it stands
+pub record SingleAnalysed (table : List ℕ) (node : Node) (x : Bool) (l result : Labelling) : Type 0 where
+  pub answers : (n : ℕ) → n < nodesIn table → node ≡ nodeIn table n → result ≡ analyse (commandIn table n) x l
+
+-- what the analysis of two commands one after the other requires, each entered with a labelling of its own
+pub record PairAnalysable (table index vs arrs : List ℕ) (first second : ℕ) (x : Bool) (l m : Labelling) : Type 0 where
+  pub firstNode : OfSort table index Command first
+  pub secondNode : OfSort table index Command second
+  pub apart : (p : ℕ) → standing p (commandIn table first) + standing p (commandIn table second) ≤ 1
+  pub room : NoteRoom table vs arrs
+  pub firstInOrder : InOrder vs arrs (commandIn table first) x l
+  pub secondInOrder : InOrder vs arrs (commandIn table second) x m
+
+-- and what it leaves: the notes of both, and all other notes as they were
+pub record PairAnalysed (c d : Com ℕ) (x : Bool) (l m : Labelling) (vs arrs ws brrs : List ℕ) : Type 0 where
+  pub firstNotes : Noted ws brrs (annotate c x l)
+  pub secondNotes : Noted ws brrs (annotate d x m)
+  pub outside : (p : ℕ) → standing p c + standing p d ≡ 0 → noteIn ws brrs p ≡ noteIn vs arrs p
+  pub fit : (p : ℕ) → getD brrs p 0 < 131072
+
+-- the parts of a sequence: the second is entered with what the first leaves
+abbrev pub SequenceAnalysable : (table index vs arrs : List ℕ) → (first second : ℕ) → Bool → Labelling → Type 0
+SequenceAnalysable table index vs arrs c d x l = PairAnalysable table index vs arrs c d x l (analyse (commandIn table c) x l)
+
+pub record SequenceAnalysed (c d : Com ℕ) (x : Bool) (l : Labelling) (vs arrs ws brrs : List ℕ) (result : Labelling) : Type 0 where
+  pub answers : result ≡ analyse d x (analyse c x l)
+  pub both : PairAnalysed c d x l (analyse c x l) vs arrs ws brrs
+
+-- the sides of an if: both are entered with what enters it, in the context of its condition
+pub record SidesAnalysable (table index vs arrs : List ℕ) (condition first second : ℕ) (x : Bool) (l : Labelling) : Type 0 where
+  pub test : OfSort table index Truth condition
+  pub both : PairAnalysable table index vs arrs first second (labelOfB l (truthIn table condition) || x) l l
+
+pub record SidesAnalysed (b : BExp) (c d : Com ℕ) (x : Bool) (l : Labelling) (vs arrs ws brrs : List ℕ) (result : Labelling) : Type 0 where
+  pub answers : result ≡ join (analyse c (labelOfB l b || x) l) (analyse d (labelOfB l b || x) l)
+  pub both : PairAnalysed c d (labelOfB l b || x) l l vs arrs ws brrs
 
 -- what settling a loop requires, from its condition and its body
 pub record Settleable (table index vs arrs : List ℕ) (condition body : ℕ) (x : Bool) (l : Labelling) : Type 0 where

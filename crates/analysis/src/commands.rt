@@ -16,10 +16,11 @@ use reader::lookup::command_at;
 ghost use Prim.Native.Nat.{_<_};
 ghost use mathlib.Core.Bool.{_||_};
 ghost use mathlib.Core.Path.{_≡_};
-ghost use Rattle.reader.specs.Index.{nodeIn, numericIn, truthIn, commandIn};
+ghost use Rattle.reader.specs.Index.{numericIn, truthIn, commandIn};
 ghost use Rattle.awhile.specs.declared.Sort.the-variants.{Numeric, Truth};
 ghost use Rattle.labels.specs.Analysis.{readLabel, writeLabel};
-ghost use Rattle.analysis.specs.Conditions.{OfSort, Single, Analysable, Analysed, Settleable, SettledLoop};
+ghost use Rattle.analysis.specs.Conditions.{OfSort, SingleIn, SingleAnalysed, Analysable, Analysed};
+ghost use Rattle.analysis.specs.Conditions.{SequenceAnalysable, SequenceAnalysed, SidesAnalysable, SidesAnalysed, Settleable, SettledLoop};
 ghost use Rattle.labels.specs.Labellings.{variableMark, arrayMark, setLabel, labelOfA, labelOfB};
 
 // The context of what a condition guards.
@@ -115,22 +116,17 @@ fn after_write(
     label_array(labels, array, secret)
 }
 
-// A command without command parts: a skip, an assignment, a read or a write.
-fn analyse_single(
+// The labelling after a command without command parts: a skip, an assignment, a read or a write.
+fn after_single(
     table: &[u8],
     index: &[u16],
-    variables: &mut [u64],
-    arrays: &mut [u32],
-    n: usize,
     node: Node,
     context: bool,
     labels: Labelling,
 ) -> Labelling
-    requires { ⌜ Analysable (now table) (now index) (now variables) (now arrays) n context labels × (node ≡ nodeIn (now table) n) × Single node ⌝ }
-    ensures { λ r. ⌜ Analysed (commandIn (now (table .entry)) n) context labels
-        (now (variables .entry)) (now (arrays .entry)) (now (variables .exit)) (now (arrays .exit)) r ⌝ }
+    requires { ⌜ SingleIn (now table) (now index) node ⌝ }
+    ensures { λ r. ⌜ SingleAnalysed (now (table .entry)) node context labels r ⌝ }
 {
-    note(&mut *variables, &mut *arrays, n, context, labels);
     match node {
         Node::Assign { variable, value } => after_assign(
             table,
@@ -150,7 +146,7 @@ fn analyse_single(
             index: cell,
             value,
         } => after_write(table, index, array, cell, value, context, labels),
-        // skip; nodes of other sorts never stand here
+        // a skip; nodes of other sorts never stand here
         _ => labels,
     }
 }
@@ -193,23 +189,21 @@ fn settle(
     settled
 }
 
-// A sequence: its second part is entered with what its first part leaves.
+// The parts of a sequence: the second is entered with what the first leaves.
 fn analyse_sequence(
     table: &[u8],
     index: &[u16],
     variables: &mut [u64],
     arrays: &mut [u32],
-    n: usize,
     first: usize,
     second: usize,
     context: bool,
     labels: Labelling,
 ) -> Labelling
-    requires { ⌜ Analysable (now table) (now index) (now variables) (now arrays) n context labels × (nodeIn (now table) n ≡ Node.Sequence first second) ⌝ }
-    ensures { λ r. ⌜ Analysed (commandIn (now (table .entry)) n) context labels
+    requires { ⌜ SequenceAnalysable (now table) (now index) (now variables) (now arrays) first second context labels ⌝ }
+    ensures { λ r. ⌜ SequenceAnalysed (commandIn (now (table .entry)) first) (commandIn (now (table .entry)) second) context labels
         (now (variables .entry)) (now (arrays .entry)) (now (variables .exit)) (now (arrays .exit)) r ⌝ }
 {
-    note(&mut *variables, &mut *arrays, n, context, labels);
     let between = analyse(
         table,
         index,
@@ -230,24 +224,22 @@ fn analyse_sequence(
     )
 }
 
-// An if: both sides are entered with what enters it, in the context of its condition.
+// The sides of an if: both are entered with what enters it, in the context of its condition.
 fn analyse_if(
     table: &[u8],
     index: &[u16],
     variables: &mut [u64],
     arrays: &mut [u32],
-    n: usize,
     condition: usize,
     yes: usize,
     no: usize,
     context: bool,
     labels: Labelling,
 ) -> Labelling
-    requires { ⌜ Analysable (now table) (now index) (now variables) (now arrays) n context labels × (nodeIn (now table) n ≡ Node.If condition yes no) ⌝ }
-    ensures { λ r. ⌜ Analysed (commandIn (now (table .entry)) n) context labels
+    requires { ⌜ SidesAnalysable (now table) (now index) (now variables) (now arrays) condition yes no context labels ⌝ }
+    ensures { λ r. ⌜ SidesAnalysed (truthIn (now (table .entry)) condition) (commandIn (now (table .entry)) yes) (commandIn (now (table .entry)) no) context labels
         (now (variables .entry)) (now (arrays .entry)) (now (variables .exit)) (now (arrays .exit)) r ⌝ }
 {
-    note(&mut *variables, &mut *arrays, n, context, labels);
     let inner = guarded(table, index, condition, context, labels);
     let left = analyse(
         table,
@@ -285,56 +277,39 @@ pub fn analyse(
         (now (variables .entry)) (now (arrays .entry)) (now (variables .exit)) (now (arrays .exit)) r ⌝ }
 {
     let node = command_at(table, index, n);
+    note(&mut *variables, &mut *arrays, n, context, labels);
     match node {
-        Node::Sequence { first, second } => {
-            analyse_sequence(
-                table,
-                index,
-                &mut *variables,
-                &mut *arrays,
-                n,
-                first,
-                second,
-                context,
-                labels,
-            )
-        }
-        Node::If { condition, yes, no } => {
-            analyse_if(
-                table,
-                index,
-                &mut *variables,
-                &mut *arrays,
-                n,
-                condition,
-                yes,
-                no,
-                context,
-                labels,
-            )
-        }
-        Node::While { condition, body } => {
-            note(&mut *variables, &mut *arrays, n, context, labels);
-            settle(
-                table,
-                index,
-                &mut *variables,
-                &mut *arrays,
-                condition,
-                body,
-                context,
-                labels,
-            )
-        }
-        _ => analyse_single(
+        Node::Sequence { first, second } => analyse_sequence(
             table,
             index,
             &mut *variables,
             &mut *arrays,
-            n,
-            node,
+            first,
+            second,
             context,
             labels,
         ),
+        Node::If { condition, yes, no } => analyse_if(
+            table,
+            index,
+            &mut *variables,
+            &mut *arrays,
+            condition,
+            yes,
+            no,
+            context,
+            labels,
+        ),
+        Node::While { condition, body } => settle(
+            table,
+            index,
+            &mut *variables,
+            &mut *arrays,
+            condition,
+            body,
+            context,
+            labels,
+        ),
+        _ => after_single(table, index, node, context, labels),
     }
 }

@@ -96,29 +96,11 @@ fn command_size(table: &[u8], index: &[u16], n: usize) -> usize
 {
     let node = command_at(table, index, n);
     match node {
-        Node::Sequence {
-            first: _,
-            second: _,
-        } => 12,
-        Node::If {
-            condition: _,
-            yes: _,
-            no: _,
-        } => 8,
-        Node::While {
-            condition: _,
-            body: _,
-        } => 14,
-        Node::Read {
-            variable: _,
-            array: _,
-            index: _,
-        } => 10,
-        Node::Write {
-            array: _,
-            index: _,
-            value: _,
-        } => 8,
+        Node::Sequence { .. } => 12,
+        Node::If { .. } => 8,
+        Node::While { .. } => 14,
+        Node::Read { .. } => 10,
+        Node::Write { .. } => 8,
         _ => 0,
     }
 }
@@ -165,15 +147,11 @@ fn put_command(
 {
     let node = command_at(table, index, n);
     match node {
-        Node::Sequence { first: _, second } => {
+        Node::Sequence { second, .. } => {
             let masks = noted_labelling(variables, arrays, second);
             put_sequence(&mut *out, at, n, masks)
         }
-        Node::If {
-            condition,
-            yes: _,
-            no: _,
-        } => {
+        Node::If { condition, .. } => {
             let labels = noted_labelling(variables, arrays, n);
             let secret = truth_label(table, index, labels, condition);
             put_labelled(&mut *out, at, 8, 130, n, secret);
@@ -186,9 +164,9 @@ fn put_command(
             put_loop(&mut *out, at, n, secret, masks)
         }
         Node::Read {
-            variable: _,
             array,
             index: cell,
+            ..
         } => {
             let labels = noted_labelling(variables, arrays, n);
             let context = noted_context(arrays, n);
@@ -196,11 +174,7 @@ fn put_command(
             let place = numeric_label(table, index, labels, cell);
             put_read(&mut *out, at, n, secret, place)
         }
-        Node::Write {
-            array: _,
-            index: cell,
-            value: _,
-        } => {
+        Node::Write { index: cell, .. } => {
             let labels = noted_labelling(variables, arrays, n);
             let secret = numeric_label(table, index, labels, cell);
             put_labelled(&mut *out, at, 8, 133, n, secret);

@@ -27,19 +27,27 @@ pub sized-same : {x y n b : ℕ} {r : Size} → SameSize x y n b → Sized x y r
 sized-same e s = record { nodesCounted = omega (arith, e .nodesSame, s .nodesCounted); bytesCounted = omega (arith, e .bytesSame, s .bytesCounted) }
 
 module _ (f : ℕ) where
-  -- a masked condition
-  pub same-test : (mask : Bool) (b : BExp) {s : Size} → Sized (nodesOfB b) (bytesOfB b) s
-      → SameSize (s .nodes + cond mask 4 0) (s .bytes + cond mask 30 0) (nodesOfB (maskedCondition f mask b)) (bytesOfB (maskedCondition f mask b))
-  unfolding maskedCondition nodesOfB bytesOfB
-  same-test true b s = record { nodesSame = omega (arith, s .nodesCounted); bytesSame = omega (arith, s .bytesCounted) }
-  same-test false b s = record { nodesSame = omega (arith, s .nodesCounted); bytesSame = omega (arith, s .bytesCounted) }
+  -- a condition with its mask, and one without
+  module _ {mask : Bool} (b : BExp) {s : Size} where
+    pub masked-test : mask ≡ true → Sized (nodesOfB b) (bytesOfB b) s
+        → SameSize (s .nodes + 4) (s .bytes + 30) (nodesOfB (maskedCondition f mask b)) (bytesOfB (maskedCondition f mask b))
+    unfolding maskedCondition nodesOfB bytesOfB
+    masked-test e z = rw e (record { nodesSame = omega (arith, z .nodesCounted); bytesSame = omega (arith, z .bytesCounted) })
 
-  -- a masked index
-  pub same-place : (mask : Bool) (i : AExp) {s : Size} → Sized (nodesOfA i) (bytesOfA i) s
-      → SameSize (s .nodes + cond mask 5 0) (s .bytes + cond mask 40 0) (nodesOfA (maskedIndex f mask i)) (bytesOfA (maskedIndex f mask i))
-  unfolding maskedIndex zeroIfGuessing nodesOfA bytesOfA
-  same-place true i s = record { nodesSame = omega (arith, s .nodesCounted); bytesSame = omega (arith, s .bytesCounted) }
-  same-place false i s = record { nodesSame = omega (arith, s .nodesCounted); bytesSame = omega (arith, s .bytesCounted) }
+    pub bare-test : mask ≡ false → Sized (nodesOfB b) (bytesOfB b) s → Sized (nodesOfB (maskedCondition f mask b)) (bytesOfB (maskedCondition f mask b)) s
+    unfolding maskedCondition
+    bare-test e z = rw e z
+
+  -- an index with its mask, and one without
+  module _ {mask : Bool} (i : AExp) {s : Size} where
+    pub masked-place : mask ≡ true → Sized (nodesOfA i) (bytesOfA i) s
+        → SameSize (s .nodes + 5) (s .bytes + 40) (nodesOfA (maskedIndex f mask i)) (bytesOfA (maskedIndex f mask i))
+    unfolding maskedIndex zeroIfGuessing nodesOfA bytesOfA
+    masked-place e z = rw e (record { nodesSame = omega (arith, z .nodesCounted); bytesSame = omega (arith, z .bytesCounted) })
+
+    pub bare-place : mask ≡ false → Sized (nodesOfA i) (bytesOfA i) s → Sized (nodesOfA (maskedIndex f mask i)) (bytesOfA (maskedIndex f mask i)) s
+    unfolding maskedIndex
+    bare-place e z = rw e z
 
   -- masking adds nodes
   pub mask-nodes-B : (mask : Bool) (b : BExp) → nodesOfB b ≤ nodesOfB (maskedCondition f mask b)

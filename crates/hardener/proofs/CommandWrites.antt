@@ -1,23 +1,25 @@
 -- What comes out for a node of each kind of command, by the notes in memory.
-use Prim.Native.Nat.{ℕ, _+_, _*_, _<_, max}
-use native.Mathlib.Omega.{arith}
+use Prim.Native.Nat.{ℕ}
 use mathlib.Core.Bool.{Bool, true, false, _||_}
 use mathlib.Core.Bool.{not as negated}
 use mathlib.Core.List.{List}
 use mathlib.Core.Option.{some}
-use mathlib.Core.Path.{_≡_, refl, sym, ap, _∙_}
-use Rattle.awhile.specs.Language.{AExp, BExp, Com, skip, assign, sequence, if, while, read, write, noteOf, mapNotes}
+use mathlib.Core.Path.{_≡_, sym, ap, _∙_}
+use Rattle.awhile.specs.Language.{AExp, skip, assign, sequence, if, while, read, write, noteOf, mapNotes}
 use Rattle.awhile.specs.Encoding.{nodesOf, writeC}
 use Rattle.reader.specs.Index.{truthIn, commandIn}
+use Rattle.reader.proofs.Index.{Child}
+use Rattle.awhile.specs.declared.Sort.{Sort}
+use Rattle.awhile.specs.declared.Sort.the-variants.{Command}
+use Rattle.analysis.proofs.ExpressionLabels.{child-of-sort}
 use Rattle.labels.specs.Analysis.{readLabel}
-use Rattle.labels.specs.Annotation.{Entry}
 use Rattle.labels.specs.Labellings.{labelOfA, labelOfB}
 use Rattle.analysis.specs.Notes.{noteIn}
 use Rattle.labels.specs.Sheet.{entryOf}
 use Rattle.awhile.proofs.Notes.{note-mapped}
 use Rattle.masks.specs.Decisions.{decision, decide}
-use Rattle.masks.specs.Hardening.{Origin, maskedCondition, maskedIndex, harden}
-use Rattle.masking.specs.InMemory.{annotatedIn, hardenedIn, flagUpdate, testIn, sideIn, ifIn, loopIn, whileIn}
+use Rattle.masks.specs.Hardening.{harden}
+use Rattle.masking.specs.InMemory.{annotatedIn, hardenedIn, flagUpdate, testIn, sideIn, ifIn, loopIn, whileIn, Hardenable, NotedAt}
 use Rattle.copier.specs.Sizes.{bytesOf}
 use Rattle.copier.specs.Written.{Room, Wrote}
 use Rattle.copier.specs.declared.Size.{Size}
@@ -60,6 +62,14 @@ module _ (table vs arrs : List ℕ) (f n : ℕ) where
   unfolding hardenedIn annotatedIn decide mapNotes noteIn
   in-write p e = rw (p, e)
 
+-- a command that is a part of one that may be hardened may be hardened
+pub child-hardenable : {table index vs arrs : List ℕ} {n k : ℕ} → Hardenable table index vs arrs n → Child table Command n k → Hardenable table index vs arrs k
+child-hardenable pre c = record { node = child-of-sort (pre .node .indexed) c; room = pre .room }
+
+-- an expression that is a part of it may be looked up with its notes
+pub child-noted : {table index vs arrs : List ℕ} {sort : Sort} {n k : ℕ} → Hardenable table index vs arrs n → Child table sort n k → NotedAt table index vs arrs sort k n
+child-noted pre c = record { node = child-of-sort (pre .node .indexed) c; room = pre .room; inside = pre .node .inside }
+
 -- the number that a read is noted with does not show
 module _ (from f x a n : ℕ) (mask : Bool) (i : AExp) {l : List ℕ} where
   pub read-numbered : (hide : Bool) {m : List ℕ} {r : Size} → Wrote (writeC from (harden f (read (decision 0 false mask hide) x a i))) l m r
@@ -74,10 +84,3 @@ module _ (from f x a n : ℕ) (mask : Bool) (i : AExp) {l : List ℕ} where
   unfolding harden nodesOf bytesOf
   read-room-numbered true r = r
   read-room-numbered false r = r
-
--- ---- measures
-pub below-four : (k n : ℕ) {t : ℕ} → 4 * n + 1 ≡ t → k < n → 4 * k + 4 < t
-below-four k n e h = omega arith
-
-pub pair-below-four : (j k n : ℕ) {t : ℕ} → 4 * n + 1 ≡ t → j < n → k < n → 4 * max j k + 4 < t
-pair-below-four j k n e g h = omega arith

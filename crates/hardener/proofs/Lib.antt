@@ -1,4 +1,7 @@
 -- Laws for sizes and writes of hardened commands and tables.
+pub mod TwoParts
 pub mod CommandWrites
+pub mod PartWrites
 pub mod CommandSizes
+pub mod PartSizes
 pub mod TableWrites

@@ -21,7 +21,7 @@ use Rattle.awhile.specs.declared.Labelling.{Labelling}
 use Rattle.reader.proofs.Index.{indexed-root, indexed-root-sort, indexed-well-formed}
 use Rattle.awhile.proofs.Lists.{flatMap-append}
 use Rattle.labels.specs.Analysis.{analyse}
-use Rattle.labels.specs.Annotation.{Entry, annotate}
+use Rattle.labels.specs.Annotation.{annotate}
 use Rattle.labels.specs.Labellings.{labelOfB}
 use Rattle.analysis.specs.Notes.{noteIn, Noted}
 use Rattle.labels.specs.Sheet.{annotated}

@@ -1,2 +1,3 @@
--- What writing a hardened table requires and leaves.
+-- What comes out by a command's fields, and what writing a hardened table requires and leaves.
+pub mod Forms
 pub mod Output

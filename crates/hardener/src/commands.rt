@@ -15,28 +15,57 @@ use masking::deciding::mask_value;
 use masking::masked::copy_condition;
 use masking::masked::put_flag_update;
 use reader::lookup::command_at;
-ghost use Prim.Native.Nat.{_+_};
+ghost use Prim.Native.Nat.{_+_, _<_};
 ghost use mathlib.Core.Bool.{true, false};
 ghost use mathlib.Core.Option.{none};
+ghost use mathlib.Core.Path.{_≡_};
 ghost use Rattle.awhile.specs.Encoding.{nodesOf, writeC};
-ghost use Rattle.awhile.specs.declared.Sort.the-variants.{Truth};
-ghost use Rattle.analysis.specs.Conditions.{OfSort};
+ghost use Rattle.awhile.specs.declared.Sort.the-variants.{Numeric, Truth};
+ghost use Rattle.reader.specs.Index.{nodesIn, nodeIn};
+ghost use Rattle.analysis.specs.Conditions.{OfSort, Single};
+ghost use Rattle.hardener.specs.Forms.{assignIn, sequenceIn, secretAt};
 ghost use Rattle.masking.specs.InMemory.{hardenedIn, sideIn, ifIn, loopIn, whileIn, Hardenable};
 ghost use Rattle.copier.specs.Sizes.{bytesOf};
 ghost use Rattle.copier.specs.Written.{Room, Wrote, WroteTwo};
 
-// Hardens a command.
-pub fn harden_command(
+// An assignment: its value, and the node.
+fn harden_assign(
+    table: &[u8],
+    index: &[u16],
+    variable: usize,
+    value: usize,
+    from: usize,
+    out: &mut [u8],
+) -> Size
+    requires { ⌜ OfSort (now table) (now index) Numeric value ⌝ }
+    requires { ⌜ Room from (nodesOf (assignIn (now table) variable value)) (bytesOf (assignIn (now table) variable value)) (now out) ⌝ }
+    ensures { λ r. ⌜ Wrote (writeC from (assignIn (now (table .entry)) variable value)) (now (out .entry)) (now (out .exit)) r ⌝ }
+{
+    let part = copy_numeric(table, index, value, from, &mut *out);
+    append(
+        out,
+        part.nodes,
+        part.bytes,
+        Node::Assign {
+            variable,
+            value: last(from, part.nodes),
+        },
+    )
+}
+
+// A command without command parts: a skip, an assignment, a read or a write.
+fn harden_single(
     table: &[u8],
     index: &[u16],
     variables: &[u64],
     arrays: &[u32],
     flag: usize,
     n: usize,
+    node: Node,
     from: usize,
     out: &mut [u8],
 ) -> Size
-    requires { ⌜ Hardenable (now table) (now index) (now variables) (now arrays) n ⌝ }
+    requires { ⌜ Hardenable (now table) (now index) (now variables) (now arrays) n × (node ≡ nodeIn (now table) n) × Single node ⌝ }
     requires { ⌜
         Room from
         (nodesOf (hardenedIn (now table) (now variables) (now arrays) flag n))
@@ -45,77 +74,8 @@ pub fn harden_command(
     ensures { λ r. ⌜
         Wrote (writeC from (hardenedIn (now (table .entry)) (now (variables .entry)) (now (arrays .entry)) flag n)) (now (out .entry)) (now (out .exit)) r ⌝ }
 {
-    let node = command_at(table, index, n);
     match node {
-        Node::Skip => append(out, 0, 0, node),
-        Node::Assign { variable, value } => {
-            let part = copy_numeric(table, index, value, from, &mut *out);
-            append(
-                out,
-                part.nodes,
-                part.bytes,
-                Node::Assign {
-                    variable,
-                    value: last(from, part.nodes),
-                },
-            )
-        }
-        Node::Sequence { first, second } => {
-            let one = harden_command(
-                table,
-                index,
-                variables,
-                arrays,
-                flag,
-                first,
-                from,
-                &mut *out,
-            );
-            let at = one.bytes;
-            let two = harden_command(
-                table,
-                index,
-                variables,
-                arrays,
-                flag,
-                second,
-                from + one.nodes,
-                &mut out[at..],
-            );
-            append_sequence(out, from, one, two)
-        }
-        Node::If { condition, yes, no } => {
-            let mask = mask_condition(table, index, variables, arrays, condition, n);
-            harden_if(
-                table,
-                index,
-                variables,
-                arrays,
-                flag,
-                condition,
-                mask,
-                yes,
-                no,
-                from,
-                out,
-            )
-        }
-        Node::While { condition, body } => {
-            // a loop's condition is labelled by what settled, which enters its body
-            let mask = mask_condition(table, index, variables, arrays, condition, body);
-            harden_while(
-                table,
-                index,
-                variables,
-                arrays,
-                flag,
-                condition,
-                mask,
-                body,
-                from,
-                out,
-            )
-        }
+        Node::Assign { variable, value } => harden_assign(table, index, variable, value, from, out),
         Node::Read {
             variable,
             array,
@@ -144,9 +104,116 @@ pub fn harden_command(
             let mask = mask_index(table, index, variables, arrays, place, n);
             harden_write(table, index, flag, array, place, value, mask, from, out)
         }
-        // nodes of other sorts never stand here
-        _ => Size { nodes: 0, bytes: 0 },
+        // a skip; nodes of other sorts never stand here
+        _ => append(out, 0, 0, Node::Skip),
     }
+}
+
+// Hardens a command.
+pub fn harden_command(
+    table: &[u8],
+    index: &[u16],
+    variables: &[u64],
+    arrays: &[u32],
+    flag: usize,
+    n: usize,
+    from: usize,
+    out: &mut [u8],
+) -> Size
+    requires { ⌜ Hardenable (now table) (now index) (now variables) (now arrays) n ⌝ }
+    requires { ⌜
+        Room from
+        (nodesOf (hardenedIn (now table) (now variables) (now arrays) flag n))
+        (bytesOf (hardenedIn (now table) (now variables) (now arrays) flag n))
+        (now out) ⌝ }
+    ensures { λ r. ⌜
+        Wrote (writeC from (hardenedIn (now (table .entry)) (now (variables .entry)) (now (arrays .entry)) flag n)) (now (out .entry)) (now (out .exit)) r ⌝ }
+{
+    let node = command_at(table, index, n);
+    match node {
+        Node::Sequence { first, second } => harden_sequence(
+            table,
+            index,
+            variables,
+            arrays,
+            flag,
+            first,
+            second,
+            from,
+            out,
+        ),
+        Node::If { condition, yes, no } => harden_if(
+            table,
+            index,
+            variables,
+            arrays,
+            flag,
+            n,
+            condition,
+            yes,
+            no,
+            from,
+            out,
+        ),
+        Node::While { condition, body } => harden_while(
+            table,
+            index,
+            variables,
+            arrays,
+            flag,
+            condition,
+            body,
+            from,
+            out,
+        ),
+        _ => harden_single(table, index, variables, arrays, flag, n, node, from, out),
+    }
+}
+
+// A sequence: both commands, one behind the other, and the node.
+fn harden_sequence(
+    table: &[u8],
+    index: &[u16],
+    variables: &[u64],
+    arrays: &[u32],
+    flag: usize,
+    first: usize,
+    second: usize,
+    from: usize,
+    out: &mut [u8],
+) -> Size
+    requires { ⌜ Hardenable (now table) (now index) (now variables) (now arrays) first × Hardenable (now table) (now index) (now variables) (now arrays) second ⌝ }
+    requires { ⌜
+        Room from
+        (nodesOf (sequenceIn (now table) (now variables) (now arrays) flag first second))
+        (bytesOf (sequenceIn (now table) (now variables) (now arrays) flag first second))
+        (now out) ⌝ }
+    ensures { λ r. ⌜
+        Wrote (writeC from (sequenceIn (now (table .entry)) (now (variables .entry)) (now (arrays .entry)) flag first second))
+        (now (out .entry)) (now (out .exit)) r ⌝ }
+{
+    let one = harden_command(
+        table,
+        index,
+        variables,
+        arrays,
+        flag,
+        first,
+        from,
+        &mut *out,
+    );
+    let at = one.bytes;
+    let two = harden_command(
+        table,
+        index,
+        variables,
+        arrays,
+        flag,
+        second,
+        from + one.nodes,
+        &mut out[at..],
+    );
+    append_sequence(out, from, one, two)
 }
 
 // A side of an if, or a loop's body: it begins with the flag's update.
@@ -248,31 +315,32 @@ fn harden_sides(
     both(from, one, two)
 }
 
-// An if: the condition, both sides from the byte where it ended, and the node.
+// An if: its condition, masked where it is secret, both sides from the byte where that ended, and the node.
 fn harden_if(
     table: &[u8],
     index: &[u16],
     variables: &[u64],
     arrays: &[u32],
     flag: usize,
+    n: usize,
     condition: usize,
-    mask: bool,
     first: usize,
     second: usize,
     from: usize,
     out: &mut [u8],
 ) -> Size
-    requires { ⌜ OfSort (now table) (now index) Truth condition
+    requires { ⌜ OfSort (now table) (now index) Truth condition × (n < nodesIn (now table))
         × Hardenable (now table) (now index) (now variables) (now arrays) first × Hardenable (now table) (now index) (now variables) (now arrays) second ⌝ }
     requires { ⌜
         Room from
-        (nodesOf (ifIn (now table) (now variables) (now arrays) flag condition mask none first second))
-        (bytesOf (ifIn (now table) (now variables) (now arrays) flag condition mask none first second))
+        (nodesOf (ifIn (now table) (now variables) (now arrays) flag condition (secretAt (now table) (now variables) (now arrays) n condition) none first second))
+        (bytesOf (ifIn (now table) (now variables) (now arrays) flag condition (secretAt (now table) (now variables) (now arrays) n condition) none first second))
         (now out) ⌝ }
     ensures { λ r. ⌜
-        Wrote (writeC from (ifIn (now (table .entry)) (now (variables .entry)) (now (arrays .entry)) flag condition mask none first second))
+        Wrote (writeC from (ifIn (now (table .entry)) (now (variables .entry)) (now (arrays .entry)) flag condition (secretAt (now (table .entry)) (now (variables .entry)) (now (arrays .entry)) n condition) none first second))
         (now (out .entry)) (now (out .exit)) r ⌝ }
 {
+    let mask = mask_condition(table, index, variables, arrays, condition, n);
     let test = copy_condition(table, index, condition, mask, flag, from, &mut *out);
     let at = test.bytes;
     let sides = harden_sides(
@@ -358,7 +426,6 @@ fn harden_while(
     arrays: &[u32],
     flag: usize,
     condition: usize,
-    mask: bool,
     body: usize,
     from: usize,
     out: &mut [u8],
@@ -366,13 +433,15 @@ fn harden_while(
     requires { ⌜ OfSort (now table) (now index) Truth condition × Hardenable (now table) (now index) (now variables) (now arrays) body ⌝ }
     requires { ⌜
         Room from
-        (nodesOf (whileIn (now table) (now variables) (now arrays) flag condition mask none body))
-        (bytesOf (whileIn (now table) (now variables) (now arrays) flag condition mask none body))
+        (nodesOf (whileIn (now table) (now variables) (now arrays) flag condition (secretAt (now table) (now variables) (now arrays) body condition) none body))
+        (bytesOf (whileIn (now table) (now variables) (now arrays) flag condition (secretAt (now table) (now variables) (now arrays) body condition) none body))
         (now out) ⌝ }
     ensures { λ r. ⌜
-        Wrote (writeC from (whileIn (now (table .entry)) (now (variables .entry)) (now (arrays .entry)) flag condition mask none body))
+        Wrote (writeC from (whileIn (now (table .entry)) (now (variables .entry)) (now (arrays .entry)) flag condition (secretAt (now (table .entry)) (now (variables .entry)) (now (arrays .entry)) body condition) none body))
         (now (out .entry)) (now (out .exit)) r ⌝ }
 {
+    // a loop's condition is labelled by what settled, which enters its body
+    let mask = mask_condition(table, index, variables, arrays, condition, body);
     let whole = harden_loop(
         table,
         index,

@@ -11,17 +11,35 @@ use masking::deciding::mask_value;
 use reader::lookup::command_at;
 ghost use Prim.Native.Nat.{_+_, _*_, _≤_};
 ghost use mathlib.Core.Bool.{cond};
-ghost use Rattle.awhile.specs.Encoding.{nodesOf};
+ghost use mathlib.Core.Path.{_≡_};
+ghost use Rattle.awhile.specs.Encoding.{nodesOfA, nodesOfB, nodesOf};
+ghost use Rattle.awhile.specs.declared.Sort.the-variants.{Numeric, Truth};
+ghost use Rattle.reader.specs.Index.{nodeIn, numericIn};
+ghost use Rattle.analysis.specs.Conditions.{Single};
+ghost use Rattle.masks.specs.Hardening.{maskedIndex};
+ghost use Rattle.hardener.specs.Forms.{secretAt, secretIndexAt};
 ghost use Rattle.awhile.specs.Tables.{maxNodes};
-ghost use Rattle.masking.specs.InMemory.{hardenedIn, Hardenable};
-ghost use Rattle.copier.specs.Sizes.{bytesOf, Sized, Few};
+ghost use Rattle.masking.specs.InMemory.{hardenedIn, testIn, Hardenable, NotedAt};
+ghost use Rattle.copier.specs.Sizes.{bytesOfA, bytesOfB, bytesOf, Sized, Few};
 
 // A condition, with (flag = 0) and .. where it is masked.
-fn test_size(part: Size, mask: bool) -> Size
-    requires { ⌜ Few (part .nodes + cond mask 4 0) (part .bytes + cond mask 30 0) ⌝ }
-    ensures { λ r. ⌜ Sized (part .nodes + cond mask 4 0) (part .bytes + cond mask 30 0) r ⌝ }
+fn condition_size(
+    table: &[u8],
+    index: &[u16],
+    variables: &[u64],
+    arrays: &[u32],
+    condition: usize,
+    at: usize,
+) -> Size
+    requires { ⌜ NotedAt (now table) (now index) (now variables) (now arrays) Truth condition at ⌝ }
+    requires { ⌜ nodesOfB (testIn (now table) (now variables) (now arrays) 0 condition (secretAt (now table) (now variables) (now arrays) at condition)) ≤ maxNodes ⌝ }
+    ensures { λ r. ⌜
+        Sized
+        (nodesOfB (testIn (now (table .entry)) (now (variables .entry)) (now (arrays .entry)) 0 condition (secretAt (now (table .entry)) (now (variables .entry)) (now (arrays .entry)) at condition)))
+        (bytesOfB (testIn (now (table .entry)) (now (variables .entry)) (now (arrays .entry)) 0 condition (secretAt (now (table .entry)) (now (variables .entry)) (now (arrays .entry)) at condition))) r ⌝ }
 {
-    if mask {
+    let part = truth_size(table, index, condition);
+    if mask_condition(table, index, variables, arrays, condition, at) {
         Size {
             nodes: part.nodes + 4,
             bytes: part.bytes + 30,
@@ -32,11 +50,23 @@ fn test_size(part: Size, mask: bool) -> Size
 }
 
 // An index, with (flag = 1) ? 0 : .. where it is masked.
-fn place_size(part: Size, mask: bool) -> Size
-    requires { ⌜ Few (part .nodes + cond mask 5 0) (part .bytes + cond mask 40 0) ⌝ }
-    ensures { λ r. ⌜ Sized (part .nodes + cond mask 5 0) (part .bytes + cond mask 40 0) r ⌝ }
+fn index_size(
+    table: &[u8],
+    index: &[u16],
+    variables: &[u64],
+    arrays: &[u32],
+    place: usize,
+    at: usize,
+) -> Size
+    requires { ⌜ NotedAt (now table) (now index) (now variables) (now arrays) Numeric place at ⌝ }
+    requires { ⌜ nodesOfA (maskedIndex 0 (secretIndexAt (now table) (now variables) (now arrays) at place) (numericIn (now table) place)) ≤ maxNodes ⌝ }
+    ensures { λ r. ⌜
+        Sized
+        (nodesOfA (maskedIndex 0 (secretIndexAt (now (table .entry)) (now (variables .entry)) (now (arrays .entry)) at place) (numericIn (now (table .entry)) place)))
+        (bytesOfA (maskedIndex 0 (secretIndexAt (now (table .entry)) (now (variables .entry)) (now (arrays .entry)) at place) (numericIn (now (table .entry)) place))) r ⌝ }
 {
-    if mask {
+    let part = numeric_size(table, index, place);
+    if mask_index(table, index, variables, arrays, place, at) {
         Size {
             nodes: part.nodes + 5,
             bytes: part.bytes + 40,
@@ -86,6 +116,49 @@ fn while_size(test: Size, body: Size) -> Size
     }
 }
 
+// The size of what a command without command parts hardens to.
+fn single_size(
+    table: &[u8],
+    index: &[u16],
+    variables: &[u64],
+    arrays: &[u32],
+    n: usize,
+    node: Node,
+) -> Size
+    requires { ⌜ Hardenable (now table) (now index) (now variables) (now arrays) n × (node ≡ nodeIn (now table) n) × Single node ⌝ }
+    requires { ⌜ nodesOf (hardenedIn (now table) (now variables) (now arrays) 0 n) ≤ maxNodes ⌝ }
+    ensures { λ r. ⌜
+        Sized (nodesOf (hardenedIn (now (table .entry)) (now (variables .entry)) (now (arrays .entry)) 0 n))
+        (bytesOf (hardenedIn (now (table .entry)) (now (variables .entry)) (now (arrays .entry)) 0 n)) r ⌝ }
+{
+    match node {
+        Node::Assign { value, .. } => {
+            let part = numeric_size(table, index, value);
+            over_one(part, 8)
+        }
+        Node::Read {
+            array,
+            index: place,
+            ..
+        } => {
+            let hide = mask_value(table, index, variables, arrays, array, place, n);
+            let part = index_size(table, index, variables, arrays, place, n);
+            read_size(part, hide)
+        }
+        Node::Write {
+            index: place,
+            value,
+            ..
+        } => {
+            let part = index_size(table, index, variables, arrays, place, n);
+            let written = numeric_size(table, index, value);
+            over_two(part, written, 10)
+        }
+        // a skip; nodes of other sorts never stand here
+        _ => Size { nodes: 1, bytes: 4 },
+    }
+}
+
 // The size of what a command hardens to. It is the same whatever the flag's number.
 pub fn harden_size(table: &[u8], index: &[u16], variables: &[u64], arrays: &[u32], n: usize) -> Size
     requires { ⌜ Hardenable (now table) (now index) (now variables) (now arrays) n ⌝ }
@@ -96,54 +169,23 @@ pub fn harden_size(table: &[u8], index: &[u16], variables: &[u64], arrays: &[u32
 {
     let node = command_at(table, index, n);
     match node {
-        Node::Skip => Size { nodes: 1, bytes: 4 },
-        Node::Assign { value, .. } => {
-            let part = numeric_size(table, index, value);
-            over_one(part, 8)
-        }
         Node::Sequence { first, second } => {
             let one = harden_size(table, index, variables, arrays, first);
             let two = harden_size(table, index, variables, arrays, second);
             over_two(one, two, 8)
         }
         Node::If { condition, yes, no } => {
-            let mask = mask_condition(table, index, variables, arrays, condition, n);
-            let part = truth_size(table, index, condition);
-            let test = test_size(part, mask);
+            let test = condition_size(table, index, variables, arrays, condition, n);
             let one = harden_size(table, index, variables, arrays, yes);
             let two = harden_size(table, index, variables, arrays, no);
             if_size(test, one, two)
         }
         Node::While { condition, body } => {
-            let mask = mask_condition(table, index, variables, arrays, condition, body);
-            let part = truth_size(table, index, condition);
-            let test = test_size(part, mask);
+            // a loop's condition is labelled by what settled, which enters its body
+            let test = condition_size(table, index, variables, arrays, condition, body);
             let one = harden_size(table, index, variables, arrays, body);
             while_size(test, one)
         }
-        Node::Read {
-            array,
-            index: place,
-            ..
-        } => {
-            let mask = mask_index(table, index, variables, arrays, place, n);
-            let hide = mask_value(table, index, variables, arrays, array, place, n);
-            let part = numeric_size(table, index, place);
-            let masked = place_size(part, mask);
-            read_size(masked, hide)
-        }
-        Node::Write {
-            index: place,
-            value,
-            ..
-        } => {
-            let mask = mask_index(table, index, variables, arrays, place, n);
-            let part = numeric_size(table, index, place);
-            let masked = place_size(part, mask);
-            let written = numeric_size(table, index, value);
-            over_two(masked, written, 10)
-        }
-        // nodes of other sorts never stand here
-        _ => Size { nodes: 0, bytes: 0 },
+        _ => single_size(table, index, variables, arrays, n, node),
     }
 }

@@ -1,27 +1,25 @@
 -- The analysis of commands: the answer and the notes of each are built from those of its parts, and a loop's passes settle.
 use borrow.Author.Needs.{needs}
 use denote.Ref.{now}
-use mathlib.Core.Path.{_≡_, sym, ap, subst, _∙_}
+use mathlib.Core.Path.{_≡_, refl, sym, ap, subst, _∙_}
 use native.Mathlib.Omega.{arith}
+use Rattle.awhile.specs.Nodes.{sortOf}
 use Rattle.reader.specs.Index.{truthIn, commandIn}
 use Rattle.labels.specs.Rules.{publicAmong, declaredMarks, Within}
 use Rattle.awhile.specs.Language.{Com, while, noteOf}
-use Rattle.reader.proofs.Index.{Child, Parts, indexed-parts, indexed-note}
+use Rattle.reader.proofs.Index.{Parts, indexed-note}
 use Rattle.bytes_le.proofs.Numbers.{slice-bytes}
 use Rattle.labels.specs.Analysis.{analyse as analyseOf}
 use Rattle.labels.specs.Labellings.{join}
 use Rattle.analysis.specs.Notes.{noteIn}
 use Rattle.analysis.specs.Warm.{keptIn}
-use Rattle.awhile.specs.declared.Sort.{Sort}
 use Rattle.awhile.specs.declared.Node.{Node}
-use Rattle.awhile.specs.declared.Node.the-variants.{Sequence, If}
-use Rattle.analysis.proofs.ExpressionLabels.{child-of-sort}
 use Rattle.analysis.proofs.Nodes.{node-parts}
 use Rattle.analysis.proofs.CommandNotes.{NotedAt}
-use Rattle.analysis.proofs.CommandCases.{entry-noted, unnamed-single, sequence-first, sequence-second, sequence-both}
-use Rattle.analysis.proofs.CommandCases.{if-first, if-second, if-both, loop-settleable, loop-settled}
+use Rattle.analysis.proofs.CommandCases.{entry-noted, unnamed-single, single-analysed, sequence-ready, sequence-left, if-ready, if-left, loop-settleable, loop-settled}
+use Rattle.analysis.proofs.CommandCases.{pair-first, sequence-second, sequence-both, if-first, if-second, if-both, lower, pair-lower}
 use Rattle.analysis.proofs.Settling.{Passing, passing-starts, passing-next, passing-falls, passing-ends, warm-answer}
-use Prim.Native.Nat.{ℕ, _+_, _*_, _<_}
+use Prim.Native.Nat.{ℕ, _+_, _*_, _<_, max}
 use borrow.Fn.Kinds.{In}
 use borrow.Fn.PlainCycle.{Measures, is, falls, and}
 use Rattle.analysis.proofs.commands.analyse.Reads as analyse
@@ -37,7 +35,7 @@ use Rattle.analysis.proofs.commands.settle.Reads as settle
 use Rattle.analysis.proofs.commands.settle.Kinds as settle-kinds
 use Rattle.analysis.proofs.commands.+analyse+analyse_if+analyse_sequence+settle.Lts-settle as settle-lts
 use Rattle.reader.proofs.lookup.command_at.Reads as command-at-reads
-use Rattle.analysis.proofs.commands.analyse_single.Reads as analyse-single-reads
+use Rattle.analysis.proofs.commands.after_single.Reads as after-single-reads
 use Rattle.analysis.proofs.commands.guarded.Reads as guarded-reads
 use Rattle.analysis.proofs.labelling.join.Reads as join-reads
 use Rattle.analysis.proofs.labelling.same.Reads as same-reads
@@ -50,10 +48,10 @@ abbrev μ-analyse : Measures 4 analyse-kinds.ps ℕ
 μ-analyse κs a = 2 * a .1 .1 .1 .1 .0 + 2
 
 abbrev μ-analyse-if : Measures 4 analyse-if-kinds.ps ℕ
-μ-analyse-if κs a = 2 * a .1 .1 .1 .1 .0 + 1
+μ-analyse-if κs a = 2 * max (a .1 .1 .1 .1 .1 .0) (a .1 .1 .1 .1 .1 .1 .0) + 3
 
 abbrev μ-analyse-sequence : Measures 4 analyse-sequence-kinds.ps ℕ
-μ-analyse-sequence κs a = 2 * a .1 .1 .1 .1 .0 + 1
+μ-analyse-sequence κs a = 2 * max (a .1 .1 .1 .1 .0) (a .1 .1 .1 .1 .1 .0) + 3
 
 abbrev μ-settle : Measures 4 settle-kinds.ps ℕ
 μ-settle κs a = 2 * a .1 .1 .1 .1 .1 .0 + 3
@@ -98,205 +96,56 @@ abbrev settle-calls : ℕ → settle-lts.Claims
 settle-calls t = (noted-labelling-reads.Asked, noted-labelling-reads.Learnt, join-reads.Asked, join-reads.Learnt, guarded-reads.Asked, guarded-reads.Learnt, analyse-below t, analyse.Post, same-reads.Asked, same-reads.Learnt)
 
 abbrev analyse-sequence-calls : ℕ → analyse-sequence-lts.Claims
-analyse-sequence-calls t = (note-reads.Asked, note-reads.Learnt, analyse-below t, analyse.Post)
+analyse-sequence-calls t = (analyse-below t, analyse.Post)
 
 abbrev analyse-if-calls : ℕ → analyse-if-lts.Claims
-analyse-if-calls t = (note-reads.Asked, note-reads.Learnt, guarded-reads.Asked, guarded-reads.Learnt, analyse-below t, analyse.Post, join-reads.Asked, join-reads.Learnt)
+analyse-if-calls t = (guarded-reads.Asked, guarded-reads.Learnt, analyse-below t, analyse.Post, join-reads.Asked, join-reads.Learnt)
 
 abbrev analyse-calls : ℕ → analyse-lts.Claims
-analyse-calls t = (command-at-reads.Asked, command-at-reads.Learnt, analyse-sequence-below t, analyse-sequence.Post, analyse-if-below t, analyse-if.Post, note-reads.Asked, note-reads.Learnt, settle-below t, settle.Post, analyse-single-reads.Asked, analyse-single-reads.Learnt)
+analyse-calls t = (command-at-reads.Asked, command-at-reads.Learnt, note-reads.Asked, note-reads.Learnt, analyse-sequence-below t, analyse-sequence.Post, analyse-if-below t, analyse-if.Post, settle-below t, settle.Post, after-single-reads.Asked, after-single-reads.Learnt)
 
 -- ---- by the kind of a node
-module _ (t : ℕ) (d : analyse-lts.After-command-at (analyse-calls t) (analyse-at t) analyse.Post) where
+module _ (t : ℕ) (d : analyse-lts.After-note (analyse-calls t) (analyse-at t) analyse.Post) where
   abbrev analyse-start : analyse-lts.Start (analyse-calls t) (analyse-at t) analyse.Post
-  analyse-start = d .before .before .before .before .before
+  analyse-start = d .before .before .before .before .before .before .before .before
 
-  analyse-parts : (m : Node) → d .command-at .result ≡ m → Parts (now (analyse-start .args .table)) (analyse-start .args .n) m
+  analyse-parts : (m : Node) → d .before .before .before .command-at .result ≡ m → Parts (now (analyse-start .args .table)) (analyse-start .args .n) m
   analyse-parts =
-      node-parts (slice-bytes (now (analyse-start .args .table)) (d .before .before .before .before .shared-slice-known .given)) (analyse-start .pre .1 .node .indexed) (analyse-start .pre .1 .node .inside)
-      (d .command-at .ensures)
+      node-parts (slice-bytes (now (analyse-start .args .table)) (d .before .before .before .before .before .before .before .shared-slice-known .given)) (analyse-start .pre .1 .node .indexed) (analyse-start .pre .1 .node .inside)
+      (d .before .before .before .command-at .ensures)
 
-analyse-command-at-requires : (t : ℕ) → analyse-lts.Need-command-at-requires (analyse-calls t) (analyse-at t) analyse.Post
-analyse-command-at-requires t c κs =
-    let pre = c .before .before .before .before .pre .1 in (pre .node .indexed, pre .node .inside, pre .node .isSort)
-
-analyse-enum-known-node : (t : ℕ) → analyse-lts.Need-enum-known-node (analyse-calls t) (analyse-at t) analyse.Post
-analyse-enum-known-node t c = search needs
-
-analyse-analyse-sequence-requires : (t : ℕ) → analyse-lts.Need-analyse-sequence-requires (analyse-calls t) (analyse-at t) analyse.Post
-analyse-analyse-sequence-requires t c κs =
-    let start = c .before .before .before .before .before .before .before .before .before .before in
-    (subst (λ m. 2 * start .args .n + 1 < m) (start .pre .0) (omega arith), (start .pre .1, sym (c .before .before .before .before .before .command-at .ensures) ∙ c .before .before .before .node .given .1))
-
-analyse-enum-known-node-2 : (t : ℕ) → analyse-lts.Need-enum-known-node-2 (analyse-calls t) (analyse-at t) analyse.Post
-analyse-enum-known-node-2 t c = search needs
-
-analyse-analyse-if-requires : (t : ℕ) → analyse-lts.Need-analyse-if-requires (analyse-calls t) (analyse-at t) analyse.Post
-analyse-analyse-if-requires t c κs =
-    let start = c .before .before .before .before .before .before .before .before .before .before in
-    (subst (λ m. 2 * start .args .n + 1 < m) (start .pre .0) (omega arith), (start .pre .1, sym (c .before .before .before .before .before .command-at .ensures) ∙ c .before .before .before .node2 .given .1))
-
-analyse-enum-known-node-3 : (t : ℕ) → analyse-lts.Need-enum-known-node-3 (analyse-calls t) (analyse-at t) analyse.Post
-analyse-enum-known-node-3 t c = search needs
+  analyse-noted : NotedAt (analyse-start .args .n) (analyse-start .args .context) (analyse-start .args .labels) (now (analyse-start .args .variables)) (now (analyse-start .args .arrays)) (d .note .last .0) (d .note .last .1 .0)
+  analyse-noted = entry-noted (analyse-start .pre .1) (omega (arith, analyse-start .good)) (d .note .ensures)
 
 analyse-note-requires : (t : ℕ) → analyse-lts.Need-note-requires (analyse-calls t) (analyse-at t) analyse.Post
 analyse-note-requires t c κs =
-    let pre = c .before .before .before .before .before .before .before .before .before .before .pre .1 in
+    let pre = c .before .before .before .before .before .before .before .pre .1 in
     let inside = pre .node .inside in
     (omega (arith, pre .room .variables), omega (arith, pre .room .arrays))
+
+analyse-analyse-sequence-requires : (t : ℕ) → analyse-lts.Need-analyse-sequence-requires (analyse-calls t) (analyse-at t) analyse.Post
+analyse-analyse-sequence-requires t c κs =
+    let p = analyse-parts t (c .before .before .before .before .before .before .before .before .before) _ (c .before .before .before .node .given .1) in
+    (pair-lower _ _ _ (c .before .before .before .before .before .before .before .before .before .before .before .before .before .before .before .before .before .pre .0) (p .0 .below) (p .1 .below), sequence-ready (c .before .before .before .before .before .before .before .before .before .before .before .before .before .before .before .before .before .pre .1) (analyse-noted t (c .before .before .before .before .before .before .before .before .before)) (c .before .before .before .before .before .before .before .before .before .note .kept .0) (c .before .before .before .before .before .before .before .before .before .note .kept .1 .0) _ _ p)
+
+analyse-analyse-if-requires : (t : ℕ) → analyse-lts.Need-analyse-if-requires (analyse-calls t) (analyse-at t) analyse.Post
+analyse-analyse-if-requires t c κs =
+    let p = analyse-parts t (c .before .before .before .before .before .before .before .before .before) _ (c .before .before .before .node2 .given .1) in
+    (pair-lower _ _ _ (c .before .before .before .before .before .before .before .before .before .before .before .before .before .before .before .before .before .pre .0) (p .1 .below) (p .2 .below), if-ready (c .before .before .before .before .before .before .before .before .before .before .before .before .before .before .before .before .before .pre .1) (analyse-noted t (c .before .before .before .before .before .before .before .before .before)) (c .before .before .before .before .before .before .before .before .before .note .kept .0) (c .before .before .before .before .before .before .before .before .before .note .kept .1 .0) _ _ _ p)
 
 analyse-settle-requires : (t : ℕ) → analyse-lts.Need-settle-requires (analyse-calls t) (analyse-at t) analyse.Post
 analyse-settle-requires t c κs =
-    let start = c .before .before .before .before .before .before .before .before .before .before .before .before .before .before .before .before .before in
-    let p = analyse-parts t (c .before .before .before .before .before .before .before .before .before .before .before .before) _ (c .before .before .before .before .before .before .before .before .before .before .node3 .given .1) in
-    (subst (λ m. 2 * c .before .before .before .before .before .before .before .before .before .before .node3 .given .0 .1 .0 + 3 < m) (start .pre .0) (omega (arith, p .1 .below)), loop-settleable (c .before .before .before .before .before .before .before .before .before .before .before .before .before .before .before .before .before .pre .1) (entry-noted (c .before .before .before .before .before .before .before .before .before .before .before .before .before .before .before .before .before .pre .1) (omega (arith, c .before .before .before .before .before .before .before .before .before .before .before .before .before .before .before .before .before .good)) (c .before .before .before .before .before .before .note .ensures)) (c .before .before .before .before .before .before .note .kept .0) (c .before .before .before .before .before .before .note .kept .1 .0) _ _ p)
-
-analyse-analyse-single-requires : (t : ℕ) → analyse-lts.Need-analyse-single-requires (analyse-calls t) (analyse-at t) analyse.Post
-analyse-analyse-single-requires t c κs =
-    (c .before .before .before .before .before .before .before .before .pre .1, c .before .before .before .command-at .ensures, unnamed-single (c .before .before .before .command-at .result) (c .before .before .match .keys4))
-
-analyse-same-length : (t : ℕ) → analyse-lts.Need-same-length (analyse-calls t) (analyse-at t) analyse.Post
-analyse-same-length t c =
-    c .before .before .before .before .analyse-sequence .kept .1 .1 .0
-
-analyse-same-length-2 : (t : ℕ) → analyse-lts.Need-same-length-2 (analyse-calls t) (analyse-at t) analyse.Post
-analyse-same-length-2 t c =
-    c .before .before .before .before .analyse-sequence .kept .1 .1 .1 .0
-
-analyse-returns : (t : ℕ) → analyse-lts.Need-returns (analyse-calls t) (analyse-at t) analyse.Post
-analyse-returns t c =
-    c .before .before .before .before .analyse-sequence .ensures
-
-analyse-same-length-3 : (t : ℕ) → analyse-lts.Need-same-length-3 (analyse-calls t) (analyse-at t) analyse.Post
-analyse-same-length-3 t c =
-    c .before .before .before .before .analyse-if .kept .1 .1 .0
-
-analyse-same-length-4 : (t : ℕ) → analyse-lts.Need-same-length-4 (analyse-calls t) (analyse-at t) analyse.Post
-analyse-same-length-4 t c =
-    c .before .before .before .before .analyse-if .kept .1 .1 .1 .0
-
-analyse-returns-2 : (t : ℕ) → analyse-lts.Need-returns-2 (analyse-calls t) (analyse-at t) analyse.Post
-analyse-returns-2 t c =
-    c .before .before .before .before .analyse-if .ensures
-
-analyse-same-length-5 : (t : ℕ) → analyse-lts.Need-same-length-5 (analyse-calls t) (analyse-at t) analyse.Post
-analyse-same-length-5 t c =
-    c .before .before .before .before .settle .kept .1 .1 .0 ∙ c .before .before .before .before .before .before .before .before .before .before .before .note .kept .0
-
-analyse-same-length-6 : (t : ℕ) → analyse-lts.Need-same-length-6 (analyse-calls t) (analyse-at t) analyse.Post
-analyse-same-length-6 t c =
-    c .before .before .before .before .settle .kept .1 .1 .1 .0 ∙ c .before .before .before .before .before .before .before .before .before .before .before .note .kept .1 .0
-
-analyse-returns-3 : (t : ℕ) → analyse-lts.Need-returns-3 (analyse-calls t) (analyse-at t) analyse.Post
-analyse-returns-3 t c =
-    let p = analyse-parts t (c .before .before .before .before .before .before .before .before .before .before .before .before .before .before .before .before .before) _ (c .before .before .before .before .before .before .before .before .before .before .before .before .before .before .before .node3 .given .1) in
-    loop-settled (c .before .before .before .before .before .before .before .before .before .before .before .before .before .before .before .before .before .before .before .before .before .before .pre .1) (entry-noted (c .before .before .before .before .before .before .before .before .before .before .before .before .before .before .before .before .before .before .before .before .before .before .pre .1) (omega (arith, c .before .before .before .before .before .before .before .before .before .before .before .before .before .before .before .before .before .before .before .before .before .before .good)) (c .before .before .before .before .before .before .before .before .before .before .before .note .ensures)) (c .before .before .before .before .before .before .before .before .before .before .before .note .kept .0) (c .before .before .before .before .before .before .before .before .before .before .before .note .kept .1 .0) _ _ p (c .before .before .before .before .settle .ensures)
-
-analyse-same-length-7 : (t : ℕ) → analyse-lts.Need-same-length-7 (analyse-calls t) (analyse-at t) analyse.Post
-analyse-same-length-7 t c =
-    c .before .before .before .before .analyse-single .kept .1 .1 .0
-
-analyse-same-length-8 : (t : ℕ) → analyse-lts.Need-same-length-8 (analyse-calls t) (analyse-at t) analyse.Post
-analyse-same-length-8 t c =
-    c .before .before .before .before .analyse-single .kept .1 .1 .1 .0
+    let p = analyse-parts t (c .before .before .before .before .before .before .before .before .before) _ (c .before .before .before .node3 .given .1) in
+    (lower _ _ (c .before .before .before .before .before .before .before .before .before .before .before .before .before .before .before .before .before .pre .0) (p .1 .below), loop-settleable (c .before .before .before .before .before .before .before .before .before .before .before .before .before .before .before .before .before .pre .1) (analyse-noted t (c .before .before .before .before .before .before .before .before .before)) (c .before .before .before .before .before .before .before .before .before .note .kept .0) (c .before .before .before .before .before .before .before .before .before .note .kept .1 .0) _ _ p)
 
 analyse-returns-4 : (t : ℕ) → analyse-lts.Need-returns-4 (analyse-calls t) (analyse-at t) analyse.Post
 analyse-returns-4 t c =
-    c .before .before .before .before .analyse-single .ensures
+    let start = c .before .before .before .before .before .before .before .before .before .before .before .before .before .before in
+    let node = c .before .before .before .before .before .before .before .before .before .command-at .result in
+    single-analysed (start .pre .1) (analyse-noted t (c .before .before .before .before .before .before)) node (ap sortOf (c .before .before .before .before .before .before .before .before .before .command-at .ensures) ∙ start .pre .1 .node .isSort) (unnamed-single node (c .before .match .keys4)) (analyse-parts t (c .before .before .before .before .before .before) node refl)
+    (c .after-single .result) (c .after-single .ensures .answers (start .args .n) (start .pre .1 .node .inside) (c .before .before .before .before .before .before .before .before .before .command-at .ensures))
 
-module _ (t : ℕ) (d : analyse-if-lts.After-slice-known4 (analyse-if-calls t) (analyse-if-at t) analyse-if.Post) where
-  abbrev analyse-if-start : analyse-if-lts.Start (analyse-if-calls t) (analyse-if-at t) analyse-if.Post
-  analyse-if-start = d .before .before .before .before .before .before .before .before .before .before .before
-
-  analyse-if-parts : Parts (now (analyse-if-start .args .table)) (analyse-if-start .args .n) (If (analyse-if-start .args .condition) (analyse-if-start .args .yes) (analyse-if-start .args .no))
-  analyse-if-parts =
-      indexed-parts (now (analyse-if-start .args .table)) (now (analyse-if-start .args .index)) (slice-bytes (now (analyse-if-start .args .table)) (d .before .before .before .before .before .before .before .before .before .before .shared-slice-known .given))
-      (analyse-if-start .pre .1 .0 .node .indexed) (analyse-if-start .args .n) (analyse-if-start .pre .1 .0 .node .inside) (If (analyse-if-start .args .condition) (analyse-if-start .args .yes) (analyse-if-start .args .no)) (analyse-if-start .pre .1 .1)
-
-  analyse-if-noted : NotedAt (analyse-if-start .args .n) (analyse-if-start .args .context) (analyse-if-start .args .labels) (now (analyse-if-start .args .variables)) (now (analyse-if-start .args .arrays)) (d .before .before .before .before .note .last .0) (d .before .before .before .before .note .last .1 .0)
-  analyse-if-noted = entry-noted (analyse-if-start .pre .1 .0) (omega (arith, analyse-if-start .good)) (d .before .before .before .before .note .ensures)
-
-  analyse-if-lower : {s : Sort} (k : ℕ) → Child (now (analyse-if-start .args .table)) s (analyse-if-start .args .n) k → 2 * k + 2 < t
-  analyse-if-lower k h = subst (λ m. 2 * k + 2 < m) (analyse-if-start .pre .0) (omega (arith, h .below))
-
-analyse-if-note-requires : (t : ℕ) → analyse-if-lts.Need-note-requires (analyse-if-calls t) (analyse-if-at t) analyse-if.Post
-analyse-if-note-requires t c κs =
-    let pre = c .before .before .before .before .before .before .pre .1 .0 in
-    let inside = pre .node .inside in
-    (omega (arith, pre .room .variables), omega (arith, pre .room .arrays))
-
-analyse-if-guarded-requires : (t : ℕ) → analyse-if-lts.Need-guarded-requires (analyse-if-calls t) (analyse-if-at t) analyse-if.Post
-analyse-if-guarded-requires t c κs =
-    child-of-sort (c .before .before .before .before .before .before .before .before .before .before .before .pre .1 .0 .node .indexed) (analyse-if-parts t c .0)
-
-analyse-if-analyse-requires : (t : ℕ) → analyse-if-lts.Need-analyse-requires (analyse-if-calls t) (analyse-if-at t) analyse-if.Post
-analyse-if-analyse-requires t c κs =
-    let p = analyse-if-parts t (c .before .before .before) in
-    (analyse-if-lower t (c .before .before .before) _ (p .1), if-first (c .before .before .before .before .before .before .before .before .before .before .before .before .before .before .pre .1 .0) (analyse-if-noted t (c .before .before .before)) (c .before .before .before .before .before .before .before .note .kept .0) (c .before .before .before .before .before .before .before .note .kept .1 .0) _ _ _ p (c .before .before .guarded .ensures))
-
-analyse-if-analyse-requires-2 : (t : ℕ) → analyse-if-lts.Need-analyse-requires-2 (analyse-if-calls t) (analyse-if-at t) analyse-if.Post
-analyse-if-analyse-requires-2 t c κs =
-    let p = analyse-if-parts t (c .before .before .before .before .before .before .before .before .before .before) in
-    (analyse-if-lower t (c .before .before .before .before .before .before .before .before .before .before) _ (p .2), if-second (c .before .before .before .before .before .before .before .before .before .before .before .before .before .before .before .before .before .before .before .before .before .pre .1 .0) (analyse-if-noted t (c .before .before .before .before .before .before .before .before .before .before)) (c .before .before .before .before .before .before .before .before .before .before .before .before .before .before .note .kept .0) (c .before .before .before .before .before .before .before .before .before .before .before .before .before .before .note .kept .1 .0) _ _ _ p (c .before .before .before .before .before .before .before .before .before .guarded .ensures) (c .before .before .before .before .before .before .analyse .ensures) (c .before .before .before .before .before .before .analyse .kept .1 .1 .0) (c .before .before .before .before .before .before .analyse .kept .1 .1 .1 .0))
-
-analyse-if-join-requires : (t : ℕ) → analyse-if-lts.Need-join-requires (analyse-if-calls t) (analyse-if-at t) analyse-if.Post
-analyse-if-join-requires t c κs = tt
-
-analyse-if-same-length : (t : ℕ) → analyse-if-lts.Need-same-length (analyse-if-calls t) (analyse-if-at t) analyse-if.Post
-analyse-if-same-length t c =
-    c .before .before .before .before .before .analyse2 .kept .1 .1 .0 ∙ c .before .before .before .before .before .before .before .before .before .before .before .before .analyse .kept .1 .1 .0 ∙ c .before .before .before .before .before .before .before .before .before .before .before .before .before .before .before .before .before .before .before .before .note .kept .0
-
-analyse-if-same-length-2 : (t : ℕ) → analyse-if-lts.Need-same-length-2 (analyse-if-calls t) (analyse-if-at t) analyse-if.Post
-analyse-if-same-length-2 t c =
-    c .before .before .before .before .before .analyse2 .kept .1 .1 .1 .0 ∙ c .before .before .before .before .before .before .before .before .before .before .before .before .analyse .kept .1 .1 .1 .0 ∙ c .before .before .before .before .before .before .before .before .before .before .before .before .before .before .before .before .before .before .before .before .note .kept .1 .0
-
-analyse-if-returns : (t : ℕ) → analyse-if-lts.Need-returns (analyse-if-calls t) (analyse-if-at t) analyse-if.Post
-analyse-if-returns t c =
-    if-both (c .before .before .before .before .before .before .before .before .before .before .before .before .before .before .before .before .before .before .before .before .before .before .before .before .before .before .before .pre .1 .0) (analyse-if-noted t (c .before .before .before .before .before .before .before .before .before .before .before .before .before .before .before .before)) (c .before .before .before .before .before .before .before .before .before .before .before .before .before .before .before .before .before .before .before .before .note .kept .0) (c .before .before .before .before .before .before .before .before .before .before .before .before .before .before .before .before .before .before .before .before .note .kept .1 .0) _ _ _ (analyse-if-parts t (c .before .before .before .before .before .before .before .before .before .before .before .before .before .before .before .before)) (c .before .before .before .before .before .before .before .before .before .before .before .before .before .before .before .guarded .ensures) (c .before .before .before .before .before .before .before .before .before .before .before .before .analyse .ensures) (c .before .before .before .before .before .analyse2 .ensures) (c .join .ensures)
-
-module _ (t : ℕ) (d : analyse-sequence-lts.After-slice-known4 (analyse-sequence-calls t) (analyse-sequence-at t) analyse-sequence.Post) where
-  abbrev analyse-sequence-start : analyse-sequence-lts.Start (analyse-sequence-calls t) (analyse-sequence-at t) analyse-sequence.Post
-  analyse-sequence-start = d .before .before .before .before .before .before .before .before .before .before .before
-
-  analyse-sequence-parts : Parts (now (analyse-sequence-start .args .table)) (analyse-sequence-start .args .n) (Sequence (analyse-sequence-start .args .first) (analyse-sequence-start .args .second))
-  analyse-sequence-parts =
-      indexed-parts (now (analyse-sequence-start .args .table)) (now (analyse-sequence-start .args .index)) (slice-bytes (now (analyse-sequence-start .args .table)) (d .before .before .before .before .before .before .before .before .before .before .shared-slice-known .given))
-      (analyse-sequence-start .pre .1 .0 .node .indexed) (analyse-sequence-start .args .n) (analyse-sequence-start .pre .1 .0 .node .inside) (Sequence (analyse-sequence-start .args .first) (analyse-sequence-start .args .second)) (analyse-sequence-start .pre .1 .1)
-
-  analyse-sequence-noted : NotedAt (analyse-sequence-start .args .n) (analyse-sequence-start .args .context) (analyse-sequence-start .args .labels) (now (analyse-sequence-start .args .variables)) (now (analyse-sequence-start .args .arrays)) (d .before .before .before .before .note .last .0) (d .before .before .before .before .note .last .1 .0)
-  analyse-sequence-noted = entry-noted (analyse-sequence-start .pre .1 .0) (omega (arith, analyse-sequence-start .good)) (d .before .before .before .before .note .ensures)
-
-  analyse-sequence-lower : {s : Sort} (k : ℕ) → Child (now (analyse-sequence-start .args .table)) s (analyse-sequence-start .args .n) k → 2 * k + 2 < t
-  analyse-sequence-lower k h = subst (λ m. 2 * k + 2 < m) (analyse-sequence-start .pre .0) (omega (arith, h .below))
-
-analyse-sequence-note-requires : (t : ℕ) → analyse-sequence-lts.Need-note-requires (analyse-sequence-calls t) (analyse-sequence-at t) analyse-sequence.Post
-analyse-sequence-note-requires t c κs =
-    let pre = c .before .before .before .before .before .before .pre .1 .0 in
-    let inside = pre .node .inside in
-    (omega (arith, pre .room .variables), omega (arith, pre .room .arrays))
-
-analyse-sequence-analyse-requires : (t : ℕ) → analyse-sequence-lts.Need-analyse-requires (analyse-sequence-calls t) (analyse-sequence-at t) analyse-sequence.Post
-analyse-sequence-analyse-requires t c κs =
-    let p = analyse-sequence-parts t (c .before .before) in
-    (analyse-sequence-lower t (c .before .before) _ (p .0), sequence-first (c .before .before .before .before .before .before .before .before .before .before .before .before .before .pre .1 .0) (analyse-sequence-noted t (c .before .before)) (c .before .before .before .before .before .before .note .kept .0) (c .before .before .before .before .before .before .note .kept .1 .0) _ _ p)
-
-analyse-sequence-analyse-requires-2 : (t : ℕ) → analyse-sequence-lts.Need-analyse-requires-2 (analyse-sequence-calls t) (analyse-sequence-at t) analyse-sequence.Post
-analyse-sequence-analyse-requires-2 t c κs =
-    let p = analyse-sequence-parts t (c .before .before .before .before .before .before .before .before .before) in
-    (analyse-sequence-lower t (c .before .before .before .before .before .before .before .before .before) _ (p .1), sequence-second (c .before .before .before .before .before .before .before .before .before .before .before .before .before .before .before .before .before .before .before .before .pre .1 .0) (analyse-sequence-noted t (c .before .before .before .before .before .before .before .before .before)) (c .before .before .before .before .before .before .before .before .before .before .before .before .before .note .kept .0) (c .before .before .before .before .before .before .before .before .before .before .before .before .before .note .kept .1 .0) _ _ p (c .before .before .before .before .before .before .analyse .ensures) (c .before .before .before .before .before .before .analyse .kept .1 .1 .0) (c .before .before .before .before .before .before .analyse .kept .1 .1 .1 .0))
-
-analyse-sequence-same-length : (t : ℕ) → analyse-sequence-lts.Need-same-length (analyse-sequence-calls t) (analyse-sequence-at t) analyse-sequence.Post
-analyse-sequence-same-length t c =
-    c .before .before .before .before .analyse2 .kept .1 .1 .0 ∙ c .before .before .before .before .before .before .before .before .before .before .before .analyse .kept .1 .1 .0 ∙ c .before .before .before .before .before .before .before .before .before .before .before .before .before .before .before .before .before .before .note .kept .0
-
-analyse-sequence-same-length-2 : (t : ℕ) → analyse-sequence-lts.Need-same-length-2 (analyse-sequence-calls t) (analyse-sequence-at t) analyse-sequence.Post
-analyse-sequence-same-length-2 t c =
-    c .before .before .before .before .analyse2 .kept .1 .1 .1 .0 ∙ c .before .before .before .before .before .before .before .before .before .before .before .analyse .kept .1 .1 .1 .0 ∙ c .before .before .before .before .before .before .before .before .before .before .before .before .before .before .before .before .before .before .note .kept .1 .0
-
-analyse-sequence-returns : (t : ℕ) → analyse-sequence-lts.Need-returns (analyse-sequence-calls t) (analyse-sequence-at t) analyse-sequence.Post
-analyse-sequence-returns t c =
-    sequence-both (c .before .before .before .before .before .before .before .before .before .before .before .before .before .before .before .before .before .before .before .before .before .before .before .before .before .pre .1 .0) (analyse-sequence-noted t (c .before .before .before .before .before .before .before .before .before .before .before .before .before .before)) (c .before .before .before .before .before .before .before .before .before .before .before .before .before .before .before .before .before .before .note .kept .0) (c .before .before .before .before .before .before .before .before .before .before .before .before .before .before .before .before .before .before .note .kept .1 .0) _ _ (analyse-sequence-parts t (c .before .before .before .before .before .before .before .before .before .before .before .before .before .before)) (c .before .before .before .before .before .before .before .before .before .before .before .analyse .ensures) (c .before .before .before .before .analyse2 .ensures)
-
+-- ---- a loop's passes
 abbrev settle-Inv-loop : settle-lts.InvT-loop
 settle-Inv-loop table index variables₀ arrays₀ condition body context masks₀ variables arrays masks =
     Passing (truthIn table condition) (commandIn table body) context masks₀ variables₀ arrays₀ masks variables arrays
@@ -396,50 +245,50 @@ settle-returns t c =
 
 pub +analyse+analyse-if+analyse-sequence+settle-spec : {M : Type 1} → statement M
 +analyse+analyse-if+analyse-sequence+settle-spec =
-    close μ-analyse μ-analyse-if μ-analyse-sequence μ-settle (λ t. analyse-lts.spec (analyse-calls t)
-    (analyse-at t)
+    close
+    μ-analyse
+    μ-analyse-if
+    μ-analyse-sequence
+    μ-settle
+    (λ t. analyse-lts.spec (analyse-calls t) (analyse-at t)
     analyse.Post
-    (analyse-command-at-requires t)
-    (analyse-enum-known-node t)
-    (analyse-analyse-sequence-requires t)
-    (analyse-enum-known-node-2 t)
-    (analyse-analyse-if-requires t)
-    (analyse-enum-known-node-3 t)
+    (λ c κs. (c .before .before .before .before .pre .1 .node .indexed, c .before .before .before .before .pre .1 .node .inside, c .before .before .before .before .pre .1 .node .isSort))
     (analyse-note-requires t)
+    (λ c. search needs)
+    (analyse-analyse-sequence-requires t)
+    (λ c. search needs)
+    (analyse-analyse-if-requires t)
+    (λ c. search needs)
     (analyse-settle-requires t)
-    (analyse-analyse-single-requires t)
-    (analyse-same-length t)
-    (analyse-same-length-2 t)
-    (analyse-returns t)
-    (analyse-same-length-3 t)
-    (analyse-same-length-4 t)
-    (analyse-returns-2 t)
-    (analyse-same-length-5 t)
-    (analyse-same-length-6 t)
-    (analyse-returns-3 t)
-    (analyse-same-length-7 t)
-    (analyse-same-length-8 t)
+    (λ c κs. record { at = c .before .before .before .before .before .before .before .before .before .before .before .before .before .args .n; command = c .before .before .before .before .before .before .before .before .before .before .before .before .before .pre .1 .node; isNode = c .before .before .before .before .before .before .before .before .command-at .ensures; single = unnamed-single (c .before .before .before .before .before .before .before .before .command-at .result) (c .match .keys4) })
+    (λ c. c .before .before .before .before .analyse-sequence .kept .1 .1 .0 ∙ c .before .before .before .before .before .before .before .before .before .before .before .before .before .before .note .kept .0)
+    (λ c. c .before .before .before .before .analyse-sequence .kept .1 .1 .1 .0 ∙ c .before .before .before .before .before .before .before .before .before .before .before .before .before .before .note .kept .1 .0)
+    (λ c. sequence-left (c .before .before .before .before .before .before .before .before .before .before .before .before .before .before .before .before .before .before .before .before .before .before .pre .1) (analyse-noted t (c .before .before .before .before .before .before .before .before .before .before .before .before .before .before)) (c .before .before .before .before .before .before .before .before .before .before .before .before .before .before .note .kept .0) (c .before .before .before .before .before .before .before .before .before .before .before .before .before .before .note .kept .1 .0) _ _ (analyse-parts t (c .before .before .before .before .before .before .before .before .before .before .before .before .before .before) _ (c .before .before .before .before .before .before .before .before .node .given .1)) (c .before .before .before .before .analyse-sequence .ensures))
+    (λ c. c .before .before .before .before .analyse-if .kept .1 .1 .0 ∙ c .before .before .before .before .before .before .before .before .before .before .before .before .before .before .note .kept .0)
+    (λ c. c .before .before .before .before .analyse-if .kept .1 .1 .1 .0 ∙ c .before .before .before .before .before .before .before .before .before .before .before .before .before .before .note .kept .1 .0)
+    (λ c. if-left (c .before .before .before .before .before .before .before .before .before .before .before .before .before .before .before .before .before .before .before .before .before .before .pre .1) (analyse-noted t (c .before .before .before .before .before .before .before .before .before .before .before .before .before .before)) (c .before .before .before .before .before .before .before .before .before .before .before .before .before .before .note .kept .0) (c .before .before .before .before .before .before .before .before .before .before .before .before .before .before .note .kept .1 .0) _ _ _ (analyse-parts t (c .before .before .before .before .before .before .before .before .before .before .before .before .before .before) _ (c .before .before .before .before .before .before .before .before .node2 .given .1)) (c .before .before .before .before .analyse-if .ensures))
+    (λ c. c .before .before .before .before .settle .kept .1 .1 .0 ∙ c .before .before .before .before .before .before .before .before .before .before .before .before .before .before .note .kept .0)
+    (λ c. c .before .before .before .before .settle .kept .1 .1 .1 .0 ∙ c .before .before .before .before .before .before .before .before .before .before .before .before .before .before .note .kept .1 .0)
+    (λ c. loop-settled (c .before .before .before .before .before .before .before .before .before .before .before .before .before .before .before .before .before .before .before .before .before .before .pre .1) (analyse-noted t (c .before .before .before .before .before .before .before .before .before .before .before .before .before .before)) (c .before .before .before .before .before .before .before .before .before .before .before .before .before .before .note .kept .0) (c .before .before .before .before .before .before .before .before .before .before .before .before .before .before .note .kept .1 .0) _ _ (analyse-parts t (c .before .before .before .before .before .before .before .before .before .before .before .before .before .before) _ (c .before .before .before .before .before .before .before .before .node3 .given .1)) (c .before .before .before .before .settle .ensures))
+    (λ c. c .before .before .before .before .before .before .note .kept .0)
+    (λ c. c .before .before .before .before .before .before .note .kept .1 .0)
     (analyse-returns-4 t))
-    (λ t. analyse-if-lts.spec (analyse-if-calls t)
-    (analyse-if-at t)
+    (λ t. analyse-if-lts.spec (analyse-if-calls t) (analyse-if-at t)
     analyse-if.Post
-    (analyse-if-note-requires t)
-    (analyse-if-guarded-requires t)
-    (analyse-if-analyse-requires t)
-    (analyse-if-analyse-requires-2 t)
-    (analyse-if-join-requires t)
-    (analyse-if-same-length t)
-    (analyse-if-same-length-2 t)
-    (analyse-if-returns t))
-    (λ t. analyse-sequence-lts.spec (analyse-sequence-calls t)
-    (analyse-sequence-at t)
+    (λ c κs. c .before .before .before .before .pre .1 .test)
+    (λ c κs. (subst (λ m. 2 * c .before .before .before .before .before .before .before .args .yes + 2 < m) (c .before .before .before .before .before .before .before .pre .0) (omega arith), if-first (c .before .before .guarded .ensures) (c .before .before .before .before .before .before .before .pre .1)))
+    (λ c κs. (subst (λ m. 2 * c .before .before .before .before .before .before .before .before .before .before .before .before .before .before .args .no + 2 < m) (c .before .before .before .before .before .before .before .before .before .before .before .before .before .before .pre .0) (omega arith), if-second (c .before .before .before .before .before .before .before .before .before .guarded .ensures) (c .before .before .before .before .before .before .before .before .before .before .before .before .before .before .pre .1) (c .before .before .before .before .before .before .analyse .ensures) (c .before .before .before .before .before .before .analyse .kept .1 .1 .0) (c .before .before .before .before .before .before .analyse .kept .1 .1 .1 .0)))
+    (λ c κs. tt)
+    (λ c. c .before .before .before .before .before .analyse2 .kept .1 .1 .0 ∙ c .before .before .before .before .before .before .before .before .before .before .before .before .analyse .kept .1 .1 .0)
+    (λ c. c .before .before .before .before .before .analyse2 .kept .1 .1 .1 .0 ∙ c .before .before .before .before .before .before .before .before .before .before .before .before .analyse .kept .1 .1 .1 .0)
+    (λ c. if-both (c .before .before .before .before .before .before .before .before .before .before .before .before .before .before .before .guarded .ensures) (c .before .before .before .before .before .before .before .before .before .before .before .before .before .before .before .before .before .before .before .before .pre .1) (c .before .before .before .before .before .before .before .before .before .before .before .before .analyse .ensures) (c .before .before .before .before .before .analyse2 .ensures) (c .join .ensures)))
+    (λ t. analyse-sequence-lts.spec (analyse-sequence-calls t) (analyse-sequence-at t)
     analyse-sequence.Post
-    (analyse-sequence-note-requires t)
-    (analyse-sequence-analyse-requires t)
-    (analyse-sequence-analyse-requires-2 t)
-    (analyse-sequence-same-length t)
-    (analyse-sequence-same-length-2 t)
-    (analyse-sequence-returns t))
+    (λ c κs. (subst (λ m. 2 * c .before .before .before .before .before .before .args .first + 2 < m) (c .before .before .before .before .before .before .pre .0) (omega arith), pair-first (c .before .before .before .before .before .before .pre .1)))
+    (λ c κs. (subst (λ m. 2 * c .before .before .before .before .before .before .before .before .before .before .before .before .before .args .second + 2 < m) (c .before .before .before .before .before .before .before .before .before .before .before .before .before .pre .0) (omega arith), sequence-second (c .before .before .before .before .before .before .before .before .before .before .before .before .before .pre .1) (c .before .before .before .before .before .before .analyse .ensures) (c .before .before .before .before .before .before .analyse .kept .1 .1 .0) (c .before .before .before .before .before .before .analyse .kept .1 .1 .1 .0)))
+    (λ c. c .before .before .before .before .analyse2 .kept .1 .1 .0 ∙ c .before .before .before .before .before .before .before .before .before .before .before .analyse .kept .1 .1 .0)
+    (λ c. c .before .before .before .before .analyse2 .kept .1 .1 .1 .0 ∙ c .before .before .before .before .before .before .before .before .before .before .before .analyse .kept .1 .1 .1 .0)
+    (λ c. sequence-both (c .before .before .before .before .before .before .before .before .before .before .before .before .before .before .before .before .before .before .pre .1) (c .before .before .before .before .before .before .before .before .before .before .before .analyse .ensures) (c .before .before .before .before .analyse2 .ensures)))
     λ t. settle-lts.spec (settle-calls t)
     (settle-at t)
     settle.Post

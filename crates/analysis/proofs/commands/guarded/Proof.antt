@@ -3,14 +3,8 @@ use borrow.Author.Needs.{needs}
 use Rattle.analysis.proofs.commands.guarded.Statement.{statement}
 use Rattle.analysis.proofs.commands.guarded.Tie as tie
 
-truth-label-requires : tie.Need-truth-label-requires
-truth-label-requires c κs = search needs
-
-either-requires : tie.Need-either-requires
-either-requires c κs = search needs
-
 returns : tie.Need-returns
 returns c = rw (c .either .ensures, c .before .truth-label .ensures)
 
 pub guarded-spec : {M : Type 1} → statement M
-guarded-spec = tie.close (tie.spec truth-label-requires either-requires returns)
+guarded-spec = tie.close (tie.spec (λ c κs. search needs) (λ c κs. search needs) returns)

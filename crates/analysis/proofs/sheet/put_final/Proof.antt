@@ -9,18 +9,6 @@ use borrow.Author.Needs.{needs}
 use Rattle.analysis.proofs.sheet.put_final.Statement.{statement}
 use Rattle.analysis.proofs.sheet.put_final.Tie as tie
 
-put-head-requires : tie.Need-put-head-requires
-put-head-requires c κs = search needs
-
-put16-requires : tie.Need-put16-requires
-put16-requires c κs = search needs
-
-put-masks-requires : tie.Need-put-masks-requires
-put-masks-requires c κs = search needs
-
-same-length : tie.Need-same-length
-same-length c = search needs
-
 returns : tie.Need-returns
 unfolding le
 returns c =
@@ -31,4 +19,4 @@ returns c =
 
 pub put-final-spec : {M : Type 1} → statement M
 put-final-spec =
-    tie.close (tie.spec put-head-requires put16-requires put-masks-requires same-length returns)
+    tie.close (tie.spec (λ c κs. search needs) (λ c κs. search needs) (λ c κs. search needs) (λ c. search needs) returns)

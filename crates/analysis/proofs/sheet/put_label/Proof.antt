@@ -10,12 +10,6 @@ use borrow.Author.Needs.{needs}
 use Rattle.analysis.proofs.sheet.put_label.Statement.{statement}
 use Rattle.analysis.proofs.sheet.put_label.Tie as tie
 
-put16-requires : tie.Need-put16-requires
-put16-requires c κs = search needs
-
-same-length : tie.Need-same-length
-same-length c = search needs
-
 returns : tie.Need-returns
 unfolding labelBytes
 returns c =
@@ -25,4 +19,4 @@ returns c =
     (⊎-elim (λ w. w .1 ∙ sym (ap (λ b. cond b 1 0) (w .0 .taken))) (λ w. w .1 ∙ sym (ap (λ b. cond b 1 0) (w .0 .left))) (c .before .before .before .before .if1 .came))
 
 pub put-label-spec : {M : Type 1} → statement M
-put-label-spec = tie.close (tie.spec put16-requires same-length returns)
+put-label-spec = tie.close (tie.spec (λ c κs. search needs) (λ c. search needs) returns)

@@ -10,18 +10,6 @@ use borrow.Author.Needs.{needs}
 use Rattle.analysis.proofs.sheet.put_labelled.Statement.{statement}
 use Rattle.analysis.proofs.sheet.put_labelled.Tie as tie
 
-put-head-requires : tie.Need-put-head-requires
-put-head-requires c κs = search needs
-
-add-put-label : tie.Need-add-put-label
-add-put-label c = search needs
-
-put-label-requires : tie.Need-put-label-requires
-put-label-requires c κs = search needs
-
-same-length : tie.Need-same-length
-same-length c = search needs
-
 returns : tie.Need-returns
 unfolding le
 returns c =
@@ -31,4 +19,4 @@ returns c =
 
 pub put-labelled-spec : {M : Type 1} → statement M
 put-labelled-spec =
-    tie.close (tie.spec put-head-requires add-put-label put-label-requires same-length returns)
+    tie.close (tie.spec (λ c κs. search needs) (λ c. search needs) (λ c κs. search needs) (λ c. search needs) returns)

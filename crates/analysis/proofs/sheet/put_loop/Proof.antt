@@ -10,18 +10,6 @@ use borrow.Author.Needs.{needs}
 use Rattle.analysis.proofs.sheet.put_loop.Statement.{statement}
 use Rattle.analysis.proofs.sheet.put_loop.Tie as tie
 
-put-labelled-requires : tie.Need-put-labelled-requires
-put-labelled-requires c κs = search needs
-
-add-put-masks : tie.Need-add-put-masks
-add-put-masks c = search needs
-
-put-masks-requires : tie.Need-put-masks-requires
-put-masks-requires c κs = search needs
-
-same-length : tie.Need-same-length
-same-length c = search needs
-
 returns : tie.Need-returns
 unfolding le labelBytes
 returns c =
@@ -33,4 +21,4 @@ returns c =
 
 pub put-loop-spec : {M : Type 1} → statement M
 put-loop-spec =
-    tie.close (tie.spec put-labelled-requires add-put-masks put-masks-requires same-length returns)
+    tie.close (tie.spec (λ c κs. search needs) (λ c. search needs) (λ c κs. search needs) (λ c. search needs) returns)

@@ -10,21 +10,6 @@ use borrow.Author.Needs.{needs}
 use Rattle.analysis.proofs.sheet.put_masks.Statement.{statement}
 use Rattle.analysis.proofs.sheet.put_masks.Tie as tie
 
-put32-requires : tie.Need-put32-requires
-put32-requires c κs = search needs
-
-add-put16 : tie.Need-add-put16
-add-put16 c = search needs
-
-cast-put16 : tie.Need-cast-put16
-cast-put16 c = search needs
-
-put16-requires : tie.Need-put16-requires
-put16-requires c κs = search needs
-
-same-length : tie.Need-same-length
-same-length c = search needs
-
 returns : tie.Need-returns
 unfolding masksBytes le
 returns c =
@@ -35,4 +20,4 @@ returns c =
 pub put-masks-spec : {M : Type 1} → statement M
 put-masks-spec =
     tie.close
-    (tie.spec (λ c. search needs) put32-requires add-put16 cast-put16 put16-requires same-length returns)
+    (tie.spec (λ c. search needs) (λ c κs. search needs) (λ c. search needs) (λ c. search needs) (λ c κs. search needs) (λ c. search needs) returns)

@@ -10,18 +10,6 @@ use borrow.Author.Needs.{needs}
 use Rattle.analysis.proofs.sheet.put_read.Statement.{statement}
 use Rattle.analysis.proofs.sheet.put_read.Tie as tie
 
-put-labelled-requires : tie.Need-put-labelled-requires
-put-labelled-requires c κs = search needs
-
-add-put-label : tie.Need-add-put-label
-add-put-label c = search needs
-
-put-label-requires : tie.Need-put-label-requires
-put-label-requires c κs = search needs
-
-same-length : tie.Need-same-length
-same-length c = search needs
-
 returns : tie.Need-returns
 unfolding le labelBytes
 returns c =
@@ -33,4 +21,4 @@ returns c =
 
 pub put-read-spec : {M : Type 1} → statement M
 put-read-spec =
-    tie.close (tie.spec put-labelled-requires add-put-label put-label-requires same-length returns)
+    tie.close (tie.spec (λ c κs. search needs) (λ c. search needs) (λ c κs. search needs) (λ c. search needs) returns)

@@ -10,18 +10,6 @@ use borrow.Author.Needs.{needs}
 use Rattle.analysis.proofs.sheet.put_sequence.Statement.{statement}
 use Rattle.analysis.proofs.sheet.put_sequence.Tie as tie
 
-put-head-requires : tie.Need-put-head-requires
-put-head-requires c κs = search needs
-
-add-put-masks : tie.Need-add-put-masks
-add-put-masks c = search needs
-
-put-masks-requires : tie.Need-put-masks-requires
-put-masks-requires c κs = search needs
-
-same-length : tie.Need-same-length
-same-length c = search needs
-
 returns : tie.Need-returns
 unfolding le
 returns c =
@@ -30,4 +18,4 @@ returns c =
 
 pub put-sequence-spec : {M : Type 1} → statement M
 put-sequence-spec =
-    tie.close (tie.spec put-head-requires add-put-masks put-masks-requires same-length returns)
+    tie.close (tie.spec (λ c κs. search needs) (λ c. search needs) (λ c κs. search needs) (λ c. search needs) returns)

@@ -12,16 +12,10 @@ use borrow.Author.Needs.{needs}
 use Rattle.analysis.proofs.sheet.record_size.Statement.{statement}
 use Rattle.analysis.proofs.sheet.record_size.Tie as tie
 
-is-command-requires : tie.Need-is-command-requires
-is-command-requires c κs = search needs
-
 command-size-requires : tie.Need-command-size-requires
 command-size-requires c κs =
     let start = c .before .before .before .before in
     (start .pre .0, start .pre .1, sameSort-true (sortOf (nodeIn (now (start .args .table)) (start .args .n))) Command (sym (c .before .is-command .ensures) ∙ c .if1 .taken))
-
-returns : tie.Need-returns
-returns c = search needs
 
 returns-2 : tie.Need-returns-2
 returns-2 c =
@@ -33,4 +27,4 @@ returns-2 c =
     )
 
 pub record-size-spec : {M : Type 1} → statement M
-record-size-spec = tie.close (tie.spec is-command-requires command-size-requires returns returns-2)
+record-size-spec = tie.close (tie.spec (λ c κs. search needs) command-size-requires (λ c. search needs) returns-2)

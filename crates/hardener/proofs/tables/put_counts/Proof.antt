@@ -1,5 +1,5 @@
 -- `put_counts` stores the array records that are done so far.
-use Prim.Native.Nat.{_+_, _-_, _*_, _≤_}
+use Prim.Native.Nat.{_+_, _-_, _≤_}
 use native.Mathlib.Omega.{arith}
 use mathlib.Core.List.{flatMap}
 use mathlib.Core.Path.{_≡_, refl, ap, _∙_}

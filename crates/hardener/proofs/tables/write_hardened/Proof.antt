@@ -1,10 +1,7 @@
 -- `write_hardened` writes the declarations, one record behind the other, and the nodes into the rest.
 use native.Mathlib.Omega.{arith}
-use mathlib.Core.List.{flatMap}
-use mathlib.Core.Path.{ap, _∙_}
 use denote.Ref.{now}
 use Rattle.bytes_le.proofs.Numbers.{slice-bytes}
-use Rattle.awhile.specs.Encoding.{headerBytes, labelsBytes, countBytes}
 use Rattle.copier.proofs.Writers.{wrote-sized}
 use Rattle.copier.proofs.Lengths.{counted-C}
 use Rattle.hardener.proofs.TableWrites.{whole-fits, few-arrays, few-variables, mask-fits, root-hardenable, nodes-room, whole-written}

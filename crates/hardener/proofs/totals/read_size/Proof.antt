@@ -1,21 +1,8 @@
 -- `read_size` adds what its decision asks.
-use native.Mathlib.Omega.{arith}
 use mathlib.Core.Path.{refl}
 use borrow.Author.Needs.{needs}
 use Rattle.hardener.proofs.totals.read_size.Statement.{statement}
 use Rattle.hardener.proofs.totals.read_size.Tie as tie
-
-add-t5 : tie.Need-add-t5
-add-t5 c = search needs
-
-add-t6 : tie.Need-add-t6
-add-t6 c = search needs
-
-add-t7 : tie.Need-add-t7
-add-t7 c = search needs
-
-add-t8 : tie.Need-add-t8
-add-t8 c = search needs
 
 returns : tie.Need-returns
 returns c =
@@ -26,4 +13,4 @@ returns-2 c =
     rw (c .before .before .if1 .left) (record { nodesCounted = refl; bytesCounted = refl })
 
 pub read-size-spec : {M : Type 1} → statement M
-read-size-spec = tie.close (tie.spec add-t5 add-t6 add-t7 add-t8 returns returns-2)
+read-size-spec = tie.close (tie.spec (λ c. search needs) (λ c. search needs) (λ c. search needs) (λ c. search needs) returns returns-2)
