@@ -6,11 +6,11 @@ use mathlib.Core.Path.{_≡_, refl, sym, ap, _∙_}
 use mathlib.Core.Bool.{Bool, true, false, cond, _&&_}
 use mathlib.Core.Option.{Option, none, some}
 use mathlib.Core.List.{List, [], _∷_}
-use lib.ListN.{length, take, drop, length-drop, drop-of-length-le}
+use lib.ListN.{length, drop, length-drop}
 use lib.Seq.{drop-drop}
 use lib.Dec.{eqb, leb}
-use borrow.Author.Tests.{leb-true, eqb-true, le-leb, lt-leb, eq-eqb, ne-eqb}
-use Rattle.bytes_le.specs.Numbers.{leAt, fromLe}
+use borrow.Author.Tests.{leb-true, le-leb, lt-leb, eq-eqb, ne-eqb}
+use Rattle.bytes_le.specs.Numbers.{leAt}
 use Rattle.machine.specs.Directives.{directiveOf, directiveSize, wholeDirective, firstDirective, before, directivesIn, readDirectives}
 use Rattle.interpreter.specs.Listed.{listed, wholeIf, isSome}
 use Rattle.machine.specs.declared.Directive.{Directive}

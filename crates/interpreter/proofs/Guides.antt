@@ -9,7 +9,7 @@ use mathlib.Core.List.{List, [], _∷_}
 use lib.ListN.{length, drop, length-drop}
 use Rattle.machine.specs.Directives.{directiveSize, firstDirective, before, readDirectives}
 use Rattle.interpreter.specs.Listed.{listed, isSome}
-use Rattle.machine.specs.Runs.{shownStep, guessing}
+use Rattle.machine.specs.Runs.{shownStep}
 use Rattle.interpreter.specs.Guiding.{Readable, orNone, directivesFrom, guideOf, GoesBy, RunsOut}
 use Rattle.interpreter.proofs.DirectiveLists.{listed-within, reads-next, reads-refused, reads-none-left, isSome-before}
 use Rattle.machine.specs.declared.Directive.{Directive}

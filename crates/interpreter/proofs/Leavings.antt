@@ -1,21 +1,18 @@
 -- What a run leaves in lent bytes: the words of its variables and cells, and the pending list with zeros behind it.
 use Prim.Native.Nat.{ℕ, zero, suc, _+_, _*_, _-_, _≤_, _<_}
-use native.Mathlib.Numerals.{add-one}
 use native.Mathlib.Nat.{sub-self}
 use native.Mathlib.Omega.{arith}
-use mathlib.Core.Bool.{Bool, true, false}
 use mathlib.Core.Path.{_≡_, refl, sym, ap, _∙_}
 use mathlib.Core.List.{List, [], _∷_, _++_, map, reverse, reverse-cons, map-append, append-nil, append-assoc}
-use lib.ListN.{length, take, drop, replicate, length-replicate, length-drop, length-take}
-use lib.Seq.{sets, sets-eq, length-sets, take-add, length-take-le}
-use lib.Dec.{eqb}
+use lib.ListN.{length, take, drop, replicate, length-replicate, length-drop}
+use lib.Seq.{sets, sets-eq, take-add, length-take-le}
 use borrow.Author.Tests.{eq-eqb, ne-eqb}
-use Rattle.bytes_le.specs.Numbers.{le, fromLe, leAt, words}
-use Rattle.bytes_le.proofs.Numbers.{Below, below-take, below-drop, length-le, le-fromLe}
+use Rattle.bytes_le.specs.Numbers.{le, leAt, words}
+use Rattle.bytes_le.proofs.Numbers.{Below, below-take, below-drop, le-fromLe}
 use Rattle.bytes_le.proofs.Words.{length-words}
 use Rattle.bytes_le.proofs.Stores.{sets-append}
 use Rattle.awhile.specs.Language.{Com, noteOf}
-use Rattle.reader.specs.Index.{nodesIn, commandIn}
+use Rattle.reader.specs.Index.{commandIn}
 use Rattle.machine.specs.Memory.{pendingAfter, nextNode}
 use Rattle.interpreter.specs.Stepping.{pendingOf}
 use Rattle.interpreter.specs.Running.{nextWord}

@@ -1,23 +1,21 @@
 -- The next step of the machine as the code has it: why it is not taken, or the machine after it.
-use Prim.Native.Nat.{ℕ, zero, suc, _+_, _*_, _-_, _^_, _≤_, _<_}
+use Prim.Native.Nat.{ℕ, zero, suc, _+_, _*_, _-_, _≤_, _<_}
 use native.Mathlib.Nat.{add-zero}
 use native.Mathlib.Omega.{arith}
 use mathlib.Core.Bool.{Bool, true, false, cond}
 use mathlib.Core.Path.{_≡_, refl, sym, ap, _∙_}
-use mathlib.Core.Option.{Option, none, some}
-use mathlib.Core.List.{List, [], _∷_, _++_, flatMap, append-nil}
+use mathlib.Core.Option.{some}
+use mathlib.Core.List.{List, _∷_, flatMap}
 use lib.ListN.{length, length-append}
 use lib.Dec.{leb}
 use borrow.Author.Tests.{le-leb, lt-leb, leb-true}
 use Rattle.bytes_le.specs.Numbers.{le, leAt}
-use Rattle.bytes_le.proofs.Numbers.{length-le}
 use Rattle.awhile.specs.Language.{Com}
 use Rattle.reader.specs.Index.{tableOf, commandIn}
 use Rattle.machine.specs.Observations.{Observation, observationBytes, shownBytes}
 use Rattle.machine.specs.Look.{look}
-use Rattle.machine.specs.Steps.{State, quietly}
-use Rattle.machine.specs.Runs.{Room, bytes, holds, Machine, over, goes, moved, shownIf, shownStep, stepOf, nextOf, next, endWithout, run}
-use Rattle.machine.specs.Runs.{Next as NextStep}
+use Rattle.machine.specs.Steps.{quietly}
+use Rattle.machine.specs.Runs.{bytes, holds, Machine, over, goes, moved, shownIf, shownStep, stepOf, nextOf, next, endWithout, run}
 use Rattle.interpreter.specs.Evaluation.{variablesIn}
 use Rattle.interpreter.specs.Actions.{changed, heightOf, observationOf, quietLook, lookOf, QuietFits, Looked}
 use Rattle.interpreter.specs.Fitting.{fitOf}

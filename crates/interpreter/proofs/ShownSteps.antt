@@ -2,10 +2,10 @@
 use Prim.Native.Nat.{ℕ, _*_, _<_}
 use mathlib.Core.Bool.{Bool, true, false, cond, _&&_}
 use mathlib.Core.Bool.{not as negated}
-use mathlib.Core.Path.{_≡_, refl, sym, ap, _∙_}
+use mathlib.Core.Path.{_≡_, refl, sym, ap}
 use mathlib.Core.Option.{Option, none, some}
-use mathlib.Core.List.{List, [], _∷_}
-use lib.ListN.{length, getD, set}
+use mathlib.Core.List.{List}
+use lib.ListN.{getD}
 use Rattle.bytes_le.specs.Numbers.{leAt, fromWords}
 use Rattle.awhile.specs.Language.{Com}
 use Rattle.awhile.specs.Lists.{sum}
@@ -20,9 +20,7 @@ use Rattle.interpreter.proofs.Counts.{cell-within}
 use Rattle.machine.specs.declared.Directive.{Directive}
 use Rattle.machine.specs.declared.Directive.the-variants.{Step, Force, Load, Store}
 use Rattle.interpreter.specs.declared.action.Back.{Back}
-use Rattle.interpreter.specs.declared.action.Change.{Change}
 use Rattle.interpreter.specs.declared.action.Change.the-variants.{PutBack, Assign}
-use Rattle.interpreter.specs.declared.action.Change.the-variants.{Store as StoreInto}
 use Rattle.interpreter.specs.declared.action.Shown.{Shown}
 use Rattle.interpreter.specs.declared.action.Shown.the-variants.{Fork, Get, Put}
 use Rattle.interpreter.specs.declared.places.Cell.{Cell}

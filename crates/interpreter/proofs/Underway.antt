@@ -1,30 +1,30 @@
 -- A run under way: what is left to run is the whole run, and what stands in lent bytes is what the steps so far have left.
-use Prim.Native.Nat.{ℕ, zero, suc, _+_, _*_, _-_, _^_, _≤_, _<_}
+use Prim.Native.Nat.{ℕ, suc, _+_, _*_, _-_, _≤_}
 use native.Mathlib.Nat.{sub-zero}
 use native.Mathlib.Omega.{arith}
 use mathlib.Core.Bool.{Bool}
 use mathlib.Core.Path.{_≡_, refl, sym, ap, subst, _∙_}
 use mathlib.Core.List.{List, [], _∷_, _++_, flatMap, append-nil, append-assoc}
-use lib.ListN.{length, set, take, drop, length-append, length-drop}
+use lib.ListN.{length, set, drop, length-append, length-drop}
 use lib.Seq.{sets, sets-eq, length-sets, take-append-seam, drop-append-add, drop-drop, drop-set-lt}
-use Rattle.bytes_le.specs.Numbers.{le, leAt, fromWords}
+use Rattle.bytes_le.specs.Numbers.{le, leAt}
 use Rattle.bytes_le.proofs.Numbers.{Below, length-le}
 use Rattle.awhile.specs.Language.{Com}
 use Rattle.awhile.specs.Lists.{sum}
 use Rattle.awhile.specs.Trees.{rootOf}
 use Rattle.awhile.specs.Encoding.{nodesOf}
-use Rattle.reader.specs.Index.{Indexed, tableOf, nodesIn, commandIn}
-use Rattle.reader.proofs.Index.{indexed-few, indexed-some, indexed-root, indexed-well-formed}
+use Rattle.reader.specs.Index.{tableOf, nodesIn, commandIn}
+use Rattle.reader.proofs.Index.{indexed-few, indexed-root, indexed-well-formed}
 use Rattle.awhile.proofs.Size.{root-size}
 use Rattle.machine.specs.Observations.{Observation, observationBytes, shownBytes}
-use Rattle.machine.specs.Runs.{Outcome, bytes, Machine, goes, next, run, started}
+use Rattle.machine.specs.Runs.{Outcome, bytes, Machine, run, started}
 use Rattle.machine.specs.Memory.{writtenOver}
 use Rattle.interpreter.specs.Evaluation.{variablesIn}
-use Rattle.interpreter.specs.Actions.{backOn, heightOf, changed, observationOf, CommandAt, BackFits}
+use Rattle.interpreter.specs.Actions.{backOn, heightOf, changed, observationOf, BackFits}
 use Rattle.interpreter.specs.Guiding.{guideOf}
 use Rattle.interpreter.specs.Stepping.{startState, pendingOf, cellsIn, machineOf, seenList, ChangeFits, steppedTo, Holds, Ends, Advances}
 use Rattle.interpreter.specs.Effects.{PushFits, pushed, PerformFits, variablesAfter, cellsAfter, pendingBytes, WordFits, Performed, seenBytes}
-use Rattle.interpreter.specs.Running.{runOf, Begun, StoppedAs}
+use Rattle.interpreter.specs.Running.{runOf, Begun}
 use Rattle.machine.specs.declared.End.{End}
 use Rattle.interpreter.specs.declared.action.Back.{Back}
 use Rattle.interpreter.specs.declared.action.Back.the-variants.{Nothing, One, Two}
@@ -34,11 +34,10 @@ use Rattle.interpreter.specs.declared.step.Seen.{Seen}
 use Rattle.interpreter.specs.declared.step.Seen.the-variants.{Observed}
 use Rattle.interpreter.specs.declared.step.Seen.the-variants.{Nothing as NothingSeen}
 use Rattle.interpreter.specs.declared.state.MachineState.{MachineState}
-use Rattle.interpreter.specs.declared.run.Stopped.{Stopped}
 use Rattle.interpreter.proofs.Words.{words-stored}
 use Rattle.machine.proofs.Runs.{run-goes}
 use Rattle.machine.proofs.Room.{Fits, fits-length, look-fits, AfterNext, next-after}
-use Rattle.interpreter.proofs.Stacks.{Entries, length-pending, pending-below, back-pending, back-entries}
+use Rattle.interpreter.proofs.Stacks.{Entries, length-pending, back-pending, back-entries}
 
 -- ---- what was shown so far, at the front of the buffer
 shown-append : (os ps : List Observation) → shownBytes (os ++ ps) ≡ shownBytes os ++ shownBytes ps

@@ -1,23 +1,22 @@
 -- A whole run: how it begins, and what it leaves.
-use Prim.Native.Nat.{ℕ, zero, suc, _+_, _*_, _-_, _^_, _≤_, _<_}
+use Prim.Native.Nat.{ℕ, _*_, _-_, _^_, _≤_, _<_}
 use native.Mathlib.Omega.{arith}
 use mathlib.Core.Bool.{Bool}
-use mathlib.Core.Path.{_≡_, refl, sym, ap, _∙_}
+use mathlib.Core.Path.{_≡_, sym, _∙_}
 use mathlib.Core.List.{List}
 use lib.ListN.{length, drop, replicate}
 use lib.Seq.{sets, length-sets}
-use Rattle.bytes_le.specs.Numbers.{le, leAt, words, fromWords}
+use Rattle.bytes_le.specs.Numbers.{le, leAt, words}
 use Rattle.bytes_le.proofs.Numbers.{Below, length-le}
 use Rattle.bytes_le.proofs.Words.{words-fromWords}
 use Rattle.awhile.specs.Lists.{sum}
 use Rattle.reader.specs.Index.{tableOf, nodesIn}
 use Rattle.reader.proofs.Index.{indexed-few, indexed-some, indexed-root-sort, indexed-note}
 use Rattle.machine.specs.Observations.{shownBytes}
-use Rattle.machine.specs.Runs.{Outcome}
 use Rattle.interpreter.specs.Evaluation.{variablesIn}
 use Rattle.interpreter.specs.Actions.{CommandAt}
 use Rattle.interpreter.specs.Fitting.{ArraysOf, Starts}
-use Rattle.interpreter.specs.Stepping.{startState, cellsIn, machineOf, pendingOf, Holds}
+use Rattle.interpreter.specs.Stepping.{startState, cellsIn, machineOf}
 use Rattle.interpreter.specs.Running.{runOf, Begun, StoppedAs, nextWord, reported, reportOf, RunAsked, RunLeaves}
 use Rattle.interpreter.specs.declared.run.Stopped.{Stopped}
 use Rattle.interpreter.specs.declared.run.Report.{Report}

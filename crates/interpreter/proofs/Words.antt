@@ -1,6 +1,5 @@
 -- 4-byte words in a slice: what one reads as, and what the others read as after one was stored.
 use Prim.Native.Nat.{ℕ, zero, suc, _+_, _*_, _^_, _≤_, _<_}
-use native.Mathlib.Numerals.{add-one}
 use native.Mathlib.Nat.{add-assoc, add-zero, eq-or-lt-of-le, mul-le-mul-left, le-of-lt}
 use native.Mathlib.Omega.{arith}
 use mathlib.Core.Path.{_≡_, refl, sym, ap, _∙_}
@@ -9,9 +8,9 @@ use mathlib.Core.Logic.{_⊎_, inl, inr, ⊎-elim}
 use mathlib.Core.List.{List, [], _∷_, _++_, append-assoc}
 use lib.Dec.{eqb, ltb}
 use borrow.Author.Tests.{eqb-true, eqb-false, ltb-true, ltb-false}
-use lib.ListN.{length, getD, set, take, drop, length-set, length-drop}
-use lib.Seq.{sets, sets-eq, length-sets, length-take-le, ext-getD, getD-set-same, getD-set-other, drop-drop}
-use Rattle.bytes_le.specs.Numbers.{le, leAt, fromLe, words, fromWords}
+use lib.ListN.{length, getD, set, take, drop, length-set}
+use lib.Seq.{sets, sets-eq, length-take-le, ext-getD, getD-set-same, getD-set-other, drop-drop}
+use Rattle.bytes_le.specs.Numbers.{le, leAt, fromLe, fromWords}
 use Rattle.bytes_le.proofs.Numbers.{length-le, leAt-seam}
 use Rattle.bytes_le.proofs.Loads.{leAt-next}
 

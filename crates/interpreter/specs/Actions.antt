@@ -3,7 +3,7 @@ use Prim.Native.Nat.{ℕ, _+_, _<_}
 use mathlib.Core.Bool.{Bool}
 use mathlib.Core.Path.{_≡_}
 use mathlib.Core.List.{List, _∷_}
-use lib.ListN.{length, set}
+use lib.ListN.{set}
 use Rattle.awhile.specs.Language.{Com}
 use Rattle.awhile.specs.Nodes.{sortOf}
 use Rattle.reader.specs.Index.{tableOf, nodesIn, nodeIn, commandIn}

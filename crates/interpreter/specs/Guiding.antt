@@ -9,7 +9,7 @@ use Rattle.machine.specs.Observations.{Observation}
 use Rattle.machine.specs.Directives.{readDirectives}
 use Rattle.interpreter.specs.Listed.{isSome}
 use Rattle.machine.specs.Steps.{State}
-use Rattle.machine.specs.Runs.{Room, Guide, plain, guessing, Machine, Next, over, shownIf, shownStep}
+use Rattle.machine.specs.Runs.{Room, Guide, plain, guessing, Machine, over, shownIf, shownStep}
 use Rattle.machine.specs.declared.Directive.{Directive}
 use Rattle.machine.specs.declared.End.the-variants.{OutOfDirectives}
 use Rattle.interpreter.specs.declared.guide.Guided.{Guided}

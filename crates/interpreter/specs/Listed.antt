@@ -2,7 +2,6 @@
 use Prim.Native.Nat.{ℕ}
 use mathlib.Core.Bool.{Bool, true, false, cond, _&&_}
 use mathlib.Core.Option.{Option, none, some}
-use mathlib.Core.List.{List}
 use lib.Dec.{eqb, leb}
 use Rattle.machine.specs.Directives.{directiveSize}
 use Rattle.machine.specs.declared.Directive.{Directive}

@@ -2,7 +2,7 @@
 use Prim.Native.Nat.{ℕ, zero, suc, _+_, _*_, _-_, _^_, _≤_, _<_}
 use mathlib.Core.Bool.{Bool, false, cond}
 use mathlib.Core.Path.{_≡_}
-use mathlib.Core.Option.{Option, none, some}
+use mathlib.Core.Option.{some}
 use mathlib.Core.List.{List, [], _∷_, _++_}
 use lib.ListN.{length}
 use lib.Dec.{leb}
@@ -11,13 +11,11 @@ use Rattle.awhile.specs.Language.{Com}
 use Rattle.awhile.specs.Lists.{sum}
 use Rattle.reader.specs.Index.{Indexed, tableOf, nodesIn, commandIn}
 use Rattle.machine.specs.Observations.{Observation, shownBytes}
-use Rattle.machine.specs.Steps.{State, atFork, atGet, atPut}
-use Rattle.machine.specs.Runs.{Machine, Outcome, bytes, next, goes, run}
+use Rattle.machine.specs.Runs.{Machine, bytes, next, goes, run}
 use Rattle.interpreter.specs.Evaluation.{variablesIn}
-use Rattle.interpreter.specs.Actions.{backOn, heightOf, changed, observationOf, CommandAt, BackFits}
+use Rattle.interpreter.specs.Actions.{heightOf, changed, observationOf, CommandAt, BackFits}
 use Rattle.interpreter.specs.Fitting.{Starts}
 use Rattle.interpreter.specs.Guiding.{Readable, guideOf}
-use Rattle.machine.specs.declared.Directive.{Directive}
 use Rattle.machine.specs.declared.End.{End}
 use Rattle.machine.specs.declared.End.the-variants.{Stuck, Full}
 use Rattle.interpreter.specs.declared.action.Change.{Change}

@@ -1,10 +1,9 @@
 // Where the cells of each array stand: "cells (array after array by number)".
 use bytes_le::get::u16_at;
-ghost use Prim.Native.Nat.{ℕ, _+_, _≤_};
+ghost use Prim.Native.Nat.{ℕ, _+_};
 ghost use mathlib.Core.Path.{_≡_};
 ghost use mathlib.Core.List.{List};
 ghost use lib.ListN.{length, getD};
-ghost use Rattle.awhile.specs.Tables.{accepted, readTable};
 ghost use Rattle.reader.specs.Index.{tableOf};
 ghost use Rattle.interpreter.specs.Fitting.{Starts, ArraysOf, cellOf};
 

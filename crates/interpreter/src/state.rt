@@ -1,5 +1,5 @@
 // The machine between two steps, as far as it does not stand in lent memory.
-ghost use Prim.Native.Nat.{_+_, _<_, _≤_, _^_};
+ghost use Prim.Native.Nat.{_+_, _<_, _^_};
 ghost use mathlib.Core.Path.{_≡_};
 ghost use Rattle.interpreter.specs.Stepping.{startState, movedState};
 
