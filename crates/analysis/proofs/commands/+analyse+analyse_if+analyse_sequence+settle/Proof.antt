@@ -224,6 +224,13 @@ settle-join-requires-2 t c κs = tt
 settle-same-requires : (t : ℕ) → settle-lts.Need-same-requires (settle-calls t) (settle-at t) settle.Post settle-Inv-loop settle-μ-loop
 settle-same-requires t c κs = tt
 
+-- what a pass leaves as it was is the answer
+settle-returns : (t : ℕ) → settle-lts.Need-returns (settle-calls t) (settle-at t) settle.Post settle-Inv-loop settle-μ-loop
+settle-returns t c =
+    passing-ends _ _ _ (c .before .before .before .before .before .before .before .before .before .before .before .loop .inv) (c .before .before .before .before .before .before .before .before .before .before .guarded .ensures) (c .before .before .before .before .before .before .before .analyse .ensures) (c .before .before .join2 .ensures)
+    (settle-answer t (c .before .before .before .before .before .before .before .before .before .before .before .before)) (sym (c .before .same .ensures) ∙ c .if1 .taken)
+
+-- and any other pass adds a secret
 settle-loop-less : (t : ℕ) → settle-lts.Need-loop-less (settle-calls t) (settle-at t) settle.Post settle-Inv-loop settle-μ-loop
 settle-loop-less t c = passing-falls _ _ _ (c .before .before .before .before .before .before .before .before .before .before .before .loop .inv) (c .before .before .before .before .before .before .before .before .before .before .guarded .ensures) (c .before .before .before .before .before .before .before .analyse .ensures) (c .before .before .join2 .ensures) (settle-within t (c .before)) (sym (c .before .same .ensures) ∙ c .if1 .left)
 
@@ -237,11 +244,6 @@ settle-same-length t c = c .before .before .before .before .before .before .befo
 
 settle-same-length-2 : (t : ℕ) → settle-lts.Need-same-length-2 (settle-calls t) (settle-at t) settle.Post settle-Inv-loop settle-μ-loop
 settle-same-length-2 t c = c .before .before .before .before .before .before .before .analyse .kept .1 .1 .1 .0 ∙ c .before .before .before .before .before .before .before .before .before .before .before .loop .inv .arrayLength
-
-settle-returns : (t : ℕ) → settle-lts.Need-returns (settle-calls t) (settle-at t) settle.Post settle-Inv-loop settle-μ-loop
-settle-returns t c =
-    passing-ends _ _ _ (c .before .before .before .before .before .before .before .before .before .before .before .loop .inv) (c .before .before .before .before .before .before .before .before .before .before .guarded .ensures) (c .before .before .before .before .before .before .before .analyse .ensures) (c .before .before .join2 .ensures)
-    (settle-answer t (c .before .before .before .before .before .before .before .before .before .before .before .before)) (sym (c .before .same .ensures) ∙ c .if1 .taken)
 
 pub +analyse+analyse-if+analyse-sequence+settle-spec : {M : Type 1} → statement M
 +analyse+analyse-if+analyse-sequence+settle-spec =
