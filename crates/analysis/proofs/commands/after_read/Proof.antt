@@ -3,8 +3,10 @@ use borrow.Author.Needs.{needs}
 use Rattle.analysis.proofs.commands.after_read.Statement.{statement}
 use Rattle.analysis.proofs.commands.after_read.Tie as tie
 
-returns : tie.Need-returns
-returns c = rw (c .label-variable .ensures, c .before .read-label .ensures)
-
 pub after-read-spec : {M : Type 1} → statement M
-after-read-spec = tie.close (tie.spec (λ c κs. search needs) (λ c κs. search needs) returns)
+after-read-spec =
+    tie.close
+    (tie.spec
+    (λ c κs. search needs)
+    (λ c κs. search needs)
+    (λ c. rw (c .label-variable .ensures, c .before .read-label .ensures)))

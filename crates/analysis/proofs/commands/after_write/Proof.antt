@@ -3,8 +3,10 @@ use borrow.Author.Needs.{needs}
 use Rattle.analysis.proofs.commands.after_write.Statement.{statement}
 use Rattle.analysis.proofs.commands.after_write.Tie as tie
 
-returns : tie.Need-returns
-returns c = rw (c .label-array .ensures, c .before .write-label .ensures)
-
 pub after-write-spec : {M : Type 1} → statement M
-after-write-spec = tie.close (tie.spec (λ c κs. search needs) (λ c κs. search needs) returns)
+after-write-spec =
+    tie.close
+    (tie.spec
+    (λ c κs. search needs)
+    (λ c κs. search needs)
+    (λ c. rw (c .label-array .ensures, c .before .write-label .ensures)))

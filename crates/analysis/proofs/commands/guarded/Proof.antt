@@ -3,8 +3,10 @@ use borrow.Author.Needs.{needs}
 use Rattle.analysis.proofs.commands.guarded.Statement.{statement}
 use Rattle.analysis.proofs.commands.guarded.Tie as tie
 
-returns : tie.Need-returns
-returns c = rw (c .either .ensures, c .before .truth-label .ensures)
-
 pub guarded-spec : {M : Type 1} → statement M
-guarded-spec = tie.close (tie.spec (λ c κs. search needs) (λ c κs. search needs) returns)
+guarded-spec =
+    tie.close
+    (tie.spec
+    (λ c κs. search needs)
+    (λ c κs. search needs)
+    (λ c. rw (c .either .ensures, c .before .truth-label .ensures)))

@@ -6,14 +6,10 @@ use borrow.Author.Needs.{needs}
 use Rattle.analysis.proofs.labelling.digit.Statement.{statement}
 use Rattle.analysis.proofs.labelling.digit.Tie as tie
 
-shr-result : tie.Need-shr-result
-shr-result c = search needs
-
-returns : tie.Need-returns
-returns c = sym (bit-shift (c .before .args .mask) (c .before .args .n))
-
-returns-2 : tie.Need-returns-2
-returns-2 c = sym (bit-above 64 (c .before .args .mask) (c .before .args .n) (search needs) (omega arith))
-
 pub digit-spec : {M : Type 1} → statement M
-digit-spec = tie.close (tie.spec shr-result returns returns-2)
+digit-spec =
+    tie.close
+    (tie.spec
+    (λ c. search needs)
+    (λ c. sym (bit-shift (c .before .args .mask) (c .before .args .n)))
+    (λ c. sym (bit-above 64 (c .before .args .mask) (c .before .args .n) (search needs) (omega arith))))

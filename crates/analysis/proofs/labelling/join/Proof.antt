@@ -4,9 +4,9 @@ use Rattle.labels.specs.Labellings.{join}
 use Rattle.analysis.proofs.labelling.join.Statement.{statement}
 use Rattle.analysis.proofs.labelling.join.Tie as tie
 
-returns : tie.Need-returns
-unfolding join
-returns c = search needs
-
 pub join-spec : {M : Type 1} → statement M
-join-spec = tie.close (tie.spec returns)
+unfolding join
+join-spec =
+    tie.close
+    (tie.spec
+    (λ c. search needs))

@@ -5,20 +5,17 @@ use borrow.Author.Needs.{needs}
 use Rattle.analysis.proofs.labelling.label_array.Statement.{statement}
 use Rattle.analysis.proofs.labelling.label_array.Tie as tie
 
-cast-put-digit : tie.Need-cast-put-digit
-cast-put-digit c = search needs
-
-put-digit-requires : tie.Need-put-digit-requires
-put-digit-requires c κs = search needs
-
 cast-t6 : tie.Need-cast-t6
 cast-t6 c =
     let args = c .before .before .args in
     rw (c .put-digit .ensures) (record { fits = put-lt (args .secret) 16 (args .labels .arrays) (args .array) (search needs) (search needs) })
 
-returns : tie.Need-returns
-unfolding setLabel
-returns c = λ i. record { variables = c .before .before .args .labels .variables; arrays = c .put-digit .ensures i }
-
 pub label-array-spec : {M : Type 1} → statement M
-label-array-spec = tie.close (tie.spec cast-put-digit put-digit-requires cast-t6 returns)
+unfolding setLabel
+label-array-spec =
+    tie.close
+    (tie.spec
+    (λ c. search needs)
+    (λ c κs. search needs)
+    cast-t6
+    (λ c. λ i. record { variables = c .before .before .args .labels .variables; arrays = c .put-digit .ensures i }))

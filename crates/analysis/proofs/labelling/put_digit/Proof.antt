@@ -5,22 +5,17 @@ use borrow.Author.Needs.{needs}
 use Rattle.analysis.proofs.labelling.put_digit.Statement.{statement}
 use Rattle.analysis.proofs.labelling.put_digit.Tie as tie
 
-shl-one : tie.Need-shl-one
-shl-one c = search needs
-
 sub-result : tie.Need-sub-result
 sub-result c =
     let mask = c .before .args .mask in
     let n = c .before .args .n in
     rw (shifted-one n 64 (c .before .pre)) (omega (arith, put-true mask n, put-difference mask n))
 
-returns : tie.Need-returns
-returns c =
-    rw (c .if1 .taken, shifted-one (c .before .args .n) 64 (c .before .pre), put-true)
-
-returns-2 : tie.Need-returns-2
-returns-2 c =
-    rw (c .if1 .left, shifted-one (c .before .args .n) 64 (c .before .pre), put-false)
-
 pub put-digit-spec : {M : Type 1} → statement M
-put-digit-spec = tie.close (tie.spec shl-one sub-result returns returns-2)
+put-digit-spec =
+    tie.close
+    (tie.spec
+    (λ c. search needs)
+    sub-result
+    (λ c. rw (c .if1 .taken, shifted-one (c .before .args .n) 64 (c .before .pre), put-true))
+    (λ c. rw (c .if1 .left, shifted-one (c .before .args .n) 64 (c .before .pre), put-false)))

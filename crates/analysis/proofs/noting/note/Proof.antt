@@ -10,11 +10,8 @@ use Rattle.analysis.proofs.noting.note.Tie as tie
 add-arrays : tie.Need-add-arrays
 add-arrays c = rw (c .context-digit .ensures) (omega (arith, digit-small (c .before .before .before .before .args .context)))
 
-returns : tie.Need-returns
-unfolding arrayNote
-returns c = (refl, rw (c .context-digit .ensures))
-
 pub note-spec : {M : Type 1} → statement M
+unfolding arrayNote
 note-spec =
     tie.close
     (tie.spec
@@ -28,4 +25,4 @@ note-spec =
     (λ c. search needs)
     (λ c. search needs)
     (λ c. search needs)
-    returns)
+    (λ c. (refl, rw (c .context-digit .ensures))))

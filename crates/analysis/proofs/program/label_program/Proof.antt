@@ -19,12 +19,6 @@ analyse-requires c κs =
     let start = c .before .before .before .before .before .before in
     rw (start .pre .1) (root-analysable (slice-bytes (now (start .args .table)) (c .before .before .before .before .before .shared-slice-known .given)) (start .pre .0) (start .args .labels))
 
-same-length : tie.Need-same-length
-same-length c = search needs
-
-same-length-2 : tie.Need-same-length-2
-same-length-2 c = search needs
-
 returns : tie.Need-returns
 returns c =
     let start = c .before .before .before .before .before .before .before .before .before .before .before in
@@ -36,4 +30,10 @@ returns c =
 
 pub label-program-spec : {M : Type 1} → statement M
 label-program-spec =
-    tie.close (tie.spec sub-analyse analyse-requires same-length same-length-2 returns)
+    tie.close
+    (tie.spec
+    sub-analyse
+    analyse-requires
+    (λ c. search needs)
+    (λ c. search needs)
+    returns)

@@ -20,31 +20,6 @@ parts d =
     let start = d .before .before .before in
     node-parts (slice-bytes (now (start .args .table)) (d .before .before .shared-slice-known .given)) (start .pre .0) (start .pre .1) (d .command-at .ensures)
 
-returns : tie.Need-returns
-unfolding recordLength
-returns c =
-    (sym (ap recordLength (parts (c .before .before) _ (c .enum-told .given .1) .2)), omega arith)
-
-returns-2 : tie.Need-returns-2
-unfolding recordLength
-returns-2 c =
-    (sym (ap recordLength (parts (c .before .before) _ (c .enum-told2 .given .1) .3)), omega arith)
-
-returns-3 : tie.Need-returns-3
-unfolding recordLength
-returns-3 c =
-    (sym (ap recordLength (parts (c .before .before) _ (c .enum-told3 .given .1) .2)), omega arith)
-
-returns-4 : tie.Need-returns-4
-unfolding recordLength
-returns-4 c =
-    (sym (ap recordLength (parts (c .before .before) _ (c .enum-told4 .given .1) .3)), omega arith)
-
-returns-5 : tie.Need-returns-5
-unfolding recordLength
-returns-5 c =
-    (sym (ap recordLength (parts (c .before .before) _ (c .enum-told5 .given .1) .3)), omega arith)
-
 returns-6 : tie.Need-returns-6
 returns-6 c =
     let start = c .before .before .before .before in
@@ -55,6 +30,7 @@ returns-6 c =
     )
 
 pub command-size-spec : {M : Type 1} → statement M
+unfolding recordLength
 command-size-spec =
     tie.close
     (tie.spec
@@ -64,9 +40,9 @@ command-size-spec =
     (λ c. search needs)
     (λ c. search needs)
     (λ c. search needs)
-    returns
-    returns-2
-    returns-3
-    returns-4
-    returns-5
+    (λ c. (sym (ap recordLength (parts (c .before .before) _ (c .enum-told .given .1) .2)), omega arith))
+    (λ c. (sym (ap recordLength (parts (c .before .before) _ (c .enum-told2 .given .1) .3)), omega arith))
+    (λ c. (sym (ap recordLength (parts (c .before .before) _ (c .enum-told3 .given .1) .2)), omega arith))
+    (λ c. (sym (ap recordLength (parts (c .before .before) _ (c .enum-told4 .given .1) .3)), omega arith))
+    (λ c. (sym (ap recordLength (parts (c .before .before) _ (c .enum-told5 .given .1) .3)), omega arith))
     returns-6)

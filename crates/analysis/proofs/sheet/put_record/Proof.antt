@@ -23,9 +23,6 @@ put-command-requires c κs =
     let isCommand = sameSort-true (sortOf (nodeIn (now (start .args .table)) (start .args .n))) Command (sym (c .before .before .is-command .ensures) ∙ c .before .if1 .taken) in
     (start .pre .0, start .pre .1, start .pre .2, isCommand)
 
-returns : tie.Need-returns
-returns c = c .before .before .put-command .ensures
-
 returns-2 : tie.Need-returns-2
 returns-2 c =
     let start = c .before .before .before .before .before .before .before in
@@ -38,4 +35,10 @@ returns-2 c =
 
 pub put-record-spec : {M : Type 1} → statement M
 put-record-spec =
-    tie.close (tie.spec is-command-requires put-command-requires (λ c. search needs) returns returns-2)
+    tie.close
+    (tie.spec
+    is-command-requires
+    put-command-requires
+    (λ c. search needs)
+    (λ c. c .before .before .put-command .ensures)
+    returns-2)

@@ -6,17 +6,17 @@ use borrow.Author.Needs.{needs}
 use Rattle.bytes_le.proofs.get.byte_at.Statement.{statement}
 use Rattle.bytes_le.proofs.get.byte_at.Tie as tie
 
-shared-slice-read-result : tie.Need-shared-slice-read-result
-shared-slice-read-result c = search needs
-
 cast-result : tie.Need-cast-result
 cast-result c = omega (arith, c .shared-slice-known .given (c .before .before .args .at))
 
 returns : tie.Need-returns
 returns c = omega (arith, leAt-one (now (c .before .before .args .s)) (c .before .before .args .at), c .shared-slice-known .given (c .before .before .args .at))
 
-returns-2 : tie.Need-returns-2
-returns-2 c = omega (arith, leAt-past (now (c .before .args .s)) 1 (c .before .args .at) (c .if1 .left))
-
 pub byte-at-spec : {M : Type 1} → statement M
-byte-at-spec = tie.close (tie.spec shared-slice-read-result cast-result returns returns-2)
+byte-at-spec =
+    tie.close
+    (tie.spec
+    (λ c. search needs)
+    cast-result
+    returns
+    (λ c. omega (arith, leAt-past (now (c .before .args .s)) 1 (c .before .args .at) (c .if1 .left))))

@@ -8,9 +8,6 @@ use borrow.Author.Needs.{needs}
 use Rattle.bytes_le.proofs.get.u16_at.Statement.{statement}
 use Rattle.bytes_le.proofs.get.u16_at.Tie as tie
 
-returns : tie.Need-returns
-returns c = c .whole-u16 .ensures
-
 returns-2 : tie.Need-returns-2
 returns-2 c =
     let s = now (c .before .before .before .before .args .s) in
@@ -23,6 +20,6 @@ u16-at-spec =
     (tie.spec
     (λ c κs. search needs)
     (λ c κs. search needs)
-    returns
+    (λ c. c .whole-u16 .ensures)
     (λ c κs. search needs)
     returns-2)

@@ -5,18 +5,12 @@ use borrow.Author.Needs.{needs}
 use Rattle.bytes_le.proofs.put.put8.Statement.{statement}
 use Rattle.bytes_le.proofs.put.put8.Tie as tie
 
-cast-out : tie.Need-cast-out
-cast-out c = search needs
-
-slice-write-out : tie.Need-slice-write-out
-slice-write-out c = search needs
-
-same-length : tie.Need-same-length
-same-length c = search needs
-
-returns : tie.Need-returns
-unfolding le
-returns c = refl
-
 pub put8-spec : {M : Type 1} → statement M
-put8-spec = tie.close (tie.spec cast-out slice-write-out same-length returns)
+unfolding le
+put8-spec =
+    tie.close
+    (tie.spec
+    (λ c. search needs)
+    (λ c. search needs)
+    (λ c. search needs)
+    (λ c. refl))

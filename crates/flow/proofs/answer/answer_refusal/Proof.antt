@@ -8,19 +8,6 @@ use Rattle.flow.proofs.answer.answer_two.Reads as answer-two-reads
 use Rattle.flow.proofs.answer.number_of.Reads as number-of-reads
 use Rattle.flow.proofs.answer.place_of.Reads as place-of-reads
 
--- src/answer.rt:76:9
--- src/answer.rt:77:38
-place-of-requires : tie.Need-place-of-requires
-place-of-requires c κs = search needs
-
--- src/answer.rt:77:5
-answer-two-requires : tie.Need-answer-two-requires
-answer-two-requires c κs = search needs
-
--- src/answer.rt:73:1
-same-length : tie.Need-same-length
-same-length c = search needs
-
 -- src/answer.rt:73:1
 returns : tie.Need-returns
 returns c = (
@@ -32,4 +19,9 @@ returns c = (
 pub answer-refusal-spec : {M : Type 1} → statement M
 answer-refusal-spec =
     tie.close
-    (tie.spec (λ c κs. search needs) place-of-requires answer-two-requires same-length returns)
+    (tie.spec
+    (λ c κs. search needs)
+    (λ c κs. search needs)
+    (λ c κs. search needs)
+    (λ c. search needs)
+    returns)

@@ -6,18 +6,6 @@ use Rattle.flow.proofs.answer.answer_two.Reads as reads
 use Rattle.flow.proofs.answer.answer_two.Lts as lts
 use Rattle.flow.proofs.answer.put_number.Reads as put-number-reads
 
--- src/answer.rt:24:5
-put-number-requires : tie.Need-put-number-requires
-put-number-requires c κs = search needs
-
--- src/answer.rt:25:5
-put-number-requires-2 : tie.Need-put-number-requires-2
-put-number-requires-2 c κs = search needs
-
--- src/answer.rt:21:1
-same-length : tie.Need-same-length
-same-length c = search needs
-
 -- src/answer.rt:21:1
 returns : tie.Need-returns
 returns c =
@@ -26,4 +14,9 @@ returns c =
 
 pub answer-two-spec : {M : Type 1} → statement M
 answer-two-spec =
-    tie.close (tie.spec put-number-requires put-number-requires-2 same-length returns)
+    tie.close
+    (tie.spec
+    (λ c κs. search needs)
+    (λ c κs. search needs)
+    (λ c. search needs)
+    returns)

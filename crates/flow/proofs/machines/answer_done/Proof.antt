@@ -1,4 +1,4 @@
--- `flow::machines::answer_done` meets its contract.
+-- `answer_done` writes the numbers of a refusal or of a run's report.
 use Rattle.flow.proofs.Runs.{refused-answered, run-answered}
 use borrow.Author.Needs.{needs}
 use Rattle.flow.proofs.machines.answer_done.Statement.{statement}

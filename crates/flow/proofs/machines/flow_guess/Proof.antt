@@ -1,4 +1,4 @@
--- `flow::machines::flow_guess` meets its contract.
+-- `flow_guess` promises what `guessEntry` defines: the table is read and run under the directives.
 use Rattle.flow.proofs.Runs.{guess-promise}
 use borrow.Author.Needs.{needs}
 use Rattle.flow.proofs.machines.flow_guess.Statement.{statement}

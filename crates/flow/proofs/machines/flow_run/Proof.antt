@@ -1,4 +1,4 @@
--- `flow::machines::flow_run` meets its contract.
+-- `flow_run` promises what `runEntry` defines: the table is read and run without directives.
 use Rattle.flow.proofs.Runs.{run-promise}
 use mathlib.Core.Path.{refl}
 use borrow.Author.Needs.{needs}

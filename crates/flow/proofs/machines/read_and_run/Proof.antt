@@ -1,4 +1,4 @@
--- `flow::machines::read_and_run` meets its contract.
+-- `read_and_run` runs a table that is accepted, and hands on the reader's refusal of any other.
 use Rattle.flow.proofs.Runs.{read-refused, read-accepted, read-done}
 use borrow.Author.Needs.{needs}
 use Rattle.flow.proofs.machines.read_and_run.Statement.{statement}
@@ -6,9 +6,6 @@ use Rattle.flow.proofs.machines.read_and_run.Tie as tie
 
 run-read-requires : tie.Need-run-read-requires
 run-read-requires c κs = read-accepted _ _ _ _ _ _ _ _ _ (c .before .before .before .before .before .before .before .before .before .read .ensures) (c .before .before .before .before .before .before .found2 .given .1)
-
-returns : tie.Need-returns
-returns c = read-refused _ _ _ _ _ _ _ _ (c .before .before .before .before .read .ensures) (c .before .found .given .1)
 
 returns-2 : tie.Need-returns-2
 returns-2 c =
@@ -24,7 +21,7 @@ read-and-run-spec =
     (λ c. search needs)
     (λ c. search needs)
     run-read-requires
-    returns
+    (λ c. read-refused _ _ _ _ _ _ _ _ (c .before .before .before .before .read .ensures) (c .before .found .given .1))
     (λ c. search needs)
     (λ c. search needs)
     (λ c. search needs)

@@ -1,4 +1,4 @@
--- `flow::machines::run_read` meets its contract.
+-- `run_read` makes the tests 10 and 20 to 22 in their order, and runs what passes them.
 use Rattle.flow.proofs.Runs.{ready-small, bad-list, wrong-variables, wrong-cells, short-pending, run-asked, run-done}
 use Rattle.bytes_le.proofs.Numbers.{slice-bytes}
 use borrow.Author.Tests.{not-true, not-false}

@@ -34,10 +34,14 @@ unfolding testIn
 returns c =
     sized-same (masked-test 0 _ (sym (c .before .before .before .mask-condition .ensures) ∙ c .before .before .if1 .taken) (c .before .before .before .before .truth-size .ensures)) (record { nodesCounted = refl; bytesCounted = refl })
 
-returns-2 : tie.Need-returns-2
-unfolding testIn
-returns-2 c =
-    bare-test 0 _ (sym (c .before .mask-condition .ensures) ∙ c .if1 .left) (c .before .before .truth-size .ensures)
-
 pub condition-size-spec : {M : Type 1} → statement M
-condition-size-spec = tie.close (tie.spec truth-size-requires mask-condition-requires add-t10 add-t11 returns returns-2)
+unfolding testIn
+condition-size-spec =
+    tie.close
+    (tie.spec
+    truth-size-requires
+    mask-condition-requires
+    add-t10
+    add-t11
+    returns
+    (λ c. bare-test 0 _ (sym (c .before .mask-condition .ensures) ∙ c .if1 .left) (c .before .before .truth-size .ensures)))

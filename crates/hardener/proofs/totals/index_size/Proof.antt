@@ -29,9 +29,13 @@ returns : tie.Need-returns
 returns c =
     sized-same (masked-place 0 _ (sym (c .before .before .before .mask-index .ensures) ∙ c .before .before .if1 .taken) (c .before .before .before .before .numeric-size .ensures)) (record { nodesCounted = refl; bytesCounted = refl })
 
-returns-2 : tie.Need-returns-2
-returns-2 c =
-    bare-place 0 _ (sym (c .before .mask-index .ensures) ∙ c .if1 .left) (c .before .before .numeric-size .ensures)
-
 pub index-size-spec : {M : Type 1} → statement M
-index-size-spec = tie.close (tie.spec numeric-size-requires mask-index-requires add-t10 add-t11 returns returns-2)
+index-size-spec =
+    tie.close
+    (tie.spec
+    numeric-size-requires
+    mask-index-requires
+    add-t10
+    add-t11
+    returns
+    (λ c. bare-place 0 _ (sym (c .before .mask-index .ensures) ∙ c .if1 .left) (c .before .before .numeric-size .ensures)))

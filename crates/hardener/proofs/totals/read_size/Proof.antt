@@ -4,13 +4,13 @@ use borrow.Author.Needs.{needs}
 use Rattle.hardener.proofs.totals.read_size.Statement.{statement}
 use Rattle.hardener.proofs.totals.read_size.Tie as tie
 
-returns : tie.Need-returns
-returns c =
-    rw (c .before .before .if1 .taken) (record { nodesCounted = refl; bytesCounted = refl })
-
-returns-2 : tie.Need-returns-2
-returns-2 c =
-    rw (c .before .before .if1 .left) (record { nodesCounted = refl; bytesCounted = refl })
-
 pub read-size-spec : {M : Type 1} → statement M
-read-size-spec = tie.close (tie.spec (λ c. search needs) (λ c. search needs) (λ c. search needs) (λ c. search needs) returns returns-2)
+read-size-spec =
+    tie.close
+    (tie.spec
+    (λ c. search needs)
+    (λ c. search needs)
+    (λ c. search needs)
+    (λ c. search needs)
+    (λ c. rw (c .before .before .if1 .taken) (record { nodesCounted = refl; bytesCounted = refl }))
+    (λ c. rw (c .before .before .if1 .left) (record { nodesCounted = refl; bytesCounted = refl })))

@@ -74,9 +74,6 @@ returns-6 c =
     looked-write _ _ _ _ _ _ _ _ _ (c .put .ensures) (c .before .before .value3 .ensures) (c .before .value4 .ensures)
     (parts (c .before .before .before .before .before .before) _ (c .before .before .before .before .node6 .given .1))
 
-returns-7 : tie.Need-returns-7
-returns-7 c = looked-skip _ _ _ _ (c .put-back2 .ensures) (parts (c .before .before .before) _ (c .before .enum-told .given .1))
-
 returns-8 : tie.Need-returns-8
 returns-8 c = never-command (c .before .before .command-at .result) (c .before .match .keys8) (ap sortOf (c .before .before .command-at .ensures) ∙ c .before .before .before .before .before .before .pre .isSort)
 
@@ -112,5 +109,5 @@ look-at-spec =
     returns-4
     returns-5
     returns-6
-    returns-7
+    (λ c. looked-skip _ _ _ _ (c .put-back2 .ensures) (parts (c .before .before .before) _ (c .before .enum-told .given .1)))
     returns-8)

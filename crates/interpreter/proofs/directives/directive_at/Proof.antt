@@ -1,12 +1,9 @@
--- `machine::directives::directive_at` meets its contract.
+-- `directive_at` decodes a record of the list that is whole.
 use Rattle.interpreter.proofs.DirectiveLists.{first-known, first-unknown}
 use mathlib.Core.Path.{refl}
 use borrow.Author.Needs.{needs}
 use Rattle.interpreter.proofs.directives.directive_at.Statement.{statement}
 use Rattle.interpreter.proofs.directives.directive_at.Tie as tie
-
-enum-told : tie.Need-enum-told
-enum-told c = search needs
 
 returns : tie.Need-returns
 returns c =
@@ -37,6 +34,6 @@ directive-at-spec =
     (λ c κs. search needs)
     (λ c. search needs)
     (λ c κs. search needs)
-    enum-told
+    (λ c. search needs)
     returns
     returns-2)

@@ -1,4 +1,4 @@
--- `machine::directives::reads` meets its contract.
+-- `reads`: at every turn the rest of the list reads exactly when the whole list does.
 use Prim.Native.Nat.{_+_, _-_, _≤_, _<_}
 use native.Mathlib.Omega.{arith}
 use mathlib.Core.Path.{_≡_, refl, sym, ap, _∙_}

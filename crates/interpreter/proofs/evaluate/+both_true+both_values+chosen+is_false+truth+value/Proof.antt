@@ -1,4 +1,4 @@
--- Evaluation meets its contracts: a child's node number is lower, and the value of a node is made of its children's.
+-- `value` and `truth` evaluate a node from its parts, whose numbers are lower.
 use Prim.Native.Nat.{ℕ, _+_, _*_, _<_, max}
 use mathlib.Core.Bool.{not}
 use mathlib.Core.Path.{_≡_, ap, subst, _∙_}

@@ -1,12 +1,8 @@
--- `machine::fit::fitting` meets its contract.
+-- `fitting` tells branches, reads and writes apart.
 use Rattle.interpreter.specs.Fitting.{fitOf}
 use borrow.Author.Needs.{needs}
 use Rattle.interpreter.proofs.fit.fitting.Statement.{statement}
 use Rattle.interpreter.proofs.fit.fitting.Tie as tie
-
-returns : tie.Need-returns
-unfolding fitOf
-returns c = λ counts at. rw (c .before .before .shown .given .1, fitOf) (c .fork-fit .ensures)
 
 returns-2 : tie.Need-returns-2
 unfolding fitOf
@@ -17,6 +13,7 @@ unfolding fitOf
 returns-3 c = λ counts at. rw (c .before .before .before .before .shown3 .given .1, fitOf, ← c .before .before .store-target .ensures, ← c .before .cell-for2 .ensures counts at) (c .store-fit .ensures)
 
 pub fitting-spec : {M : Type 1} → statement M
+unfolding fitOf
 fitting-spec =
     tie.close
     (tie.spec
@@ -30,6 +27,6 @@ fitting-spec =
     (λ c κs. search needs)
     (λ c κs. search needs)
     (λ c κs. search needs)
-    returns
+    (λ c. λ counts at. rw (c .before .before .shown .given .1, fitOf) (c .fork-fit .ensures))
     returns-2
     returns-3)

@@ -1,37 +1,19 @@
--- `machine::fit::load_target` meets its contract.
+-- `load_target` tells the directives apart as a read sees them.
 use Rattle.interpreter.specs.Fitting.{loadTarget}
 use borrow.Author.Needs.{needs}
 use Rattle.interpreter.proofs.fit.load_target.Statement.{statement}
 use Rattle.interpreter.proofs.fit.load_target.Tie as tie
 
-enum-told : tie.Need-enum-told
-enum-told c = search needs
-
-returns : tie.Need-returns
-unfolding loadTarget
-returns c = rw (c .enum-told .given .1, loadTarget)
-
-returns-2 : tie.Need-returns-2
-unfolding loadTarget
-returns-2 c = rw (c .before .directive .given .1, loadTarget)
-
-returns-3 : tie.Need-returns-3
-unfolding loadTarget
-returns-3 c = rw (c .enum-told2 .given .1, loadTarget)
-
-returns-4 : tie.Need-returns-4
-unfolding loadTarget
-returns-4 c = rw (c .enum-told3 .given .1, loadTarget)
-
 pub load-target-spec : {M : Type 1} → statement M
+unfolding loadTarget
 load-target-spec =
     tie.close
     (tie.spec
-    enum-told
     (λ c. search needs)
     (λ c. search needs)
     (λ c. search needs)
-    returns
-    returns-2
-    returns-3
-    returns-4)
+    (λ c. search needs)
+    (λ c. rw (c .enum-told .given .1, loadTarget))
+    (λ c. rw (c .before .directive .given .1, loadTarget))
+    (λ c. rw (c .enum-told2 .given .1, loadTarget))
+    (λ c. rw (c .enum-told3 .given .1, loadTarget)))

@@ -1,18 +1,12 @@
--- `machine::guide::guide` meets its contract.
+-- `guide` gives a step as the program has it, the next directive, or says that there is none left.
 use Rattle.interpreter.proofs.Guides.{goes-plainly, runs-out, goes-by, never-refused}
 use borrow.Author.Tests.{not-true, not-false}
 use borrow.Author.Needs.{needs}
 use Rattle.interpreter.proofs.guide.guide.Statement.{statement}
 use Rattle.interpreter.proofs.guide.guide.Tie as tie
 
-returns : tie.Need-returns
-returns c = rw (not-true (c .before .before .args .guessing) (c .if1 .taken)) (goes-plainly _ _ (c .before .before .pre))
-
 returns-2 : tie.Need-returns-2
 returns-2 c = rw (not-false (c .before .before .before .args .guessing) (c .before .if1 .left)) (runs-out _ _ (c .before .before .before .pre) (c .if2 .taken))
-
-enum-told : tie.Need-enum-told
-enum-told c = search needs
 
 returns-3 : tie.Need-returns-3
 returns-3 c =
@@ -29,11 +23,11 @@ pub guide-spec : {M : Type 1} → statement M
 guide-spec =
     tie.close
     (tie.spec
-    returns
+    (λ c. rw (not-true (c .before .before .args .guessing) (c .if1 .taken)) (goes-plainly _ _ (c .before .before .pre)))
     returns-2
     (λ c κs. search needs)
     (λ c. search needs)
     (λ c κs. search needs)
-    enum-told
+    (λ c. search needs)
     returns-3
     returns-4)

@@ -1,4 +1,4 @@
--- `machine::memory::perform` meets its contract.
+-- `perform` leaves the state's bytes that the change defines.
 use Rattle.interpreter.proofs.Effects.{performed-back, performed-assign, performed-store}
 use native.Mathlib.Omega.{arith}
 use borrow.Author.Needs.{needs}
@@ -18,9 +18,6 @@ put32-requires c κs = rw (c .before .before .change2 .given .1) at (c .before .
 
 put32-requires-2 : tie.Need-put32-requires-2
 put32-requires-2 c κs = rw (c .before .before .change3 .given .1) at (c .before .before .before .before .before .before .before .pre)
-
-returns : tie.Need-returns
-returns c = performed-back _ _ _ _ _ _ _ (c .before .before .before .before .before .change .given .1) (c .before .before .push .ensures)
 
 returns-2 : tie.Need-returns-2
 returns-2 c = performed-assign _ _ _ _ _ _ _ _ (c .before .before .before .before .before .change2 .given .1) (omega (arith, c .before .before .before .before .known-told2 .given)) (c .before .before .put32 .ensures)
@@ -42,7 +39,7 @@ perform-spec =
     (λ c. search needs)
     put32-requires-2
     (λ c. search needs)
-    returns
+    (λ c. performed-back _ _ _ _ _ _ _ (c .before .before .before .before .before .change .given .1) (c .before .before .push .ensures))
     (λ c. search needs)
     returns-2
     (λ c. search needs)

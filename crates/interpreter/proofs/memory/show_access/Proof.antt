@@ -1,4 +1,4 @@
--- `machine::memory::show_access` meets its contract.
+-- `show_access` writes a read's or a write's record.
 use Rattle.interpreter.proofs.Effects.{stored-access}
 use borrow.Author.Needs.{needs}
 use Rattle.interpreter.proofs.memory.show_access.Statement.{statement}

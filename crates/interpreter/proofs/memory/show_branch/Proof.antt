@@ -1,4 +1,4 @@
--- `machine::memory::show_branch` meets its contract.
+-- `show_branch` writes a branch's record.
 use Rattle.interpreter.proofs.Effects.{stored-record}
 use borrow.Author.Needs.{needs}
 use Rattle.interpreter.proofs.memory.show_branch.Statement.{statement}

@@ -1,4 +1,4 @@
--- `machine::memory::show_record` meets its contract.
+-- `show_record` tells the observations apart.
 use Rattle.bytes_le.specs.Numbers.{le}
 use Rattle.interpreter.specs.Actions.{observationOf}
 use Rattle.machine.specs.Observations.{observationBytes}

@@ -1,13 +1,10 @@
--- `machine::places::cell_at` meets its contract.
+-- `cell_at` finds the place of a cell where the index is below the array's count.
 use Prim.Native.Nat.{_+_}
 use Rattle.interpreter.proofs.CellPlaces.{cell-undeclared, cell-found, cell-missing}
 use native.Mathlib.Omega.{arith}
 use borrow.Author.Needs.{needs}
 use Rattle.interpreter.proofs.places.cell_at.Statement.{statement}
 use Rattle.interpreter.proofs.places.cell_at.Tie as tie
-
-returns : tie.Need-returns
-returns c = λ counts at. cell-undeclared counts _ at _ _ (c .if1 .taken)
 
 cast-place : tie.Need-cast-place
 cast-place c = omega (arith, c .shared-slice-known .given (c .before .before .args .array))
@@ -21,17 +18,11 @@ cast-if2 c = omega (arith, c .shared-slice-known2 .given (c .before .before .bef
 cast-t13 : tie.Need-cast-t13
 cast-t13 c = omega (arith, c .before .shared-slice-known2 .given (c .before .before .before .before .args .array + 1))
 
-returns-2 : tie.Need-returns-2
-returns-2 c = λ counts at. cell-found counts _ at _ _ (c .before .before .before .if1 .left) (c .if2 .taken)
-
-returns-3 : tie.Need-returns-3
-returns-3 c = λ counts at. cell-missing counts _ at _ _ (c .before .before .before .if1 .left) (c .if2 .left)
-
 pub cell-at-spec : {M : Type 1} → statement M
 cell-at-spec =
     tie.close
     (tie.spec
-    returns
+    (λ c. λ counts at. cell-undeclared counts _ at _ _ (c .if1 .taken))
     (λ c. search needs)
     (λ c. search needs)
     cast-place
@@ -41,5 +32,5 @@ cell-at-spec =
     (λ c. search needs)
     cast-if2
     cast-t13
-    returns-2
-    returns-3)
+    (λ c. λ counts at. cell-found counts _ at _ _ (c .before .before .before .if1 .left) (c .if2 .taken))
+    (λ c. λ counts at. cell-missing counts _ at _ _ (c .before .before .before .if1 .left) (c .if2 .left)))

@@ -1,4 +1,4 @@
--- `machine::places::find_starts` meets its contract.
+-- `find_starts`: at every turn the starts noted so far are the sums of the counts before them.
 use Prim.Native.Nat.{ℕ, _+_, _-_, _≤_}
 use native.Mathlib.Numerals.{add-one}
 use native.Mathlib.Omega.{arith}

@@ -1,4 +1,4 @@
--- `machine::run::clear` meets its contract.
+-- `clear`: at every turn the entries from the first on are zeros so far, and the others as they were.
 use Prim.Native.Nat.{_*_, _-_, _≤_}
 use native.Mathlib.Omega.{arith}
 use mathlib.Core.Path.{_≡_, ap, _∙_}

@@ -1,4 +1,4 @@
--- `machine::run::run` meets its contract.
+-- `run` starts with the root pending and goes on until the run is over.
 use mathlib.Core.Path.{refl}
 -- A run begins at the root, goes on to its end, and leaves the pending list with zeros behind it.
 use Prim.Native.Nat.{_*_, _≤_}

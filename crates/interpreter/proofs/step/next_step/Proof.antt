@@ -1,4 +1,4 @@
--- `machine::step::next_step` meets its contract.
+-- `next_step` is over for one of the five ends in their order, or takes the step that `next` takes.
 use Rattle.interpreter.proofs.NextSteps.{ends-finished, ends-spent, ends-out, advances-quietly, shows}
 use Rattle.interpreter.specs.declared.guide.Guided.the-variants.{By}
 use Rattle.interpreter.specs.declared.action.Action.{Action}
@@ -47,12 +47,6 @@ guided-by : (d : tie.After-guide) (e : Directive) (size used : ℕ) → d .guide
     → GoesBy (d .before .before .before .before .before .before .before .before .before .before .before .before .before .before .before .before .args .guessing) (now (d .before .before .before .before .before .before .before .before .before .before .before .before .before .before .before .before .args .directives)) (d .before .before .before .before .before .before .before .before .before .before .before .before .before .before .before .before .args .state .at) e size used
 guided-by d e size used is = rw is at (d .guide .ensures)
 
-returns : tie.Need-returns
-returns c = ends-finished _ _ _ _ _ _ _ _ _ (c .if1 .taken)
-
-returns-2 : tie.Need-returns-2
-returns-2 c = ends-spent _ _ _ _ _ _ _ _ _ (pos-of-ne-zero (c .before .before .if1 .left)) (c .if2 .taken)
-
 look-at-requires : tie.Need-look-at-requires
 look-at-requires c κs =
     let start = c .before .before .before .before .before .before .before .before .before .before .before in
@@ -68,9 +62,6 @@ shown-step-requires c κs =
     let start = c .before .before .before .before .before .before .before .before .before .before .before .before .before .before .before .before .before .before .before .before in
     let by = guided-by (c .before .before .before .before) _ _ _ (c .before .before .guided .given .1) in
     (moving (c .before .before .before .before .before .before .before .before), by .few, omega (arith, by .readable .within, start .good .1 .1 .1 .0 .0), start .pre .shownFit)
-
-enum-told : tie.Need-enum-told
-enum-told c = search needs
 
 returns-3 : tie.Need-returns-3
 returns-3 c =
@@ -97,8 +88,8 @@ pub next-step-spec : {M : Type 1} → statement M
 next-step-spec =
     tie.close
     (tie.spec
-    returns
-    returns-2
+    (λ c. ends-finished _ _ _ _ _ _ _ _ _ (c .if1 .taken))
+    (λ c. ends-spent _ _ _ _ _ _ _ _ _ (pos-of-ne-zero (c .before .before .if1 .left)) (c .if2 .taken))
     (λ c. search needs)
     (λ c. search needs)
     (λ c κs. search needs)
@@ -111,7 +102,7 @@ next-step-spec =
     (λ c. search needs)
     (λ c κs. search needs)
     shown-step-requires
-    enum-told
+    (λ c. search needs)
     returns-3
     returns-4
     returns-5)

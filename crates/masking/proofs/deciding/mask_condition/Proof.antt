@@ -13,13 +13,15 @@ noted-labelling-requires c κs =
     let start = c .before .before .before .before in
     (omega (arith, start .pre .inside, start .pre .room .variables), omega (arith, start .pre .inside, start .pre .room .arrays), start .pre .room .fit (start .args .at))
 
-truth-label-requires : tie.Need-truth-label-requires
-truth-label-requires c κs = search needs
-
 returns : tie.Need-returns
 returns c =
     let start = c .before .before .before .before .before .before in
     c .truth-label .ensures ∙ ap (λ l. labelOfB l (truthIn (now (start .args .table)) (start .args .condition))) (c .before .noted-labelling .ensures)
 
 pub mask-condition-spec : {M : Type 1} → statement M
-mask-condition-spec = tie.close (tie.spec noted-labelling-requires truth-label-requires returns)
+mask-condition-spec =
+    tie.close
+    (tie.spec
+    noted-labelling-requires
+    (λ c κs. search needs)
+    returns)

@@ -13,13 +13,15 @@ noted-labelling-requires c κs =
     let start = c .before .before .before .before in
     (omega (arith, start .pre .inside, start .pre .room .variables), omega (arith, start .pre .inside, start .pre .room .arrays), start .pre .room .fit (start .args .at))
 
-numeric-label-requires : tie.Need-numeric-label-requires
-numeric-label-requires c κs = search needs
-
 returns : tie.Need-returns
 returns c =
     let start = c .before .before .before .before .before .before in
     c .numeric-label .ensures ∙ ap (λ l. labelOfA l (numericIn (now (start .args .table)) (start .args .place))) (c .before .noted-labelling .ensures)
 
 pub mask-index-spec : {M : Type 1} → statement M
-mask-index-spec = tie.close (tie.spec noted-labelling-requires numeric-label-requires returns)
+mask-index-spec =
+    tie.close
+    (tie.spec
+    noted-labelling-requires
+    (λ c κs. search needs)
+    returns)

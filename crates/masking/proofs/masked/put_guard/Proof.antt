@@ -13,10 +13,12 @@ append-requires : tie.Need-append-requires
 unfolding sizeOf form fieldSize sum
 append-requires c κs = room-parent 8 (c .before .before .before .put-test .ensures) (counted-test _ _ _) (c .before .before .before .before .before .before .pre) (omega arith) (omega arith)
 
-returns : tie.Need-returns
-unfolding guardNodes
-returns c =
-    wrote-parent (c .before .before .before .before .before .before .put-test .ensures) (c .before .before .append .ensures)
-
 pub put-guard-spec : {M : Type 1} → statement M
-put-guard-spec = tie.close (tie.spec (λ c κs. search needs) append-requires (λ c. search needs) returns)
+unfolding guardNodes
+put-guard-spec =
+    tie.close
+    (tie.spec
+    (λ c κs. search needs)
+    append-requires
+    (λ c. search needs)
+    (λ c. wrote-parent (c .before .before .before .before .before .before .put-test .ensures) (c .before .before .append .ensures)))

@@ -28,9 +28,6 @@ append-requires-3 c κs =
     room-parent 8 (wrote-parent (wrote-node (c .before .before .before .before .before .before .before .append .ensures)) (c .before .before .before .append2 .ensures))
     (counted-append (counted-node (Variable (start .args .flag))) (counted-node (Number (start .args .value)))) (start .pre) (omega arith) (omega arith)
 
-same-length : tie.Need-same-length
-same-length c = search needs
-
 returns : tie.Need-returns
 returns c =
     let start = c .before .before .before .before .before .before .before .before .before .before .before .before .before in
@@ -40,4 +37,10 @@ returns c =
 pub put-test-spec : {M : Type 1} → statement M
 put-test-spec =
     tie.close
-    (tie.spec append-requires append-requires-2 (λ c. search needs) append-requires-3 same-length returns)
+    (tie.spec
+    append-requires
+    append-requires-2
+    (λ c. search needs)
+    append-requires-3
+    (λ c. search needs)
+    returns)

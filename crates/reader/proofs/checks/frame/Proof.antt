@@ -33,9 +33,6 @@ returns-2 c =
     let wanted = c .before .before .before .args .wanted in
     rw (le-leb (at + 4) (length s) (c .before .if1 .left), c .if2 .taken)
 
-u16-at-requires : tie.Need-u16-at-requires
-u16-at-requires c κs = search needs
-
 returns-3 : tie.Need-returns-3
 unfolding framed check checkedAs
 returns-3 c =
@@ -45,9 +42,6 @@ returns-3 c =
     let other : ¬ (leAt 2 s at ≡ wanted) = λ e. c .if3 .taken (c .before .u16-at .ensures .0 ∙ e) in
     let some : 0 < wanted = positive wanted (c .before .before .if2 .left) in
     rw (le-leb (at + 4) (length s) (c .before .before .before .if1 .left), lt-ltb 0 wanted some, ne-eqb (leAt 2 s at) wanted other)
-
-add-if4 : tie.Need-add-if4
-add-if4 c = search needs
 
 returns-4 : tie.Need-returns-4
 unfolding framed check checkedAs
@@ -72,4 +66,12 @@ returns-5 c =
 pub frame-spec : {M : Type 1} → statement M
 frame-spec =
     tie.close
-    (tie.spec (λ c. search needs) returns returns-2 u16-at-requires returns-3 add-if4 returns-4 returns-5)
+    (tie.spec
+    (λ c. search needs)
+    returns
+    returns-2
+    (λ c κs. search needs)
+    returns-3
+    (λ c. search needs)
+    returns-4
+    returns-5)

@@ -14,9 +14,6 @@ returns : tie.Need-returns
 unfolding countAs check
 returns c = sym (ap countAs (count-refused (now (c .before .before .before .before .before .args .table)) (c .before .before .before .before .before .args .at) (c .before .before .before .before .before .args .before) (c .before .refusal .given .0 .0) (sym (c .before .before .before .frame-of-kind .ensures) ∙ c .before .refusal .given .1)))
 
-enum-told : tie.Need-enum-told
-enum-told c = search needs
-
 returns-2 : tie.Need-returns-2
 unfolding countAs check
 returns-2 c = sym (ap countAs (count-tested (now (c .before .before .before .before .before .before .before .args .table)) (c .before .before .before .before .before .before .before .args .at) (c .before .before .before .before .before .before .before .args .before) (c .before .before .u16-at .result) true true (sym (c .before .before .before .before .before .frame-of-kind .ensures) ∙ c .before .before .before .enum-told .given .1) (sym (c .before .before .u16-at .ensures .0)) (lt-ltb _ _ (c .before .if1 .taken)) (le-leb _ _ (c .if2 .taken))))
@@ -36,7 +33,7 @@ read-count-spec =
     (λ c κs. search needs)
     (λ c. search needs)
     returns
-    enum-told
+    (λ c. search needs)
     (λ c. search needs)
     (λ c κs. search needs)
     (λ c. search needs)

@@ -13,9 +13,6 @@ returns : tie.Need-returns
 unfolding headerAs check
 returns c = sym (ap headerAs (header-refused (now (c .before .before .before .before .before .args .table)) (c .before .refusal .given .0 .0) (sym (c .before .before .before .frame-of-kind .ensures) ∙ c .before .refusal .given .1)))
 
-enum-told : tie.Need-enum-told
-enum-told c = search needs
-
 returns-2 : tie.Need-returns-2
 unfolding headerAs check
 returns-2 c = rw (c .before .before .before .before .byte-at .ensures .0, c .before .before .before .byte-at2 .ensures .0, c .before .before .u16-at2 .ensures .0) (sym (ap headerAs (header-tested (now (c .before .before .before .before .before .before .before .before .before .before .args .table)) true (sym (c .before .before .before .before .before .before .before .before .frame-of-kind .ensures) ∙ c .before .before .before .before .before .before .enum-told .given .1) (rw (c .before .before .before .before .before .u16-at .ensures .0, c .before .before .before .before .byte-at .ensures .0, c .before .before .before .byte-at2 .ensures .0, c .before .before .u16-at2 .ensures .0) at (sym (c .before .within-limits .ensures) ∙ c .if1 .taken)))))
@@ -31,7 +28,7 @@ read-header-spec =
     (λ c κs. search needs)
     (λ c. search needs)
     returns
-    enum-told
+    (λ c. search needs)
     (λ c κs. search needs)
     (λ c κs. search needs)
     (λ c κs. search needs)

@@ -13,9 +13,6 @@ returns : tie.Need-returns
 unfolding labelsAs check
 returns c = λ nodes. sym (ap labelsAs (labels-refused (now (c .before .before .before .before .before .args .table)) (record { variables = c .before .before .before .before .before .args .variables; arrays = c .before .before .before .before .before .args .arrays; nodes = nodes }) (c .before .refusal .given .0 .0) (sym (c .before .before .before .frame-of-kind .ensures) ∙ c .before .refusal .given .1)))
 
-enum-told : tie.Need-enum-told
-enum-told c = search needs
-
 returns-2 : tie.Need-returns-2
 unfolding labelsAs check
 returns-2 c = λ nodes. rw (c .before .before .before .before .before .u32-at .ensures, c .before .before .before .before .u16-at .ensures .0) (sym (ap labelsAs (labels-tested (now (c .before .before .before .before .before .before .before .before .before .before .args .table)) (record { variables = c .before .before .before .before .before .before .before .before .before .before .args .variables; arrays = c .before .before .before .before .before .before .before .before .before .before .args .arrays; nodes = nodes }) true true (sym (c .before .before .before .before .before .before .before .before .frame-of-kind .ensures) ∙ c .before .before .before .before .before .before .enum-told .given .1) (rw (c .before .before .before .before .before .u32-at .ensures) at (sym (c .before .before .before .mask-fits .ensures) ∙ c .before .before .if1 .taken)) (rw (c .before .before .before .before .u16-at .ensures .0) at (sym (c .before .mask-fits2 .ensures) ∙ c .if2 .taken)))))
@@ -35,7 +32,7 @@ read-labels-spec =
     (λ c κs. search needs)
     (λ c. search needs)
     returns
-    enum-told
+    (λ c. search needs)
     (λ c κs. search needs)
     (λ c. search needs)
     (λ c κs. search needs)

@@ -10,15 +10,6 @@ use Rattle.reader.proofs.declarations.within_limits.Tie as tie
 positive : (n : ℕ) → ¬ (n ≡ 0) → 0 < n
 positive n other = omega arith
 
-returns : tie.Need-returns
-returns c = rw (ne-eqb _ _ (c .if1 .taken))
-
-returns-2 : tie.Need-returns-2
-returns-2 c = rw (eq-eqb _ _ (c .before .if1 .left), lt-leb _ _ (c .if2 .taken))
-
-returns-3 : tie.Need-returns-3
-returns-3 c = rw (eq-eqb _ _ (c .before .before .if1 .left), le-leb _ _ (c .before .if2 .left), lt-leb _ _ (c .if3 .taken))
-
 returns-4 : tie.Need-returns-4
 returns-4 c = rw (eq-eqb _ _ (c .before .before .before .if1 .left), le-leb _ _ (c .before .before .if2 .left), le-leb _ _ (c .before .if3 .left), c .if4 .taken)
 
@@ -27,4 +18,11 @@ returns-5 c = let some = positive (c .before .before .before .before .args .node
     rw (eq-eqb _ _ (c .before .before .before .if1 .left), le-leb _ _ (c .before .before .if2 .left), le-leb _ _ (c .before .if3 .left), lt-ltb _ _ some)
 
 pub within-limits-spec : {M : Type 1} → statement M
-within-limits-spec = tie.close (tie.spec returns returns-2 returns-3 returns-4 returns-5)
+within-limits-spec =
+    tie.close
+    (tie.spec
+    (λ c. rw (ne-eqb _ _ (c .if1 .taken)))
+    (λ c. rw (eq-eqb _ _ (c .before .if1 .left), lt-leb _ _ (c .if2 .taken)))
+    (λ c. rw (eq-eqb _ _ (c .before .before .if1 .left), le-leb _ _ (c .before .if2 .left), lt-leb _ _ (c .if3 .taken)))
+    returns-4
+    returns-5)

@@ -6,10 +6,6 @@ use borrow.Author.Needs.{needs}
 use Rattle.reader.proofs.fields.in_range.Statement.{statement}
 use Rattle.reader.proofs.fields.in_range.Tie as tie
 
-returns : tie.Need-returns
-unfolding all
-returns c = rw (← c .before .field-in-range .ensures, not-true (c .before .field-in-range .result) (c .if1 .taken))
-
 returns-2 : tie.Need-returns-2
 unfolding all
 returns-2 c = rw (← c .before .before .before .field-in-range .ensures, not-false (c .before .before .before .field-in-range .result) (c .before .before .if1 .left), ← c .before .field-in-range2 .ensures, not-true (c .before .field-in-range2 .result) (c .if2 .taken))
@@ -19,11 +15,12 @@ unfolding all
 returns-3 c = rw (← c .before .before .before .before .field-in-range .ensures, not-false (c .before .before .before .before .field-in-range .result) (c .before .before .before .if1 .left), ← c .before .before .field-in-range2 .ensures, not-false (c .before .before .field-in-range2 .result) (c .before .if2 .left), ← c .field-in-range3 .ensures, and-true)
 
 pub in-range-spec : {M : Type 1} → statement M
+unfolding all
 in-range-spec =
     tie.close
     (tie.spec
     (λ c κs. search needs)
-    returns
+    (λ c. rw (← c .before .field-in-range .ensures, not-true (c .before .field-in-range .result) (c .if1 .taken)))
     (λ c κs. search needs)
     returns-2
     (λ c κs. search needs)

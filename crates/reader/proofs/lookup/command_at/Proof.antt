@@ -81,9 +81,6 @@ second-requires-6 c κs = omega (arith, stored-write _ _ _ (there (c .before .be
 third-requires-3 : tie.Need-third-requires-3
 third-requires-3 c κs = omega (arith, stored-write _ _ _ (there (c .before .before .before .before)) (last (c .before .before)) .whole)
 
-returns : tie.Need-returns
-returns c = stored-skip _ _ _ (there (c .before .before)) (sym (c .before .kind .ensures) ∙ c .match .keys1) .isNode
-
 returns-2 : tie.Need-returns-2
 returns-2 c = rw (c .before .first .ensures, c .second .ensures) (stored-assign _ _ _ (there (c .before .before .before .before)) (sym (c .before .before .before .kind .ensures) ∙ c .before .before .match .keys2) .isNode)
 
@@ -125,7 +122,7 @@ command-at-spec =
     first-requires-6
     second-requires-6
     third-requires-3
-    returns
+    (λ c. stored-skip _ _ _ (there (c .before .before)) (sym (c .before .kind .ensures) ∙ c .match .keys1) .isNode)
     returns-2
     returns-3
     returns-4

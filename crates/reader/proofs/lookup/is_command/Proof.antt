@@ -20,20 +20,18 @@ there d =
     let table = now (start .args .table) in
     indexed-node table (now (start .args .index)) (slice-bytes table (d .before .before .shared-slice-known .given)) (start .pre .0) (start .args .n) (start .pre .1)
 
-mul-at : tie.Need-mul-at
-mul-at c = search needs
-
-shared-slice-read-at : tie.Need-shared-slice-read-at
-shared-slice-read-at c = search needs
-
 cast-at : tie.Need-cast-at
 cast-at c = omega (arith, c .shared-slice-known3 .given (c .before .before .before .args .n))
 
 kind-requires : tie.Need-kind-requires
 kind-requires c κs = head-there _ _ _ (there c)
 
-returns : tie.Need-returns
-returns c = command-kind _ _ _ (there (c .before)) (c .kind .result) (c .kind .ensures)
-
 pub is-command-spec : {M : Type 1} → statement M
-is-command-spec = tie.close (tie.spec mul-at shared-slice-read-at cast-at kind-requires returns)
+is-command-spec =
+    tie.close
+    (tie.spec
+    (λ c. search needs)
+    (λ c. search needs)
+    cast-at
+    kind-requires
+    (λ c. command-kind _ _ _ (there (c .before)) (c .kind .result) (c .kind .ensures)))

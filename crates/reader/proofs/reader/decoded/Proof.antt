@@ -1,4 +1,4 @@
--- `reader::decoded` meets its contract: a walk of its MIR, by hand. The struct is taken apart, and `decode_at` is called on the slice and the number. All that the proof knows of `decode_at` is that it meets its contract.
+-- `decoded` decodes the record at the reader's offset, by a hand walk.
 -- The struct is Copy: what it owns is had twice, one copy is kept whole for the exit, and of the other what table owns goes to the callee, beside the lifetime's token, which comes back.
 -- Assumes nothing.
 use mathlib.Core.Path.{_≡_, refl}

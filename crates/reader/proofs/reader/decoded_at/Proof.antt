@@ -1,4 +1,4 @@
--- `reader::decoded_at` meets its contract: a walk of its MIR, by hand. A `Reader` that one call returns is held in a local and passed to the next. All that the proof knows of `start` and of `decoded` is that each meets its contract.
+-- `decoded_at` decodes at the offset that it is handed, by a hand walk over the two calls.
 -- The machine value that `start` returns is stored and passed on as it is. In a local of a body MIR erases the lifetime of the struct's type, so the value is shown to have the type at `erased`: what the struct owns does not say the lifetime's name.
 -- Assumes nothing.
 use mathlib.Core.Path.{_≡_, refl}

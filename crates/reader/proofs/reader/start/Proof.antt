@@ -1,4 +1,4 @@
--- `reader::start` meets its contract: a walk of its MIR, by hand. A `Reader` is made of the slice and the number passed, in the result's local.
+-- `start` holds the slice and the number that it is handed, by a hand walk.
 -- A `&[u8]` is Copy, so what it owns is had twice: once for table at exit, and once inside the result, beside the facts of at.
 -- Assumes nothing.
 use mathlib.Core.Path.{refl}

@@ -12,9 +12,6 @@ returns c =
     (rw (c .before .before .before .before .before .before .offset-at .ensures .0) at (c .before .before .before .before .before .sort-at .ensures)) (c .before .before .node .given .0 .0) (c .offset-at2 .result)
     (rw (c .before .before .node .given .1) at (c .before .before .before .before .find-broken .ensures)) (c .offset-at2 .ensures .0)
 
-enum-told : tie.Need-enum-told
-enum-told c = search needs
-
 returns-2 : tie.Need-returns-2
 returns-2 c =
     let a = c .before .before .before .before .before .before .before .before .before .args in
@@ -38,6 +35,6 @@ finish-spec =
     (λ c. search needs)
     (λ c κs. search needs)
     returns
-    enum-told
+    (λ c. search needs)
     returns-2
     returns-3)

@@ -15,9 +15,6 @@ inside c =
     child-inside (length (now (c .before .before .before .args .uses))) (c .before .field .given .0 .0) (c .before .field .given .0 .1 .0)
     (rw (c .before .field .given .1) at (c .before .before .before .pre .0))
 
-returns : tie.Need-returns
-returns c = rw (no-children (c .before .args .field) (c .match .keys2)) (count-none (now (c .before .args .uses)))
-
 mul-uses : tie.Need-mul-uses
 mul-uses c = omega (arith, inside c)
 
@@ -41,7 +38,7 @@ count-field-spec =
     tie.close
     (tie.spec
     (λ c. search needs)
-    returns
+    (λ c. rw (no-children (c .before .args .field) (c .match .keys2)) (count-none (now (c .before .args .uses))))
     mul-uses
     slice-read-uses
     add-uses

@@ -7,21 +7,15 @@ use borrow.Author.Needs.{needs}
 use Rattle.reader.proofs.walk.offset_at.Statement.{statement}
 use Rattle.reader.proofs.walk.offset_at.Tie as tie
 
-mul-result : tie.Need-mul-result
-mul-result c = search needs
-
-shared-slice-read-result : tie.Need-shared-slice-read-result
-shared-slice-read-result c = search needs
-
 cast-result : tie.Need-cast-result
 cast-result c = omega (arith, c .shared-slice-known .given (c .before .before .args .n))
 
-returns : tie.Need-returns
-returns c = (refl, omega (arith, c .shared-slice-known .given (c .before .before .args .n)))
-
-returns-2 : tie.Need-returns-2
-returns-2 c = (sym (List·getD-eq-default (now (c .before .args .index)) 0 (c .if1 .left)), omega arith)
-
 pub offset-at-spec : {M : Type 1} → statement M
 offset-at-spec =
-    tie.close (tie.spec mul-result shared-slice-read-result cast-result returns returns-2)
+    tie.close
+    (tie.spec
+    (λ c. search needs)
+    (λ c. search needs)
+    cast-result
+    (λ c. (refl, omega (arith, c .shared-slice-known .given (c .before .before .args .n))))
+    (λ c. (sym (List·getD-eq-default (now (c .before .args .index)) 0 (c .if1 .left)), omega arith)))

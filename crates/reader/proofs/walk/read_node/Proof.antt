@@ -35,15 +35,8 @@ ranged-first c =
     (fields-read _ _ _ _ _ _ (known .node .given .0 .0) (sym (known .before .before .decoded-at .ensures) ∙ known .node .given .1) whole
     (fieldsOf (fields .fields-of .result)) (fields .fields-of .ensures) _ _ (c .before .before .check-ranges .ensures) (c .before .check-sorts .ensures))
 
-returns-3 : tie.Need-returns-3
-unfolding passedNode
-returns-3 c = rw (c .before .refusal2 .given .1) at (ranged-first (c .before .before .before))
-
-returns-4 : tie.Need-returns-4
-unfolding passedNode
-returns-4 c = rw (c .enum-told3 .given .1) at (ranged-first (c .before .before))
-
 pub read-node-spec : {M : Type 1} → statement M
+unfolding passedNode
 read-node-spec =
     tie.close
     (tie.spec
@@ -62,6 +55,6 @@ read-node-spec =
     (λ c κs. search needs)
     (λ c κs. search needs)
     (λ c. search needs)
-    returns-3
+    (λ c. rw (c .before .refusal2 .given .1) at (ranged-first (c .before .before .before)))
     (λ c. search needs)
-    returns-4)
+    (λ c. rw (c .enum-told3 .given .1) at (ranged-first (c .before .before))))

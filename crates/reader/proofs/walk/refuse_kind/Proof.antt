@@ -6,16 +6,11 @@ use borrow.Author.Needs.{needs}
 use Rattle.reader.proofs.walk.refuse_kind.Statement.{statement}
 use Rattle.reader.proofs.walk.refuse_kind.Tie as tie
 
-add-if1 : tie.Need-add-if1
-add-if1 c = search needs
-
-returns : tie.Need-returns
-unfolding framed check
-returns c = rw (lt-leb _ _ (c .if1 .taken))
-
-returns-2 : tie.Need-returns-2
-unfolding framed check
-returns-2 c = rw (le-leb _ _ (c .if1 .left))
-
 pub refuse-kind-spec : {M : Type 1} → statement M
-refuse-kind-spec = tie.close (tie.spec add-if1 returns returns-2)
+unfolding framed check
+refuse-kind-spec =
+    tie.close
+    (tie.spec
+    (λ c. search needs)
+    (λ c. rw (lt-leb _ _ (c .if1 .taken)))
+    (λ c. rw (le-leb _ _ (c .if1 .left))))

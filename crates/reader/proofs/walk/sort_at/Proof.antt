@@ -5,20 +5,15 @@ use Rattle.reader.proofs.RecordKinds.{sort-numeric, sort-truth, sort-co
 use Rattle.reader.proofs.walk.sort_at.Statement.{statement}
 use Rattle.reader.proofs.walk.sort_at.Tie as tie
 
-add-u16-at : tie.Need-add-u16-at
-add-u16-at c = search needs
-
-u16-at-requires : tie.Need-u16-at-requires
-u16-at-requires c κs = search needs
-
-returns : tie.Need-returns
-returns c = sort-numeric _ _ (omega (arith, c .before .u16-at .ensures .0, c .if1 .taken))
-
 returns-2 : tie.Need-returns-2
 returns-2 c = sort-truth _ _ (omega (arith, c .before .before .u16-at .ensures .0, c .before .if1 .left)) (omega (arith, c .before .before .u16-at .ensures .0, c .if2 .taken))
 
-returns-3 : tie.Need-returns-3
-returns-3 c = sort-command _ _ (omega (arith, c .before .before .u16-at .ensures .0, c .if2 .left))
-
 pub sort-at-spec : {M : Type 1} → statement M
-sort-at-spec = tie.close (tie.spec add-u16-at u16-at-requires returns returns-2 returns-3)
+sort-at-spec =
+    tie.close
+    (tie.spec
+    (λ c. search needs)
+    (λ c κs. search needs)
+    (λ c. sort-numeric _ _ (omega (arith, c .before .u16-at .ensures .0, c .if1 .taken)))
+    returns-2
+    (λ c. sort-command _ _ (omega (arith, c .before .before .u16-at .ensures .0, c .if2 .left))))

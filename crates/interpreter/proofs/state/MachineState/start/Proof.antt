@@ -1,12 +1,12 @@
--- `machine::state::MachineState::start` meets its contract.
+-- `start` has taken no step and used no directive.
 use Rattle.interpreter.specs.Stepping.{startState}
 use mathlib.Core.Path.{refl}
 use Rattle.interpreter.proofs.state.MachineState.start.Statement.{statement}
 use Rattle.interpreter.proofs.state.MachineState.start.Tie as tie
 
-returns : tie.Need-returns
-unfolding startState
-returns c = refl
-
 pub start-spec : {M : Type 1} → statement M
-start-spec = tie.close (tie.spec returns)
+unfolding startState
+start-spec =
+    tie.close
+    (tie.spec
+    (λ c. refl))
