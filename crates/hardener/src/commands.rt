@@ -461,7 +461,7 @@ fn harden_while(
         condition,
         mask,
         flag,
-        false,
+        false, // a loop is left where its condition is taken as false
         from + whole.nodes,
         &mut out[at..],
     );
