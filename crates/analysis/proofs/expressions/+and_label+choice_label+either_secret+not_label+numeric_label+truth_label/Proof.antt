@@ -40,7 +40,7 @@ use Rattle.reader.proofs.lookup.truth_at.Reads as truth-at-reads
 use Rattle.analysis.proofs.expressions.+and_label+choice_label+either_secret+not_label+numeric_label+truth_label.{statement}
 use Rattle.analysis.proofs.expressions.+and_label+choice_label+either_secret+not_label+numeric_label+truth_label.Tie.{close}
 
--- the measures: a call on a child falls below three times the parent's number, and one on the same children falls by 1
+-- the measures: three times a node's number leaves room between a node and its children for the one or two calls that have them labelled
 abbrev μ-and-label : Measures 2 and-label-kinds.ps ℕ
 μ-and-label κs a = 3 * max (a .1 .1 .1 .0) (a .1 .1 .1 .1 .0) + 2
 
