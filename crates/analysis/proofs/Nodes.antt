@@ -21,20 +21,21 @@ pub node-parts : {table index : List ℕ} {n : ℕ} {r : Node} → Below 256 tab
     → (m : Node) → r ≡ m → Parts table n m
 node-parts {table} {index} {n} bytes indexed inside e m h = indexed-parts table index bytes indexed n inside m (sym e ∙ h)
 
-module _ {table index : List ℕ} (indexed : Indexed table index) {t n : ℕ} (at : 3 * n + 1 ≡ t) where
-  -- one child is below its parent, for a call on it
-  pub child-below : {s : Sort} (k : ℕ) → Child table s n k → (3 * k + 2 < t) × OfSort table index s k
-  child-below k c = (omega (arith, c .below), child-of-sort indexed c)
+-- calls on a node's children, which are below it: on one, on two of a sort, and on a choice's three
+module _ {table index : List ℕ} {s : Sort} {n t : ℕ} (pre : (3 * n + 1 ≡ t) × OfSort table index s n) {rest : Type 0} where
+  pub call-child : {wanted : Sort} {k : ℕ} → Child table wanted n k × rest → (3 * k + 2 < t) × OfSort table index wanted k
+  call-child p = (omega (arith, pre .0, p .0 .below), child-of-sort (pre .1 .indexed) (p .0))
 
-  -- and so are two, for a call on both
-  pub pair-below : {s : Sort} (j k : ℕ) → Child table s n j → Child table s n k → (3 * max j k + 2 < t) × (OfSort table index s j × OfSort table index s k)
-  pair-below j k c d = (omega (arith, c .below, d .below), (child-of-sort indexed c, child-of-sort indexed d))
+  pub call-pair : {wanted : Sort} {j k : ℕ} → Child table wanted n j × Child table wanted n k × rest
+      → (3 * max j k + 2 < t) × (OfSort table index wanted j × OfSort table index wanted k)
+  call-pair p =
+      (omega (arith, pre .0, p .0 .below, p .1 .below), (child-of-sort (pre .1 .indexed) (p .0), child-of-sort (pre .1 .indexed) (p .1)))
 
-  -- and so are a choice's three
-  pub choice-below : (i j k : ℕ) → Child table Truth n i → Child table Numeric n j → Child table Numeric n k
+  pub call-choice : {i j k : ℕ} → Child table Truth n i × Child table Numeric n j × Child table Numeric n k × rest
       → (3 * max i (max j k) + 3 < t) × (OfSort table index Truth i × OfSort table index Numeric j × OfSort table index Numeric k)
-  choice-below i j k b c d =
-      (omega (arith, b .below, c .below, d .below), (child-of-sort indexed b, child-of-sort indexed c, child-of-sort indexed d))
+  call-choice p =
+      let of = pre .1 .indexed in
+      (omega (arith, pre .0, p .0 .below, p .1 .below, p .2 .below), (child-of-sort of (p .0), child-of-sort of (p .1), child-of-sort of (p .2)))
 
 -- what holds of every kind of command holds of every command node
 pub command-kinds : (P : Node → Type 0) → P Skip → ((x e : ℕ) → P (Assign x e)) → ((c d : ℕ) → P (Sequence c d)) → ((b c d : ℕ) → P (If b c d))

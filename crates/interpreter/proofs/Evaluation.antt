@@ -30,77 +30,82 @@ module _ (table index variables : List ℕ) (n : ℕ) where
   pub asked-parts : (sort : Sort) → NodeOf sort table index variables n → Below 256 table → (found m : Node) → found ≡ nodeIn table n → found ≡ m → Parts table n m
   asked-parts sort asked bytes found m e is = indexed-parts table index bytes (asked .indexed) n (asked .inside) m (sym e ∙ is)
 
-module _ {table index variables : List ℕ} {n t : ℕ} {sort : Sort} (asked : NodeOf sort table index variables n) (at : 2 * n + 1 ≡ t) where
+-- calls on a node's children, which are below it: on one, on two of a sort, and on a choice's three
+module _ {table index variables : List ℕ} {n t : ℕ} {sort : Sort} (pre : (2 * n + 1 ≡ t) × NodeOf sort table index variables n) where
   below-asked : {wanted : Sort} {k : ℕ} → Child table wanted n k → NodeOf wanted table index variables k
-  below-asked {wanted} {k} child = child-asked table index variables n sort wanted k asked child
+  below-asked {wanted} {k} child = child-asked table index variables n sort wanted k (pre .1) child
 
-  -- children are below their parent, for a call on one, two or three of them
-  pub part-below : {wanted : Sort} (k : ℕ) → Child table wanted n k → (2 * k + 2 < t) × NodeOf wanted table index variables k
-  part-below k c = (omega (arith, c .below), below-asked c)
+  module _ {rest : Type 0} where
+    pub call-child : {wanted : Sort} {k : ℕ} → Child table wanted n k × rest → (2 * k + 2 < t) × NodeOf wanted table index variables k
+    call-child p = (omega (arith, pre .0, p .0 .below), below-asked (p .0))
 
-  pub pair-below : {wanted : Sort} (j k : ℕ) → Child table wanted n j → Child table wanted n k
-      → (2 * max j k + 2 < t) × (NodeOf wanted table index variables j × NodeOf wanted table index variables k)
-  pair-below j k c d = (omega (arith, c .below, d .below), (below-asked c, below-asked d))
+    pub call-pair : {wanted : Sort} {j k : ℕ} → Child table wanted n j × Child table wanted n k × rest
+        → (2 * max j k + 2 < t) × (NodeOf wanted table index variables j × NodeOf wanted table index variables k)
+    call-pair p = (omega (arith, pre .0, p .0 .below, p .1 .below), (below-asked (p .0), below-asked (p .1)))
 
-  pub choice-below : (i j k : ℕ) → Child table Truth n i → Child table Numeric n j → Child table Numeric n k
-      → (2 * max i (max j k) + 2 < t)
-      × (NodeOf Truth table index variables i × NodeOf Numeric table index variables j × NodeOf Numeric table index variables k)
-  choice-below i j k b c d = (omega (arith, b .below, c .below, d .below), (below-asked b, below-asked c, below-asked d))
+    pub call-choice : {i j k : ℕ} → Child table Truth n i × Child table Numeric n j × Child table Numeric n k × rest
+        → (2 * max i (max j k) + 2 < t)
+        × (NodeOf Truth table index variables i × NodeOf Numeric table index variables j × NodeOf Numeric table index variables k)
+    call-choice p =
+        (omega (arith, pre .0, p .0 .below, p .1 .below, p .2 .below), (below-asked (p .0), below-asked (p .1), below-asked (p .2)))
 
 module _ (table variables : List ℕ) (n : ℕ) where
-  value-tree : (e : AExp) → numericIn table n ≡ e → valueIn table variables n ≡ valueOf e (variablesIn table variables)
+  value-tree : {e : AExp} → numericIn table n ≡ e → valueIn table variables n ≡ valueOf e (variablesIn table variables)
   unfolding valueIn
-  value-tree e is = ap (λ t. valueOf t (variablesIn table variables)) is
+  value-tree is = ap (λ t. valueOf t (variablesIn table variables)) is
 
-  truth-tree : (e : BExp) → truthTreeIn table n ≡ e → truthIn table variables n ≡ truthOf e (variablesIn table variables)
+  truth-tree : {e : BExp} → truthTreeIn table n ≡ e → truthIn table variables n ≡ truthOf e (variablesIn table variables)
   unfolding truthIn
-  truth-tree e is = ap (λ t. truthOf t (variablesIn table variables)) is
+  truth-tree is = ap (λ t. truthOf t (variablesIn table variables)) is
 
-  pub value-number : (v : ℕ) → Parts table n (Number v) → v ≡ valueIn table variables n
+  -- the values of nodes without operands
+  pub value-number : {v : ℕ} → Parts table n (Number v) → v ≡ valueIn table variables n
   unfolding valueOf
-  value-number v parts = sym (value-tree _ parts)
+  value-number parts = sym (value-tree parts)
 
-  pub value-variable : (x r : ℕ) → Parts table n (Variable x) → r ≡ leAt 4 variables (4 * x) → r ≡ valueIn table variables n
+  pub value-variable : {x r : ℕ} → Parts table n (Variable x) → r ≡ leAt 4 variables (4 * x) → r ≡ valueIn table variables n
   unfolding valueOf variablesIn
-  value-variable x r parts is = is ∙ sym (value-tree _ (parts .1) ∙ word-at _ variables x (parts .0))
+  value-variable {x} parts is = is ∙ sym (value-tree (parts .1) ∙ word-at _ variables x (parts .0))
 
-  module _ (a b x y r : ℕ) (left : x ≡ valueIn table variables a) (right : y ≡ valueIn table variables b) where
-    pub value-add : Parts table n (Add a b) → r ≡ (x + y) % 2 ^ 32 → r ≡ valueIn table variables n
-    unfolding valueOf valueIn
-    value-add parts is = is ∙ rw (left, right) (sym (value-tree _ (parts .2)))
+  pub truth-constant : {v : ℕ} → Parts table n (Constant v) → eqb v 1 ≡ truthIn table variables n
+  unfolding truthOf
+  truth-constant parts = sym (truth-tree (parts .1))
 
-    pub value-subtract : Parts table n (Subtract a b) → r ≡ (x + 2 ^ 32 - y) % 2 ^ 32 → r ≡ valueIn table variables n
+  -- the values of nodes with two numeric operands
+  module _ {a b x y : ℕ} (values : (x ≡ valueIn table variables a) × (y ≡ valueIn table variables b)) where
+    pub value-add : {r : ℕ} → Parts table n (Add a b) → r ≡ (x + y) % 2 ^ 32 → r ≡ valueIn table variables n
     unfolding valueOf valueIn
-    value-subtract parts is = is ∙ rw (left, right) (sym (value-tree _ (parts .2)))
+    value-add parts is = is ∙ rw (values .0, values .1) (sym (value-tree (parts .2)))
 
-    pub value-multiply : Parts table n (Multiply a b) → r ≡ (x * y) % 2 ^ 32 → r ≡ valueIn table variables n
+    pub value-subtract : {r : ℕ} → Parts table n (Subtract a b) → r ≡ (x + 2 ^ 32 - y) % 2 ^ 32 → r ≡ valueIn table variables n
     unfolding valueOf valueIn
-    value-multiply parts is = is ∙ rw (left, right) (sym (value-tree _ (parts .2)))
+    value-subtract parts is = is ∙ rw (values .0, values .1) (sym (value-tree (parts .2)))
+
+    pub value-multiply : {r : ℕ} → Parts table n (Multiply a b) → r ≡ (x * y) % 2 ^ 32 → r ≡ valueIn table variables n
+    unfolding valueOf valueIn
+    value-multiply parts is = is ∙ rw (values .0, values .1) (sym (value-tree (parts .2)))
 
     pub truth-equal : Parts table n (Equal a b) → eqb x y ≡ truthIn table variables n
     unfolding truthOf valueIn
-    truth-equal parts = rw (left, right) (sym (truth-tree _ (parts .2)))
+    truth-equal parts = rw (values .0, values .1) (sym (truth-tree (parts .2)))
 
     pub truth-less : Parts table n (Less a b) → ltb x y ≡ truthIn table variables n
     unfolding truthOf valueIn
-    truth-less parts = rw (left, right) (sym (truth-tree _ (parts .2)))
+    truth-less parts = rw (values .0, values .1) (sym (truth-tree (parts .2)))
 
-  pub value-choice : (c a b r : ℕ) → Parts table n (Choice c a b)
+  -- the values of nodes over truths
+  pub value-choice : {c a b r : ℕ} → Parts table n (Choice c a b)
       → r ≡ cond (truthIn table variables c) (valueIn table variables a) (valueIn table variables b) → r ≡ valueIn table variables n
   unfolding valueOf valueIn truthIn
-  value-choice c a b r parts is = is ∙ sym (value-tree _ (parts .3))
+  value-choice parts is = is ∙ sym (value-tree (parts .3))
 
-  pub truth-constant : (v : ℕ) → Parts table n (Constant v) → eqb v 1 ≡ truthIn table variables n
-  unfolding truthOf
-  truth-constant v parts = sym (truth-tree _ (parts .1))
-
-  pub truth-not : (a : ℕ) (r : Bool) → Parts table n (Not a) → r ≡ negated (truthIn table variables a) → r ≡ truthIn table variables n
+  pub truth-not : {a : ℕ} {r : Bool} → Parts table n (Not a) → r ≡ negated (truthIn table variables a) → r ≡ truthIn table variables n
   unfolding truthOf truthIn
-  truth-not a r parts is = is ∙ sym (truth-tree _ (parts .1))
+  truth-not parts is = is ∙ sym (truth-tree (parts .1))
 
-  pub truth-and : (a b : ℕ) (r : Bool) → Parts table n (And a b) → r ≡ (truthIn table variables a && truthIn table variables b) → r ≡ truthIn table variables n
+  pub truth-and : {a b : ℕ} {r : Bool} → Parts table n (And a b) → r ≡ (truthIn table variables a && truthIn table variables b) → r ≡ truthIn table variables n
   unfolding truthOf truthIn
-  truth-and a b r parts is = is ∙ sym (truth-tree _ (parts .2))
+  truth-and parts is = is ∙ sym (truth-tree (parts .2))
 
 -- which of two values a test chooses, and whether a second test counts
 module _ {test told : Bool} (is : test ≡ told) where
