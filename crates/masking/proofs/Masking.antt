@@ -10,12 +10,17 @@ use Rattle.awhile.specs.Encoding.{nodesOfA, nodesOfB, nodesOf, binary, ternary,
 use Rattle.awhile.specs.Lists.{sum}
 use Rattle.awhile.specs.Nodes.{form, fieldSize, sizeOf}
 use Rattle.awhile.specs.declared.Node.{Node}
-use Rattle.awhile.specs.declared.Node.the-variants.{Number, Variable, Choice, Equal, Assign}
+use Rattle.awhile.specs.declared.Node.the-variants.{Number, Variable, Choice, Equal, And, Assign}
 use Rattle.masks.specs.Hardening.{maskedCondition, zeroIfGuessing, maskedIndex, flagIfTrue, flagIfFalse, maskValueOf}
 use Rattle.masking.specs.InMemory.{flagUpdate, guardNodes}
 use Rattle.copier.specs.Sizes.{bytesOfA, bytesOfB, bytesOf}
-use Rattle.copier.specs.Written.{Room}
-use Rattle.copier.proofs.Lengths.{Counted, counted-node, counted-append, counted-B}
+use Rattle.copier.specs.Written.{Appended, Wrote, Both, Room}
+use Rattle.copier.specs.declared.Pair.{Pair}
+use Rattle.copier.specs.declared.Size.{Size}
+use Rattle.copier.proofs.Lengths.{Counted, counted-node, counted-append, counted-A, counted-B, bytes-A, bytes-B}
+use Rattle.copier.proofs.Writers.{restOf, withRest, wrote-as, room-first}
+use Rattle.copier.proofs.ExpressionWrites.{wrote-A, wrote-B, room-A, room-B}
+use Rattle.masking.proofs.TwoParts.{FirstWritten, parent-wrote}
 
 -- ---- a value is masked where index, array and context are public
 module _ (index array context : Bool) where
@@ -63,6 +68,40 @@ pub counted-test : (from f v : ℕ) → Counted (writeB from (equal (variable f)
 unfolding nodesOfA nodesOfB bytesOfA bytesOfB
 counted-test from f v = counted-B from (equal (variable f) (number v))
 
+-- ---- a masked condition: a test of the flag, the condition and the `and` over them
+abbrev pub TestWritten : (from f value : ℕ) → (condition : BExp) → (before after : List ℕ) → (answer : Size) → Type 0
+TestWritten from f v b l m s = FirstWritten from (writeB from (equal (variable f) (number v))) (λ n. writeB n b) 3 22 (nodesOfB b) (bytesOfB b) 1 8 l m s
+
+module _ {from : ℕ} (f : ℕ) (mask : Bool) (b : BExp) {l : List ℕ} (e : mask ≡ true)
+    (room : Room from (nodesOfB (maskedCondition f mask b)) (bytesOfB (maskedCondition f mask b)) l) where
+  condition-room : Room from (3 + nodesOfB b + 1) (22 + bytesOfB b + 8) l
+  unfolding nodesOfB bytesOfB nodesOfA bytesOfA
+  condition-room = room-B (condition-masked f mask b e) room
+
+  pub test-room : Room from 3 22 l
+  test-room = room-first condition-room (omega arith) (omega arith)
+
+  -- the test is written, and has room behind it whatever the flag is compared with
+  pub test-written : (v : ℕ) {m : List ℕ} {s : Size} → Wrote (writeB from (equal (variable f) (number v))) l m s → TestWritten from f v b l m s
+  test-written v w =
+      record {
+        wrote = w;
+        first = counted-test from f v;
+        second = λ n. counted-B n b;
+        some = omega arith;
+        firstShort = record { short = omega arith };
+        secondShort = bytes-B b;
+        room = condition-room;
+      }
+
+  -- where the flag is compared with 0, all of it is the masked condition
+  pub wrote-condition : {m rest : List ℕ} {s u : Size} {q : Pair} → Wrote (writeB from (equal (variable f) (number 0))) l m s
+      → Wrote (writeB (from + s .nodes) b) (restOf (s .bytes) m) rest u → Both from s u q
+      → {x : List ℕ} {r : Size} → Appended (q .nodes) (q .bytes) (And (q .left) (q .right)) (withRest (s .bytes) m rest) x r
+      → Wrote (writeB from (maskedCondition f mask b)) l x r
+  unfolding writeB nodesOfB nodesOfA
+  wrote-condition w v added parent = wrote-B from (condition-masked f mask b e) (parent-wrote (test-written 0 w) v added And parent)
+
 -- ---- the nodes of (f = 1) ? 0 : e
 pub counted-guard : (from f : ℕ) → Counted (guardNodes from f) 4 30
 unfolding guardNodes sizeOf form fieldSize sum
@@ -78,6 +117,41 @@ index-nodes from f i =
     let c : from + 3 + 1 - 1 ≡ from + 3 = omega arith in
     rw (b, c, a)
 
+-- ---- a masked index: the guard, the index and the choice over them
+abbrev pub GuardWritten : (from f : ℕ) → (index : AExp) → (before after : List ℕ) → (answer : Size) → Type 0
+GuardWritten from f i l m s = FirstWritten from (guardNodes from f) (λ n. writeA n i) 4 30 (nodesOfA i) (bytesOfA i) 1 10 l m s
+
+module _ {from : ℕ} (f : ℕ) (mask : Bool) (i : AExp) {l : List ℕ} (e : mask ≡ true)
+    (room : Room from (nodesOfA (maskedIndex f mask i)) (bytesOfA (maskedIndex f mask i)) l) where
+  index-room : Room from (4 + nodesOfA i + 1) (30 + bytesOfA i + 10) l
+  unfolding nodesOfA bytesOfA nodesOfB bytesOfB
+  index-room = room-A (index-masked f mask i e) room
+
+  pub guard-room : Room from 4 30 l
+  guard-room = room-first index-room (omega arith) (omega arith)
+
+  -- the guard is written
+  pub guard-written : {m : List ℕ} {s : Size} → Wrote (guardNodes from f) l m s → GuardWritten from f i l m s
+  guard-written w =
+      record {
+        wrote = w;
+        first = counted-guard from f;
+        second = λ n. counted-A n i;
+        some = omega arith;
+        firstShort = record { short = omega arith };
+        secondShort = bytes-A i;
+        room = index-room;
+      }
+
+  -- all of it is the masked index
+  pub wrote-index : {m rest : List ℕ} {s u : Size} {q : Pair} → Wrote (guardNodes from f) l m s
+      → Wrote (writeA (from + s .nodes) i) (restOf (s .bytes) m) rest u → Both from s u q
+      → {x : List ℕ} {r : Size} → Appended (q .nodes) (q .bytes) (Choice (from + 2) (from + 3) (q .right)) (withRest (s .bytes) m rest) x r
+      → Wrote (writeA from (maskedIndex f mask i)) l x r
+  wrote-index w v added parent =
+      wrote-A from (index-masked f mask i e) (wrote-as (parent-wrote (guard-written w) v added (λ l r. Choice (from + 2) (from + 3) r) parent) (index-nodes from f i))
+
+-- ---- the nodes of x := (f = 1) ? 0 : x
 pub value-nodes : (from f x : ℕ)
     → ((guardNodes from f ++ (Variable x ∷ [])) ++ (Choice (from + 2) (from + 3) (from + 4) ∷ [])) ++ (Assign x (from + 5) ∷ [])
     ≡ writeC from (maskValueOf f x)
