@@ -21,6 +21,7 @@ use Rattle.copier.proofs.Lengths.{Counted, counted-node, counted-append, counte
 use Rattle.copier.proofs.Writers.{restOf, withRest, wrote-as, room-first}
 use Rattle.copier.proofs.ExpressionWrites.{wrote-A, wrote-B, room-A, room-B}
 use Rattle.masking.proofs.TwoParts.{FirstWritten, parent-wrote}
+use Rattle.masking.proofs.AppendedNodes.{Begun}
 
 -- ---- a value is masked where index, array and context are public
 module _ (index array context : Bool) where
@@ -163,27 +164,39 @@ value-nodes from f x =
     let e : from + 6 - 1 ≡ from + 5 = omega arith in
     rw (b, c, d, e)
 
--- ---- the flag's update
+-- ---- the flag's update: the condition, the two sides of the choice, the choice and the assignment
 -- the flag where it is kept, and 1 where it is not
 abbrev pub keptNode : Bool → (f : ℕ) → Node
 keptNode kept f = cond kept (Variable f) (Number 1)
 
-pub flag-room : (taken : Bool) (f from : ℕ) (b : BExp) {l : List ℕ} → Room from (nodesOf (flagUpdate f taken b)) (bytesOf (flagUpdate f taken b)) l
+module _ (taken : Bool) (f from : ℕ) (b : BExp) where
+  -- the nodes up to each side of the choice
+  abbrev pub yesNodes : List Node
+  yesNodes = writeB from b ++ (keptNode taken f ∷ [])
+
+  abbrev pub noNodes : List Node
+  noNodes = yesNodes ++ (keptNode (negated taken) f ∷ [])
+
+  -- some of the nodes are written, with room for all
+  abbrev pub UpdateBegun : (written : List Node) → (nodes bytes : ℕ) → (before after : List ℕ) → (answer : Size) → Type 0
+  UpdateBegun ns i j l m s = Begun from ns i j (nodesOfB b + 4) (bytesOfB b + sizeOf (keptNode taken f) + sizeOf (keptNode (negated taken) f) + 18) l m s
+
+pub update-room : (taken : Bool) (f from : ℕ) (b : BExp) {l : List ℕ} → Room from (nodesOf (flagUpdate f taken b)) (bytesOf (flagUpdate f taken b)) l
     → Room from (nodesOfB b + 4) (bytesOfB b + sizeOf (keptNode taken f) + sizeOf (keptNode (negated taken) f) + 18) l
 unfolding flagUpdate flagIfTrue flagIfFalse nodesOf bytesOf nodesOfA bytesOfA sizeOf form fieldSize sum
-flag-room true f from b r = record { numbers = omega (arith, r .numbers); fits = omega (arith, r .fits) }
-flag-room false f from b r = record { numbers = omega (arith, r .numbers); fits = omega (arith, r .fits) }
+update-room true f from b r = record { numbers = omega (arith, r .numbers); fits = omega (arith, r .fits) }
+update-room false f from b r = record { numbers = omega (arith, r .numbers); fits = omega (arith, r .fits) }
 
-pub flag-nodes : (taken : Bool) (from f : ℕ) (b : BExp) {i j k v : ℕ} → i ≡ from + nodesOfB b - 1 → j ≡ from + (nodesOfB b + 1) - 1
+pub update-nodes : (taken : Bool) (from f : ℕ) (b : BExp) {i j k v : ℕ} → i ≡ from + nodesOfB b - 1 → j ≡ from + (nodesOfB b + 1) - 1
     → k ≡ from + (nodesOfB b + 1 + 1) - 1 → v ≡ from + (nodesOfB b + 1 + 1 + 1) - 1
-    → (((writeB from b ++ (keptNode taken f ∷ [])) ++ (keptNode (negated taken) f ∷ [])) ++ (Choice i j k ∷ [])) ++ (Assign f v ∷ [])
-    ≡ writeC from (flagUpdate f taken b)
+    → noNodes taken f from b ++ (Choice i j k ∷ []) ++ (Assign f v ∷ []) ≡ writeC from (flagUpdate f taken b)
 unfolding flagUpdate flagIfTrue flagIfFalse writeA writeC ternary nodesOfA
-flag-nodes true from f b p q r s =
+update-nodes taken from f b p q r s =
     let q′ : from + (nodesOfB b + 1) - 1 ≡ from + nodesOfB b + 1 - 1 = omega arith in
     let r′ : from + (nodesOfB b + 1 + 1) - 1 ≡ from + nodesOfB b + 1 + 1 - 1 = omega arith in
-    rw (p, q, r, s, q′, r′) (simp append-assoc)
-flag-nodes false from f b p q r s =
-    let q′ : from + (nodesOfB b + 1) - 1 ≡ from + nodesOfB b + 1 - 1 = omega arith in
-    let r′ : from + (nodesOfB b + 1 + 1) - 1 ≡ from + nodesOfB b + 1 + 1 - 1 = omega arith in
-    rw (p, q, r, s, q′, r′) (simp append-assoc)
+    rw (p, q, r, s, q′, r′) (either taken)
+  where
+    either : (taken : Bool) → noNodes taken f from b ++ (Choice (from + nodesOfB b - 1) (from + nodesOfB b + 1 - 1) (from + nodesOfB b + 1 + 1 - 1) ∷ [])
+        ++ (Assign f (from + (nodesOfB b + 1 + 1 + 1) - 1) ∷ []) ≡ writeC from (flagUpdate f taken b)
+    either true = simp append-assoc
+    either false = simp append-assoc
