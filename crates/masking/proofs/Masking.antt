@@ -85,15 +85,7 @@ module _ {from : ℕ} (f : ℕ) (mask : Bool) (b : BExp) {l : List ℕ} (e : mas
   -- the test is written, and has room behind it whatever the flag is compared with
   pub test-written : (v : ℕ) {m : List ℕ} {s : Size} → Wrote (writeB from (equal (variable f) (number v))) l m s → TestWritten from f v b l m s
   test-written v w =
-      record {
-        wrote = w;
-        first = counted-test from f v;
-        second = λ n. counted-B n b;
-        some = omega arith;
-        firstShort = record { short = omega arith };
-        secondShort = bytes-B b;
-        room = condition-room;
-      }
+      record { wrote = w; first = counted-test from f v; second = λ n. counted-B n b; some = omega arith; firstShort = record { short = omega arith }; secondShort = bytes-B b; room = condition-room }
 
   -- where the flag is compared with 0, all of it is the masked condition
   pub wrote-condition : {m rest : List ℕ} {s u : Size} {q : Pair} → Wrote (writeB from (equal (variable f) (number 0))) l m s
@@ -107,6 +99,9 @@ module _ {from : ℕ} (f : ℕ) (mask : Bool) (b : BExp) {l : List ℕ} (e : mas
 pub counted-guard : (from f : ℕ) → Counted (guardNodes from f) 4 30
 unfolding guardNodes sizeOf form fieldSize sum
 counted-guard from f = counted-append (counted-test from f 1) (counted-node (Number 0))
+
+pub guard-begun : {from : ℕ} (f : ℕ) {n b : ℕ} {l m : List ℕ} {s : Size} → Room from n b l → Wrote (guardNodes from f) l m s → Begun from (guardNodes from f) 4 30 n b l m s
+guard-begun {from} f room w = record { wrote = w; counted = counted-guard from f; room = room }
 
 pub index-nodes : (from f : ℕ) (i : AExp)
     → guardNodes from f ++ (writeA (from + 4) i ++ (binary (λ l r. Choice (from + 2) (from + 3) r) from 4 (nodesOfA i) ∷ []))
@@ -134,15 +129,7 @@ module _ {from : ℕ} (f : ℕ) (mask : Bool) (i : AExp) {l : List ℕ} (e : mas
   -- the guard is written
   pub guard-written : {m : List ℕ} {s : Size} → Wrote (guardNodes from f) l m s → GuardWritten from f i l m s
   guard-written w =
-      record {
-        wrote = w;
-        first = counted-guard from f;
-        second = λ n. counted-A n i;
-        some = omega arith;
-        firstShort = record { short = omega arith };
-        secondShort = bytes-A i;
-        room = index-room;
-      }
+      record { wrote = w; first = counted-guard from f; second = λ n. counted-A n i; some = omega arith; firstShort = record { short = omega arith }; secondShort = bytes-A i; room = index-room }
 
   -- all of it is the masked index
   pub wrote-index : {m rest : List ℕ} {s u : Size} {q : Pair} → Wrote (guardNodes from f) l m s
