@@ -1,6 +1,5 @@
 -- Nodes appended one by one: what the next one asks, once some are written.
 use Prim.Native.Nat.{ℕ, _+_, _-_, _^_, _≤_, _<_}
-use native.Mathlib.Omega.{arith}
 use mathlib.Core.List.{List, [], _∷_, _++_}
 use mathlib.Core.Path.{_≡_, ap, _∙_}
 use lib.ListN.{length}
@@ -9,7 +8,7 @@ use Rattle.awhile.specs.declared.Node.{Node}
 use Rattle.copier.specs.Written.{Appended, Wrote, Room}
 use Rattle.copier.specs.declared.Size.{Size}
 use Rattle.copier.proofs.Lengths.{Counted, counted-node, counted-append}
-use Rattle.copier.proofs.Writers.{wrote-sized, wrote-node, wrote-parent, appended-as, room-parent}
+use Rattle.copier.proofs.Writers.{wrote-sized, wrote-node, wrote-parent, room-parent}
 use Rattle.copier.proofs.Joins.{one-last}
 
 -- these nodes are written, i of them in j bytes, where n nodes of b bytes have room

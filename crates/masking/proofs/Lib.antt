@@ -1,4 +1,5 @@
--- Laws for what masks and flag updates write.
+-- Laws for what masks and flag updates write, and where masks stand.
+pub mod NotedLabels
 pub mod TwoParts
 pub mod AppendedNodes
 pub mod Masking

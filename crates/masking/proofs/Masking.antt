@@ -1,10 +1,10 @@
 -- Masks by their decisions, and the nodes that the added tests and updates are written as.
 use Prim.Native.Nat.{ℕ, _+_, _-_}
 use native.Mathlib.Omega.{arith}
-use mathlib.Core.Bool.{Bool, true, false, cond, _||_}
+use mathlib.Core.Bool.{Bool, true, false, cond}
 use mathlib.Core.Bool.{not as negated}
 use mathlib.Core.List.{List, [], _∷_, _++_, append-assoc}
-use mathlib.Core.Path.{_≡_, refl}
+use mathlib.Core.Path.{_≡_}
 use Rattle.awhile.specs.Language.{AExp, number, variable, choice, BExp, equal, and}
 use Rattle.awhile.specs.Encoding.{nodesOfA, nodesOfB, nodesOf, binary, ternary, writeA, writeB, writeC}
 use Rattle.awhile.specs.Lists.{sum}
@@ -22,21 +22,6 @@ use Rattle.copier.proofs.Writers.{restOf, withRest, wrote-as, room-first}
 use Rattle.copier.proofs.ExpressionWrites.{wrote-A, wrote-B, room-A, room-B}
 use Rattle.masking.proofs.TwoParts.{FirstWritten, parent-wrote}
 use Rattle.masking.proofs.AppendedNodes.{Begun}
-
--- ---- a value is masked where index, array and context are public
-module _ (index array context : Bool) where
-  pub index-secret : index ≡ true → false ≡ negated ((index || (array || context)) || index)
-  index-secret e = rw e
-
-  pub array-secret : index ≡ false → array ≡ true → false ≡ negated ((index || (array || context)) || index)
-  array-secret e f = rw (e, f)
-
-  pub both-public : {r : Bool} → index ≡ false → array ≡ false → r ≡ context → negated r ≡ negated ((index || (array || context)) || index)
-  both-public e f g = rw (e, f, g) (or-false context)
-    where
-      or-false : (b : Bool) → negated b ≡ negated (b || false)
-      or-false true = refl
-      or-false false = refl
 
 -- ---- masked and not
 module _ (f : ℕ) (mask : Bool) where

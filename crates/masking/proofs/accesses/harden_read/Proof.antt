@@ -4,7 +4,6 @@ use denote.Ref.{now}
 use Rattle.awhile.specs.Language.{AExp}
 use Rattle.awhile.specs.Lists.{sum}
 use Rattle.awhile.specs.Nodes.{sizeOf, form, fieldSize}
-use Rattle.awhile.specs.Encoding.{writeA}
 use Rattle.reader.specs.Index.{numericIn}
 use Rattle.masks.specs.Hardening.{maskedIndex}
 use Rattle.copier.proofs.Lengths.{some-A}

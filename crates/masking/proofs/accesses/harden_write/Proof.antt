@@ -1,15 +1,11 @@
 -- `harden_write` copies the index, masked or not, and the value behind it.
 use native.Mathlib.Omega.{arith}
-use mathlib.Core.List.{List}
 use denote.Ref.{now}
 use Rattle.awhile.specs.Language.{AExp}
 use Rattle.awhile.specs.Lists.{sum}
 use Rattle.awhile.specs.Nodes.{sizeOf, form, fieldSize}
-use Rattle.awhile.specs.Encoding.{writeA}
 use Rattle.reader.specs.Index.{numericIn}
 use Rattle.masks.specs.Hardening.{maskedIndex}
-use Rattle.copier.specs.Written.{Wrote}
-use Rattle.copier.specs.declared.Size.{Size}
 use Rattle.masking.proofs.TwoParts.{rest-number, rest-begins, rest-room, both-few, parent-room}
 use Rattle.masking.proofs.AccessWrites.{IndexWritten, write-index-room, index-written, wrote-write}
 use borrow.Author.Needs.{needs}
@@ -22,6 +18,12 @@ module _ (s : tie.Start) where
 
   abbrev value : AExp
   value = numericIn (now (s .args .table)) (s .args .value)
+
+-- the index has room, masked where the decision is to mask
+copy-index-requires : tie.Need-copy-index-requires
+copy-index-requires c κs =
+    let s = c .before .before .before .before in
+    (s .pre .0 .0, write-index-room (s .args .flag) (s .args .array) 0 (s .args .mask) (index s) (value s) (s .pre .1))
 
 -- where the index is written
 module _ (d : tie.After-copy-index) where
@@ -37,7 +39,7 @@ harden-write-spec =
     tie.close
     (tie.spec
     -- the index, what is left behind it, the value, and the node over both
-    (λ c κs. let s = c .before .before .before .before in (s .pre .0 .0, write-index-room (s .args .flag) (s .args .array) 0 (s .args .mask) (index s) (value s) (s .pre .1)))
+    copy-index-requires
     (λ c. rest-number (placed (c .before .before .before)))
     (λ c. rest-begins (placed (c .before .before .before)))
     (λ c. rest-begins (placed (c .before .before .before)))

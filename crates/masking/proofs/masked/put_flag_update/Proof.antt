@@ -9,7 +9,7 @@ use Rattle.awhile.specs.Language.{BExp}
 use Rattle.awhile.specs.Lists.{sum}
 use Rattle.awhile.specs.Nodes.{sizeOf, form, fieldSize}
 use Rattle.awhile.specs.Encoding.{nodesOfB, writeB, writeC}
-use Rattle.awhile.specs.declared.Node.the-variants.{Choice, Assign}
+use Rattle.awhile.specs.declared.Node.the-variants.{Choice}
 use Rattle.reader.specs.Index.{truthIn}
 use Rattle.masks.specs.Hardening.{maskedCondition}
 use Rattle.masking.specs.InMemory.{flagUpdate}
