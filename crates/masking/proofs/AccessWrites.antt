@@ -17,7 +17,7 @@ use Rattle.copier.specs.declared.Size.{Size}
 use Rattle.copier.proofs.Lengths.{counted-A, counted-C, some-A, some-C, bytes-A, bytes-C}
 use Rattle.copier.proofs.Writers.{restOf, withRest, room-first}
 use Rattle.copier.proofs.Joins.{one-parent}
-use Rattle.masking.proofs.TwoParts.{FirstWritten, parent-wrote, joined-wrote}
+use Rattle.masking.proofs.TwoParts.{FirstWritten, first-written, parent-wrote, joined-wrote}
 use Rattle.masking.proofs.AppendedNodes.{Begun}
 
 -- what is written for a command is written for what it is
@@ -76,7 +76,7 @@ module _ {from : ℕ} (f x a n : ℕ) (mask : Bool) (i : AExp) (hide : Bool) {l 
         unfolding maskValueOf zeroIfGuessing nodesOf bytesOf nodesOfA bytesOfA nodesOfB bytesOfB
         read-written =
             let copy : Com Origin = read (some n) x a (maskedIndex f mask i) in
-            record { wrote = wrote-copy; first = counted-C from copy; second = λ k. counted-C k (maskValueOf f x); some = some-C copy; firstShort = bytes-C copy; secondShort = bytes-C (maskValueOf f x); room = room-C is-hidden room }
+            first-written wrote-copy (counted-C from copy) (λ k. counted-C k (maskValueOf f x)) (some-C copy) (bytes-C copy) (bytes-C (maskValueOf f x)) (room-C is-hidden room)
 
         pub wrote-hidden : {rest y : List ℕ} {u t : Size} → Wrote (writeC (from + r .nodes) (maskValueOf f x)) (restOf (r .bytes) k) rest u
             → Appended (r .nodes + u .nodes) (r .bytes + u .bytes) (Sequence (pairOf from r u .left) (pairOf from r u .right)) (withRest (r .bytes) k rest) y t
@@ -99,8 +99,7 @@ module _ {from : ℕ} (f a n : ℕ) (mask : Bool) (i e : AExp) {l : List ℕ}
 
   module _ {m : List ℕ} {s : Size} (w : Wrote (writeA from (maskedIndex f mask i)) l m s) where
     pub index-written : IndexWritten from (maskedIndex f mask i) e l m s
-    index-written =
-        record { wrote = w; first = counted-A from (maskedIndex f mask i); second = λ n. counted-A n e; some = some-A (maskedIndex f mask i); firstShort = bytes-A (maskedIndex f mask i); secondShort = bytes-A e; room = write-room }
+    index-written = first-written w (counted-A from (maskedIndex f mask i)) (λ n. counted-A n e) (some-A (maskedIndex f mask i)) (bytes-A (maskedIndex f mask i)) (bytes-A e) write-room
 
     pub wrote-write : {rest x : List ℕ} {u r : Size} {q : Pair} → Wrote (writeA (from + s .nodes) e) (restOf (s .bytes) m) rest u → Both from s u q
         → Appended (q .nodes) (q .bytes) (Write a (q .left) (q .right)) (withRest (s .bytes) m rest) x r

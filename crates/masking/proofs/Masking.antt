@@ -20,12 +20,12 @@ use Rattle.copier.specs.declared.Size.{Size}
 use Rattle.copier.proofs.Lengths.{Counted, counted-node, counted-append, counted-A, counted-B, bytes-A, bytes-B}
 use Rattle.copier.proofs.Writers.{restOf, withRest, wrote-as, room-first}
 use Rattle.copier.proofs.ExpressionWrites.{wrote-A, wrote-B, room-A, room-B}
-use Rattle.masking.proofs.TwoParts.{FirstWritten, parent-wrote}
+use Rattle.masking.proofs.TwoParts.{FirstWritten, first-written, parent-wrote}
 use Rattle.masking.proofs.AppendedNodes.{Begun}
 
 -- ---- masked and not
 module _ (f : ℕ) (mask : Bool) where
-  pub condition-masked : (b : BExp) → mask ≡ true → maskedCondition f mask b ≡ and (equal (variable f) (number 0)) b
+  condition-masked : (b : BExp) → mask ≡ true → maskedCondition f mask b ≡ and (equal (variable f) (number 0)) b
   unfolding maskedCondition
   condition-masked b e = rw e
 
@@ -33,7 +33,7 @@ module _ (f : ℕ) (mask : Bool) where
   unfolding maskedCondition
   condition-plain b e = rw e
 
-  pub index-masked : (i : AExp) → mask ≡ true → maskedIndex f mask i ≡ choice (equal (variable f) (number 1)) (number 0) i
+  index-masked : (i : AExp) → mask ≡ true → maskedIndex f mask i ≡ choice (equal (variable f) (number 1)) (number 0) i
   unfolding maskedIndex zeroIfGuessing
   index-masked i e = rw e
 
@@ -69,8 +69,7 @@ module _ {from : ℕ} (f : ℕ) (mask : Bool) (b : BExp) {l : List ℕ} (e : mas
 
   -- the test is written, and has room behind it whatever the flag is compared with
   pub test-written : (v : ℕ) {m : List ℕ} {s : Size} → Wrote (writeB from (equal (variable f) (number v))) l m s → TestWritten from f v b l m s
-  test-written v w =
-      record { wrote = w; first = counted-test from f v; second = λ n. counted-B n b; some = omega arith; firstShort = record { short = omega arith }; secondShort = bytes-B b; room = condition-room }
+  test-written v w = first-written w (counted-test from f v) (λ n. counted-B n b) (omega arith) (record { short = omega arith }) (bytes-B b) condition-room
 
   -- where the flag is compared with 0, all of it is the masked condition
   pub wrote-condition : {m rest : List ℕ} {s u : Size} {q : Pair} → Wrote (writeB from (equal (variable f) (number 0))) l m s
@@ -81,14 +80,14 @@ module _ {from : ℕ} (f : ℕ) (mask : Bool) (b : BExp) {l : List ℕ} (e : mas
   wrote-condition w v added parent = wrote-B from (condition-masked f mask b e) (parent-wrote (test-written 0 w) v added And parent)
 
 -- ---- the nodes of (f = 1) ? 0 : e
-pub counted-guard : (from f : ℕ) → Counted (guardNodes from f) 4 30
+counted-guard : (from f : ℕ) → Counted (guardNodes from f) 4 30
 unfolding guardNodes sizeOf form fieldSize sum
 counted-guard from f = counted-append (counted-test from f 1) (counted-node (Number 0))
 
 pub guard-begun : {from : ℕ} (f : ℕ) {n b : ℕ} {l m : List ℕ} {s : Size} → Room from n b l → Wrote (guardNodes from f) l m s → Begun from (guardNodes from f) 4 30 n b l m s
 guard-begun {from} f room w = record { wrote = w; counted = counted-guard from f; room = room }
 
-pub index-nodes : (from f : ℕ) (i : AExp)
+index-nodes : (from f : ℕ) (i : AExp)
     → guardNodes from f ++ (writeA (from + 4) i ++ (binary (λ l r. Choice (from + 2) (from + 3) r) from 4 (nodesOfA i) ∷ []))
     ≡ writeA from (choice (equal (variable f) (number 1)) (number 0) i)
 unfolding guardNodes writeA writeB binary ternary nodesOfA nodesOfB
@@ -113,8 +112,7 @@ module _ {from : ℕ} (f : ℕ) (mask : Bool) (i : AExp) {l : List ℕ} (e : mas
 
   -- the guard is written
   pub guard-written : {m : List ℕ} {s : Size} → Wrote (guardNodes from f) l m s → GuardWritten from f i l m s
-  guard-written w =
-      record { wrote = w; first = counted-guard from f; second = λ n. counted-A n i; some = omega arith; firstShort = record { short = omega arith }; secondShort = bytes-A i; room = index-room }
+  guard-written w = first-written w (counted-guard from f) (λ n. counted-A n i) (omega arith) (record { short = omega arith }) (bytes-A i) index-room
 
   -- all of it is the masked index
   pub wrote-index : {m rest : List ℕ} {s u : Size} {q : Pair} → Wrote (guardNodes from f) l m s
@@ -143,15 +141,30 @@ keptNode kept f = cond kept (Variable f) (Number 1)
 
 module _ (taken : Bool) (f from : ℕ) (b : BExp) where
   -- the nodes up to each side of the choice
-  abbrev pub yesNodes : List Node
+  abbrev yesNodes : List Node
   yesNodes = writeB from b ++ (keptNode taken f ∷ [])
 
-  abbrev pub noNodes : List Node
+  abbrev noNodes : List Node
   noNodes = yesNodes ++ (keptNode (negated taken) f ∷ [])
 
   -- some of the nodes are written, with room for all
-  abbrev pub UpdateBegun : (written : List Node) → (nodes bytes : ℕ) → (before after : List ℕ) → (answer : Size) → Type 0
+  abbrev UpdateBegun : (written : List Node) → (nodes bytes : ℕ) → (before after : List ℕ) → (answer : Size) → Type 0
   UpdateBegun ns i j l m s = Begun from ns i j (nodesOfB b + 4) (bytesOfB b + sizeOf (keptNode taken f) + sizeOf (keptNode (negated taken) f) + 18) l m s
+
+  -- the condition, then each side of the choice, then the choice
+  module _ (l m : List ℕ) (s : Size) where
+    abbrev pub TestBegun : Type 0
+    TestBegun = UpdateBegun (writeB from b) (nodesOfB b) (bytesOfB b) l m s
+
+    abbrev pub YesBegun : Type 0
+    YesBegun = UpdateBegun yesNodes (nodesOfB b + 1) (bytesOfB b + sizeOf (keptNode taken f)) l m s
+
+    abbrev pub NoBegun : Type 0
+    NoBegun = UpdateBegun noNodes (nodesOfB b + 1 + 1) (bytesOfB b + sizeOf (keptNode taken f) + sizeOf (keptNode (negated taken) f)) l m s
+
+    abbrev pub ChoiceBegun : (condition yes no : ℕ) → Type 0
+    ChoiceBegun i j k =
+        UpdateBegun (noNodes ++ (Choice i j k ∷ [])) (nodesOfB b + 1 + 1 + 1) (bytesOfB b + sizeOf (keptNode taken f) + sizeOf (keptNode (negated taken) f) + 10) l m s
 
 pub update-room : (taken : Bool) (f from : ℕ) (b : BExp) {l : List ℕ} → Room from (nodesOf (flagUpdate f taken b)) (bytesOf (flagUpdate f taken b)) l
     → Room from (nodesOfB b + 4) (bytesOfB b + sizeOf (keptNode taken f) + sizeOf (keptNode (negated taken) f) + 18) l

@@ -27,6 +27,11 @@ pub record FirstWritten (from : ℕ) (ms : List Node) (ns : ℕ → List Node) (
   pub secondShort : Short k h
   pub room : Room from (i + k + more) (j + h + size) l
 
+pub first-written : {from : ℕ} {ms : List Node} {ns : ℕ → List Node} {i j k h more size : ℕ} {l m : List ℕ} {s : Size} → Wrote ms l m s
+    → Counted ms i j → ((number : ℕ) → Counted (ns number) k h) → 0 < i → Short i j → Short k h → Room from (i + k + more) (j + h + size) l
+    → FirstWritten from ms ns i j k h more size l m s
+first-written w a b some f g room = record { wrote = w; first = a; second = b; some = some; firstShort = f; secondShort = g; room = room }
+
 module _ {from : ℕ} {ms : List Node} {ns : ℕ → List Node} {i j k h more size : ℕ} {l m : List ℕ} {s : Size}
     (p : FirstWritten from ms ns i j k h more size l m s) where
   -- the second part's first number can be computed

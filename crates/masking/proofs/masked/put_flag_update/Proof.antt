@@ -1,24 +1,19 @@
 -- `put_flag_update` writes the condition, the two numbers, their choice and the assignment.
-use Prim.Native.Nat.{_+_}
 use native.Mathlib.Omega.{arith}
-use mathlib.Core.Bool.{not as negated}
-use mathlib.Core.List.{[], _∷_, _++_}
 use mathlib.Core.Path.{ap}
 use denote.Ref.{now}
 use Rattle.awhile.specs.Language.{BExp}
 use Rattle.awhile.specs.Lists.{sum}
 use Rattle.awhile.specs.Nodes.{sizeOf, form, fieldSize}
-use Rattle.awhile.specs.Encoding.{nodesOfB, writeB, writeC}
-use Rattle.awhile.specs.declared.Node.the-variants.{Choice}
+use Rattle.awhile.specs.Encoding.{writeC}
 use Rattle.reader.specs.Index.{truthIn}
 use Rattle.masks.specs.Hardening.{maskedCondition}
 use Rattle.masking.specs.InMemory.{flagUpdate}
-use Rattle.copier.specs.Sizes.{bytesOfB}
 use Rattle.copier.specs.Written.{Wrote}
 use Rattle.copier.proofs.Lengths.{counted-B, some-B}
 use Rattle.copier.proofs.Writers.{wrote-length, wrote-as, appended-as, room-first}
 use Rattle.masking.proofs.AppendedNodes.{node-asks, node-begun, last-asks, last-is}
-use Rattle.masking.proofs.Masking.{keptNode, yesNodes, noNodes, UpdateBegun, update-room, update-nodes}
+use Rattle.masking.proofs.Masking.{TestBegun, YesBegun, NoBegun, ChoiceBegun, update-room, update-nodes}
 use borrow.Author.Needs.{needs}
 use Rattle.masking.proofs.masked.put_flag_update.Statement.{statement}
 use Rattle.masking.proofs.masked.put_flag_update.Tie as tie
@@ -31,35 +26,25 @@ module _ (d : tie.After-copy-condition) where
   abbrev start : tie.Start
   start = d .before .before .before .before .before
 
-  with-test : UpdateBegun (start .args .taken) (start .args .flag) (start .args .from) (test start) (writeB (start .args .from) (test start)) (nodesOfB (test start)) (bytesOfB (test start))
-      (now (start .args .out)) (d .copy-condition .last .1 .1 .1 .1 .1 .1 .0) (d .copy-condition .result)
+  with-test : TestBegun (start .args .taken) (start .args .flag) (start .args .from) (test start) (now (start .args .out)) (d .copy-condition .last .1 .1 .1 .1 .1 .1 .0) (d .copy-condition .result)
   with-test =
-      record {
-        wrote = d .copy-condition .ensures;
-        counted = counted-B (start .args .from) (test start);
-        room = update-room (start .args .taken) (start .args .flag) (start .args .from) (test start) (start .pre .1);
-      }
+      let room = update-room (start .args .taken) (start .args .flag) (start .args .from) (test start) (start .pre .1) in
+      record { wrote = d .copy-condition .ensures; counted = counted-B (start .args .from) (test start); room = room }
 
 -- and the first side of the choice
 with-yes : (d : tie.After-append) → let s = start (d .before .before .before .before .before) in
-    UpdateBegun (s .args .taken) (s .args .flag) (s .args .from) (test s) (yesNodes (s .args .taken) (s .args .flag) (s .args .from) (test s))
-    (nodesOfB (test s) + 1) (bytesOfB (test s) + sizeOf (keptNode (s .args .taken) (s .args .flag)))
-    (now (s .args .out)) (d .append .last .0) (d .append .result)
+    YesBegun (s .args .taken) (s .args .flag) (s .args .from) (test s) (now (s .args .out)) (d .append .last .0) (d .append .result)
 with-yes d = node-begun (with-test (d .before .before .before .before .before)) _ (appended-as (d .before .kept-or-one .ensures) (d .append .ensures))
 
 -- and the second
 with-no : (d : tie.After-append2) → let s = start (d .before .before .before .before .before .before .before .before .before .before) in
-    UpdateBegun (s .args .taken) (s .args .flag) (s .args .from) (test s) (noNodes (s .args .taken) (s .args .flag) (s .args .from) (test s))
-    (nodesOfB (test s) + 1 + 1) (bytesOfB (test s) + sizeOf (keptNode (s .args .taken) (s .args .flag)) + sizeOf (keptNode (negated (s .args .taken)) (s .args .flag)))
-    (now (s .args .out)) (d .append2 .last .0) (d .append2 .result)
+    NoBegun (s .args .taken) (s .args .flag) (s .args .from) (test s) (now (s .args .out)) (d .append2 .last .0) (d .append2 .result)
 with-no d = node-begun (with-yes (d .before .before .before .before .before)) _ (appended-as (d .before .kept-or-one2 .ensures) (d .append2 .ensures))
 
 -- and the choice
 with-choice : (d : tie.After-append3) → let s = start (d .before .before .before .before .before .before .before .before .before .before .before .before .before .before .before .before .before) in
-    UpdateBegun (s .args .taken) (s .args .flag) (s .args .from) (test s)
-    (noNodes (s .args .taken) (s .args .flag) (s .args .from) (test s) ++ (Choice (d .before .before .before .last .result) (d .before .before .last2 .result) (d .before .last3 .result) ∷ []))
-    (nodesOfB (test s) + 1 + 1 + 1) (bytesOfB (test s) + sizeOf (keptNode (s .args .taken) (s .args .flag)) + sizeOf (keptNode (negated (s .args .taken)) (s .args .flag)) + 10)
-    (now (s .args .out)) (d .append3 .last .0) (d .append3 .result)
+    ChoiceBegun (s .args .taken) (s .args .flag) (s .args .from) (test s) (now (s .args .out)) (d .append3 .last .0) (d .append3 .result)
+    (d .before .before .before .last .result) (d .before .before .last2 .result) (d .before .last3 .result)
 unfolding sizeOf form fieldSize sum
 with-choice d = node-begun (with-no (d .before .before .before .before .before .before .before)) _ (d .append3 .ensures)
 
