@@ -37,24 +37,22 @@ abbrev pub ReadWritten : (from f x a n : ℕ) → (index : AExp) → (before aft
 ReadWritten from f x a n i l m s =
     FirstWritten from (writeC {Note = Origin} from (read (some n) x a i)) (λ k. writeC k (maskValueOf f x)) (nodesOfA i + 1) (bytesOfA i + 10) 7 54 1 8 l m s
 
+-- the read itself has room in either case
+read-room : {from : ℕ} (f x a n : ℕ) (mask : Bool) (i : AExp) (hide : Bool) {l : List ℕ}
+    → Room from (nodesOf (harden f (read (decision n false mask hide) x a i))) (bytesOf (harden f (read (decision n false mask hide) x a i))) l
+    → Room from (nodesOfA (maskedIndex f mask i) + 1) (bytesOfA (maskedIndex f mask i) + 10) l
+unfolding harden nodesOf bytesOf
+read-room f x a n mask i true r = record { numbers = omega (arith, r .numbers); fits = omega (arith, r .fits) }
+read-room f x a n mask i false r = r
+
 module _ {from : ℕ} (f x a n : ℕ) (mask : Bool) (i : AExp) (hide : Bool) {l : List ℕ}
     (room : Room from (nodesOf (harden f (read (decision n false mask hide) x a i))) (bytesOf (harden f (read (decision n false mask hide) x a i))) l) where
-  -- the read itself has room in either case
-  read-room : Room from (nodesOfA (maskedIndex f mask i) + 1) (bytesOfA (maskedIndex f mask i) + 10) l
-  unfolding harden nodesOf bytesOf
-  read-room = either hide room
-    where
-      either : (hide : Bool) → Room from (nodesOf (harden f (read (decision n false mask hide) x a i))) (bytesOf (harden f (read (decision n false mask hide) x a i))) l
-          → Room from (nodesOfA (maskedIndex f mask i) + 1) (bytesOfA (maskedIndex f mask i) + 10) l
-      either true r = record { numbers = omega (arith, r .numbers); fits = omega (arith, r .fits) }
-      either false r = r
-
   pub read-index-room : Room from (nodesOfA (maskedIndex f mask i)) (bytesOfA (maskedIndex f mask i)) l
-  read-index-room = room-first read-room (omega arith) (omega arith)
+  read-index-room = room-first (read-room f x a n mask i hide room) (omega arith) (omega arith)
 
   module _ {m : List ℕ} {s : Size} (w : Wrote (writeA from (maskedIndex f mask i)) l m s) where
     pub read-begun : ReadBegun from (maskedIndex f mask i) l m s
-    read-begun = record { wrote = w; counted = counted-A from (maskedIndex f mask i); room = read-room }
+    read-begun = record { wrote = w; counted = counted-A from (maskedIndex f mask i); room = read-room f x a n mask i hide room }
 
     module _ {at : ℕ} (is : at ≡ from + s .nodes - 1) {k : List ℕ} {r : Size} (parent : Appended (s .nodes) (s .bytes) (Read x a at) m k r) where
       wrote-copy : Wrote (writeC {Note = Origin} from (read (some n) x a (maskedIndex f mask i))) l k r
