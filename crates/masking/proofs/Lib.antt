@@ -1,3 +1,6 @@
--- Laws for what masks and flag updates write.
+-- Laws for what masks and flag updates write, and where masks stand.
+pub mod NotedLabels
+pub mod TwoParts
+pub mod AppendedNodes
 pub mod Masking
 pub mod AccessWrites

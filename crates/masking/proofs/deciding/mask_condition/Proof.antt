@@ -1,17 +1,12 @@
 -- `mask_condition` is the label of the expression where its command is entered.
-use native.Mathlib.Omega.{arith}
 use mathlib.Core.Path.{ap, _∙_}
 use denote.Ref.{now}
 use Rattle.reader.specs.Index.{truthIn}
 use Rattle.labels.specs.Labellings.{labelOfB}
+use Rattle.masking.proofs.NotedLabels.{noted-asks}
 use borrow.Author.Needs.{needs}
 use Rattle.masking.proofs.deciding.mask_condition.Statement.{statement}
 use Rattle.masking.proofs.deciding.mask_condition.Tie as tie
-
-noted-labelling-requires : tie.Need-noted-labelling-requires
-noted-labelling-requires c κs =
-    let start = c .before .before .before .before in
-    (omega (arith, start .pre .inside, start .pre .room .variables), omega (arith, start .pre .inside, start .pre .room .arrays), start .pre .room .fit (start .args .at))
 
 returns : tie.Need-returns
 returns c =
@@ -22,6 +17,6 @@ pub mask-condition-spec : {M : Type 1} → statement M
 mask-condition-spec =
     tie.close
     (tie.spec
-    noted-labelling-requires
+    (λ c κs. noted-asks (c .before .before .before .before .pre))
     (λ c κs. search needs)
     returns)

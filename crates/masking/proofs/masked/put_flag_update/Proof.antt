@@ -1,188 +1,84 @@
 -- `put_flag_update` writes the condition, the two numbers, their choice and the assignment.
-use Prim.Native.Nat.{_+_, _-_}
-use mathlib.Core.Path.{ap, _∙_}
-use Prim.Native.Nat.{ℕ, _+_, _-_}
 use native.Mathlib.Omega.{arith}
-use mathlib.Core.Bool.{not as negated}
-use mathlib.Core.Path.{_≡_, ap, _∙_}
+use mathlib.Core.Path.{ap}
 use denote.Ref.{now}
+use Rattle.awhile.specs.Language.{BExp}
 use Rattle.awhile.specs.Lists.{sum}
 use Rattle.awhile.specs.Nodes.{sizeOf, form, fieldSize}
+use Rattle.awhile.specs.Encoding.{writeC}
 use Rattle.reader.specs.Index.{truthIn}
-use Rattle.awhile.specs.declared.Node.the-variants.{Choice}
 use Rattle.masks.specs.Hardening.{maskedCondition}
-use Rattle.copier.proofs.Lengths.{counted-node, counted-append, counted-B, some-B}
-use Rattle.copier.proofs.Writers.{wrote-length, wrote-sized, wrote-as, wrote-parent, appended-as, room-first, room-parent}
-use Rattle.copier.proofs.Joins.{one-last}
-use Rattle.masking.proofs.Masking.{keptNode, flag-room, flag-nodes}
+use Rattle.masking.specs.InMemory.{flagUpdate}
+use Rattle.copier.specs.Written.{Wrote}
+use Rattle.copier.proofs.Lengths.{counted-B, some-B}
+use Rattle.copier.proofs.Writers.{wrote-length, wrote-as, appended-as, room-first}
+use Rattle.masking.proofs.AppendedNodes.{node-asks, node-begun, last-asks, last-is}
+use Rattle.masking.proofs.Masking.{TestBegun, YesBegun, NoBegun, ChoiceBegun, update-room, update-nodes}
 use borrow.Author.Needs.{needs}
 use Rattle.masking.proofs.masked.put_flag_update.Statement.{statement}
 use Rattle.masking.proofs.masked.put_flag_update.Tie as tie
 
-copy-condition-requires : tie.Need-copy-condition-requires
-copy-condition-requires c κs =
-    let start = c .before .before .before .before in
-    let test = maskedCondition (start .args .flag) (start .args .mask) (truthIn (now (start .args .table)) (start .args .n)) in
-    (start .pre .0, room-first (flag-room (start .args .taken) (start .args .flag) (start .args .from) test (start .pre .1)) (omega arith) (omega arith))
+abbrev test : tie.Start → BExp
+test s = maskedCondition (s .args .flag) (s .args .mask) (truthIn (now (s .args .table)) (s .args .n))
 
-append-requires : tie.Need-append-requires
-append-requires c κs =
-    let start = c .before .before .before .before .before .before .before .before .before in
-    let from = start .args .from in
-    let test = maskedCondition (start .args .flag) (start .args .mask) (truthIn (now (start .args .table)) (start .args .n)) in
-    let room = flag-room (start .args .taken) (start .args .flag) from test (start .pre .1) in
-    let w = c .before .before .before .before .copy-condition .ensures in
-    let n = counted-B from test in
-    room-parent (sizeOf (c .kept-or-one .result)) w n room (omega arith) (omega (arith, ap sizeOf (c .kept-or-one .ensures)))
+-- the condition is written
+module _ (d : tie.After-copy-condition) where
+  abbrev start : tie.Start
+  start = d .before .before .before .before .before
 
-append-requires-2 : tie.Need-append-requires-2
-append-requires-2 c κs =
-    let start = c .before .before .before .before .before .before .before .before .before .before .before .before .before .before in
-    let from = start .args .from in
-    let test = maskedCondition (start .args .flag) (start .args .mask) (truthIn (now (start .args .table)) (start .args .n)) in
-    let room = flag-room (start .args .taken) (start .args .flag) from test (start .pre .1) in
-    let w = c .before .before .before .before .before .before .before .before .before .copy-condition .ensures in
-    let n = counted-B from test in
-    let w1 = wrote-parent w (appended-as (c .before .before .before .before .before .kept-or-one .ensures) (c .before .before .before .before .append .ensures)) in
-    let n1 = counted-append n (counted-node (keptNode (start .args .taken) (start .args .flag))) in
-    room-parent (sizeOf (c .kept-or-one2 .result)) w1 n1 room (omega arith) (omega (arith, ap sizeOf (c .kept-or-one2 .ensures)))
+  with-test : TestBegun (start .args .taken) (start .args .flag) (start .args .from) (test start) (now (start .args .out)) (d .copy-condition .last .1 .1 .1 .1 .1 .1 .0) (d .copy-condition .result)
+  with-test =
+      let room = update-room (start .args .taken) (start .args .flag) (start .args .from) (test start) (start .pre .1) in
+      record { wrote = d .copy-condition .ensures; counted = counted-B (start .args .from) (test start); room = room }
 
-last-requires : tie.Need-last-requires
-last-requires c κs =
-    let start = c .before .before .before .before .before .before .before .before .before .before .before .before .before .before .before .before .before .before in
-    let from = start .args .from in
-    let test = maskedCondition (start .args .flag) (start .args .mask) (truthIn (now (start .args .table)) (start .args .n)) in
-    let room = flag-room (start .args .taken) (start .args .flag) from test (start .pre .1) in
-    let w = c .before .before .before .before .before .before .before .before .before .before .before .before .before .copy-condition .ensures in
-    let n = counted-B from test in
-    one-last from w n room (omega arith) (some-B test)
+-- and the first side of the choice
+with-yes : (d : tie.After-append) → let s = start (d .before .before .before .before .before) in
+    YesBegun (s .args .taken) (s .args .flag) (s .args .from) (test s) (now (s .args .out)) (d .append .last .0) (d .append .result)
+with-yes d = node-begun (with-test (d .before .before .before .before .before)) _ (appended-as (d .before .kept-or-one .ensures) (d .append .ensures))
 
-last-requires-2 : tie.Need-last-requires-2
-last-requires-2 c κs =
-    let start = c .before .before .before .before .before .before .before .before .before .before .before .before .before .before .before .before .before .before .before in
-    let from = start .args .from in
-    let test = maskedCondition (start .args .flag) (start .args .mask) (truthIn (now (start .args .table)) (start .args .n)) in
-    let room = flag-room (start .args .taken) (start .args .flag) from test (start .pre .1) in
-    let w = c .before .before .before .before .before .before .before .before .before .before .before .before .before .before .copy-condition .ensures in
-    let n = counted-B from test in
-    let w1 = wrote-parent w (appended-as (c .before .before .before .before .before .before .before .before .before .before .kept-or-one .ensures) (c .before .before .before .before .before .before .before .before .before .append .ensures)) in
-    let n1 = counted-append n (counted-node (keptNode (start .args .taken) (start .args .flag))) in
-    one-last from w1 n1 room (omega arith) (omega arith)
+-- and the second
+with-no : (d : tie.After-append2) → let s = start (d .before .before .before .before .before .before .before .before .before .before) in
+    NoBegun (s .args .taken) (s .args .flag) (s .args .from) (test s) (now (s .args .out)) (d .append2 .last .0) (d .append2 .result)
+with-no d = node-begun (with-yes (d .before .before .before .before .before)) _ (appended-as (d .before .kept-or-one2 .ensures) (d .append2 .ensures))
 
-last-requires-3 : tie.Need-last-requires-3
-last-requires-3 c κs =
-    let start = c .before .before .before .before .before .before .before .before .before .before .before .before .before .before .before .before .before .before .before .before in
-    let from = start .args .from in
-    let test = maskedCondition (start .args .flag) (start .args .mask) (truthIn (now (start .args .table)) (start .args .n)) in
-    let room = flag-room (start .args .taken) (start .args .flag) from test (start .pre .1) in
-    let w = c .before .before .before .before .before .before .before .before .before .before .before .before .before .before .before .copy-condition .ensures in
-    let n = counted-B from test in
-    let w1 = wrote-parent w (appended-as (c .before .before .before .before .before .before .before .before .before .before .before .kept-or-one .ensures) (c .before .before .before .before .before .before .before .before .before .before .append .ensures)) in
-    let n1 = counted-append n (counted-node (keptNode (start .args .taken) (start .args .flag))) in
-    let w2 = wrote-parent w1 (appended-as (c .before .before .before .before .before .before .kept-or-one2 .ensures) (c .before .before .before .before .before .append2 .ensures)) in
-    let n2 = counted-append n1 (counted-node (keptNode (negated (start .args .taken)) (start .args .flag))) in
-    one-last from w2 n2 room (omega arith) (omega arith)
-
-append-requires-3 : tie.Need-append-requires-3
+-- and the choice
+with-choice : (d : tie.After-append3) → let s = start (d .before .before .before .before .before .before .before .before .before .before .before .before .before .before .before .before .before) in
+    ChoiceBegun (s .args .taken) (s .args .flag) (s .args .from) (test s) (now (s .args .out)) (d .append3 .last .0) (d .append3 .result)
+    (d .before .before .before .last .result) (d .before .before .last2 .result) (d .before .last3 .result)
 unfolding sizeOf form fieldSize sum
-append-requires-3 c κs =
-    let start = c .before .before .before .before .before .before .before .before .before .before .before .before .before .before .before .before .before .before .before .before .before in
-    let from = start .args .from in
-    let test = maskedCondition (start .args .flag) (start .args .mask) (truthIn (now (start .args .table)) (start .args .n)) in
-    let room = flag-room (start .args .taken) (start .args .flag) from test (start .pre .1) in
-    let w = c .before .before .before .before .before .before .before .before .before .before .before .before .before .before .before .before .copy-condition .ensures in
-    let n = counted-B from test in
-    let w1 = wrote-parent w (appended-as (c .before .before .before .before .before .before .before .before .before .before .before .before .kept-or-one .ensures) (c .before .before .before .before .before .before .before .before .before .before .before .append .ensures)) in
-    let n1 = counted-append n (counted-node (keptNode (start .args .taken) (start .args .flag))) in
-    let w2 = wrote-parent w1 (appended-as (c .before .before .before .before .before .before .before .kept-or-one2 .ensures) (c .before .before .before .before .before .before .append2 .ensures)) in
-    let n2 = counted-append n1 (counted-node (keptNode (negated (start .args .taken)) (start .args .flag))) in
-    room-parent 10 w2 n2 room (omega arith) (omega arith)
+with-choice d = node-begun (with-no (d .before .before .before .before .before .before .before)) _ (d .append3 .ensures)
 
-last-requires-4 : tie.Need-last-requires-4
-last-requires-4 c κs =
-    let start = c .before .before .before .before .before .before .before .before .before .before .before .before .before .before .before .before .before .before .before .before .before .before .before .before .before in
-    let from = start .args .from in
-    let test = maskedCondition (start .args .flag) (start .args .mask) (truthIn (now (start .args .table)) (start .args .n)) in
-    let room = flag-room (start .args .taken) (start .args .flag) from test (start .pre .1) in
-    let w = c .before .before .before .before .before .before .before .before .before .before .before .before .before .before .before .before .before .before .before .before .copy-condition .ensures in
-    let n = counted-B from test in
-    let w1 = wrote-parent w (appended-as (c .before .before .before .before .before .before .before .before .before .before .before .before .before .before .before .before .kept-or-one .ensures) (c .before .before .before .before .before .before .before .before .before .before .before .before .before .before .before .append .ensures)) in
-    let n1 = counted-append n (counted-node (keptNode (start .args .taken) (start .args .flag))) in
-    let w2 = wrote-parent w1 (appended-as (c .before .before .before .before .before .before .before .before .before .before .before .kept-or-one2 .ensures) (c .before .before .before .before .before .before .before .before .before .before .append2 .ensures)) in
-    let n2 = counted-append n1 (counted-node (keptNode (negated (start .args .taken)) (start .args .flag))) in
-    let w3 = wrote-parent w2 (c .before .before .before .append3 .ensures) in
-    let n3 = counted-append n2 (counted-node (Choice (c .before .before .before .before .before .before .last .result) (c .before .before .before .before .before .last2 .result) (c .before .before .before .before .last3 .result))) in
-    one-last from w3 n3 room (omega arith) (omega arith)
-
-append-requires-4 : tie.Need-append-requires-4
-unfolding sizeOf form fieldSize sum
-append-requires-4 c κs =
-    let start = c .before .before .before .before .before .before .before .before .before .before .before .before .before .before .before .before .before .before .before .before .before .before .before .before .before .before in
-    let from = start .args .from in
-    let test = maskedCondition (start .args .flag) (start .args .mask) (truthIn (now (start .args .table)) (start .args .n)) in
-    let room = flag-room (start .args .taken) (start .args .flag) from test (start .pre .1) in
-    let w = c .before .before .before .before .before .before .before .before .before .before .before .before .before .before .before .before .before .before .before .before .before .copy-condition .ensures in
-    let n = counted-B from test in
-    let w1 = wrote-parent w (appended-as (c .before .before .before .before .before .before .before .before .before .before .before .before .before .before .before .before .before .kept-or-one .ensures) (c .before .before .before .before .before .before .before .before .before .before .before .before .before .before .before .before .append .ensures)) in
-    let n1 = counted-append n (counted-node (keptNode (start .args .taken) (start .args .flag))) in
-    let w2 = wrote-parent w1 (appended-as (c .before .before .before .before .before .before .before .before .before .before .before .before .kept-or-one2 .ensures) (c .before .before .before .before .before .before .before .before .before .before .before .append2 .ensures)) in
-    let n2 = counted-append n1 (counted-node (keptNode (negated (start .args .taken)) (start .args .flag))) in
-    let w3 = wrote-parent w2 (c .before .before .before .before .append3 .ensures) in
-    let n3 = counted-append n2 (counted-node (Choice (c .before .before .before .before .before .before .before .last .result) (c .before .before .before .before .before .before .last2 .result) (c .before .before .before .before .before .last3 .result))) in
-    room-parent 8 w3 n3 room (omega arith) (omega arith)
-
-same-length : tie.Need-same-length
-same-length c =
-    let start = c .before .before .before .before .before .before .before .before .before .before .before .before .before .before .before .before .before .before .before .before .before .before .before .before .before .before .before .before .before in
-    let from = start .args .from in
-    let test = maskedCondition (start .args .flag) (start .args .mask) (truthIn (now (start .args .table)) (start .args .n)) in
-    let room = flag-room (start .args .taken) (start .args .flag) from test (start .pre .1) in
-    let w = c .before .before .before .before .before .before .before .before .before .before .before .before .before .before .before .before .before .before .before .before .before .before .before .before .copy-condition .ensures in
-    let n = counted-B from test in
-    let w1 = wrote-parent w (appended-as (c .before .before .before .before .before .before .before .before .before .before .before .before .before .before .before .before .before .before .before .before .kept-or-one .ensures) (c .before .before .before .before .before .before .before .before .before .before .before .before .before .before .before .before .before .before .before .append .ensures)) in
-    let n1 = counted-append n (counted-node (keptNode (start .args .taken) (start .args .flag))) in
-    let w2 = wrote-parent w1 (appended-as (c .before .before .before .before .before .before .before .before .before .before .before .before .before .before .before .kept-or-one2 .ensures) (c .before .before .before .before .before .before .before .before .before .before .before .before .before .before .append2 .ensures)) in
-    let n2 = counted-append n1 (counted-node (keptNode (negated (start .args .taken)) (start .args .flag))) in
-    let w3 = wrote-parent w2 (c .before .before .before .before .before .before .before .append3 .ensures) in
-    let n3 = counted-append n2 (counted-node (Choice (c .before .before .before .before .before .before .before .before .before .before .last .result) (c .before .before .before .before .before .before .before .before .before .last2 .result) (c .before .before .before .before .before .before .before .before .last3 .result))) in
-    wrote-length (wrote-parent w3 (c .before .before .append4 .ensures))
-
-returns : tie.Need-returns
-returns c =
-    let start = c .before .before .before .before .before .before .before .before .before .before .before .before .before .before .before .before .before .before .before .before .before .before .before .before .before .before .before .before .before in
-    let from = start .args .from in
-    let test = maskedCondition (start .args .flag) (start .args .mask) (truthIn (now (start .args .table)) (start .args .n)) in
-    let room = flag-room (start .args .taken) (start .args .flag) from test (start .pre .1) in
-    let w = c .before .before .before .before .before .before .before .before .before .before .before .before .before .before .before .before .before .before .before .before .before .before .before .before .copy-condition .ensures in
-    let n = counted-B from test in
-    let w1 = wrote-parent w (appended-as (c .before .before .before .before .before .before .before .before .before .before .before .before .before .before .before .before .before .before .before .before .kept-or-one .ensures) (c .before .before .before .before .before .before .before .before .before .before .before .before .before .before .before .before .before .before .before .append .ensures)) in
-    let n1 = counted-append n (counted-node (keptNode (start .args .taken) (start .args .flag))) in
-    let w2 = wrote-parent w1 (appended-as (c .before .before .before .before .before .before .before .before .before .before .before .before .before .before .before .kept-or-one2 .ensures) (c .before .before .before .before .before .before .before .before .before .before .before .before .before .before .append2 .ensures)) in
-    let n2 = counted-append n1 (counted-node (keptNode (negated (start .args .taken)) (start .args .flag))) in
-    let w3 = wrote-parent w2 (c .before .before .before .before .before .before .before .append3 .ensures) in
-    let n3 = counted-append n2 (counted-node (Choice (c .before .before .before .before .before .before .before .before .before .before .last .result) (c .before .before .before .before .before .before .before .before .before .last2 .result) (c .before .before .before .before .before .before .before .before .last3 .result))) in
-    let number : (k m : ℕ) → k ≡ m → from + k - 1 ≡ from + m - 1 = λ k m. ap (λ j. from + j - 1) in
-    wrote-as (wrote-parent w3 (c .before .before .append4 .ensures))
-    (flag-nodes (start .args .taken) from (start .args .flag) test
-    (c .before .before .before .before .before .before .before .before .before .before .last .ensures ∙ number _ _ (wrote-sized w n .nodesCounted))
-    (c .before .before .before .before .before .before .before .before .before .last2 .ensures ∙ number _ _ (wrote-sized w1 n1 .nodesCounted))
-    (c .before .before .before .before .before .before .before .before .last3 .ensures ∙ number _ _ (wrote-sized w2 n2 .nodesCounted))
-    (c .before .before .before .last4 .ensures ∙ number _ _ (wrote-sized w3 n3 .nodesCounted)))
+-- all of it is the update
+written : (d : tie.After-append4) → let s = start (d .before .before .before .before .before .before .before .before .before .before .before .before .before .before .before .before .before .before .before .before .before .before) in
+    Wrote (writeC (s .args .from) (flagUpdate (s .args .flag) (s .args .taken) (test s))) (now (s .args .out)) (d .append4 .last .0) (d .append4 .result)
+written d =
+    let e = d .before .before .before .before .before in
+    let no = e .before .before .before .before .before .before .before in
+    let yes = no .before .before .before .before .before in
+    let condition = yes .before .before .before .before .before in
+    let s = start condition in
+    wrote-as (node-begun (with-choice e) _ (d .append4 .ensures) .wrote)
+    (update-nodes (s .args .taken) (s .args .from) (s .args .flag) (test s) (last-is (with-test condition) (e .before .before .before .last .ensures)) (last-is (with-yes yes) (e .before .before .last2 .ensures))
+    (last-is (with-no no) (e .before .last3 .ensures)) (last-is (with-choice e) (d .before .last4 .ensures)))
 
 pub put-flag-update-spec : {M : Type 1} → statement M
+unfolding sizeOf form fieldSize sum
 put-flag-update-spec =
     tie.close
     (tie.spec
-    copy-condition-requires
+    -- the condition, and the two sides of the choice
+    (λ c κs. let s = c .before .before .before .before in (s .pre .0, room-first (update-room (s .args .taken) (s .args .flag) (s .args .from) (test s) (s .pre .1)) (omega arith) (omega arith)))
     (λ c κs. search needs)
-    append-requires
+    (λ c κs. node-asks (with-test (c .before .before .before .before)) (sizeOf (c .kept-or-one .result)) (omega arith) (omega (arith, ap sizeOf (c .kept-or-one .ensures))))
     (λ c κs. search needs)
-    append-requires-2
-    last-requires
-    last-requires-2
-    last-requires-3
-    append-requires-3
-    last-requires-4
-    append-requires-4
-    same-length
-    returns)
+    (λ c κs. node-asks (with-yes (c .before .before .before .before)) (sizeOf (c .kept-or-one2 .result)) (omega arith) (omega (arith, ap sizeOf (c .kept-or-one2 .ensures))))
+    -- the numbers of their last nodes, and the choice
+    (λ c κs. let d = c .before .before .before .before .before .before .before .before .before .before .before .before .before in last-asks (with-test d) (omega arith) (some-B (test (start d))))
+    (λ c κs. last-asks (with-yes (c .before .before .before .before .before .before .before .before .before)) (omega arith) (omega arith))
+    (λ c κs. last-asks (with-no (c .before .before .before .before .before)) (omega arith) (omega arith))
+    (λ c κs. node-asks (with-no (c .before .before .before .before .before .before)) 10 (omega arith) (omega arith))
+    -- the assignment
+    (λ c κs. last-asks (with-choice (c .before .before .before)) (omega arith) (omega arith))
+    (λ c κs. node-asks (with-choice (c .before .before .before .before)) 8 (omega arith) (omega arith))
+    (λ c. wrote-length (written (c .before .before)))
+    (λ c. written (c .before .before)))

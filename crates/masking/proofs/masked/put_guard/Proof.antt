@@ -9,16 +9,12 @@ use borrow.Author.Needs.{needs}
 use Rattle.masking.proofs.masked.put_guard.Statement.{statement}
 use Rattle.masking.proofs.masked.put_guard.Tie as tie
 
-append-requires : tie.Need-append-requires
-unfolding sizeOf form fieldSize sum
-append-requires c κs = room-parent 8 (c .before .before .before .put-test .ensures) (counted-test _ _ _) (c .before .before .before .before .before .before .pre) (omega arith) (omega arith)
-
 pub put-guard-spec : {M : Type 1} → statement M
-unfolding guardNodes
+unfolding guardNodes sizeOf form fieldSize sum
 put-guard-spec =
     tie.close
     (tie.spec
     (λ c κs. search needs)
-    append-requires
+    (λ c κs. let d = c .before .before .before in room-parent 8 (d .put-test .ensures) (counted-test _ _ _) (d .before .before .before .pre) (omega arith) (omega arith))
     (λ c. search needs)
     (λ c. wrote-parent (c .before .before .before .before .before .before .put-test .ensures) (c .before .before .append .ensures)))
