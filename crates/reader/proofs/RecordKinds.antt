@@ -143,8 +143,12 @@ module _ (s : List ℕ) (at : ℕ) where
       pub whole : at + sizeOf m ≤ length s
 
     -- the kind of a record tells which node its fields make
-    pub stored : (k : ℕ) → k ≡ leAt 2 s (at + 2) → (kind : ℕ) → k ≡ kind → (m : Node)
+    abbrev pub StoredAs : (k : ℕ) → Type 0
+    StoredAs k =
+        (kind : ℕ) → k ≡ kind → (m : Node)
         → nodeOf kind (leAt 2 s (at + 4)) (leAt 2 s (at + 6)) (leAt 2 s (at + 8)) (leAt 4 s (at + 4)) ≡ Known m → Stored m
+
+    pub stored : (k : ℕ) → k ≡ leAt 2 s (at + 2) → StoredAs k
     unfolding decodeAt
     stored k read kind is m made =
         let same = decoded-same (decodeAt s at) m n (rw (← read, is) made) (there .decoded) in

@@ -11,7 +11,7 @@ use Rattle.awhile.specs.Nodes.{form, fieldSize, sizeOf, nodeOf}
 use Rattle.awhile.proofs.Records.{NodeAt}
 use Rattle.reader.specs.Index.{nodeIn}
 use Rattle.reader.proofs.Index.{indexed-node}
-use Rattle.reader.proofs.RecordKinds.{stored, head-there, last-kind}
+use Rattle.reader.proofs.RecordKinds.{StoredAs, stored, head-there, last-kind}
 use Rattle.awhile.specs.declared.Sort.the-variants.{Command}
 use Rattle.reader.proofs.lookup.command_at.Statement.{statement}
 use Rattle.reader.proofs.lookup.command_at.Tie as tie
@@ -20,6 +20,10 @@ use Rattle.reader.proofs.lookup.command_at.Tie as tie
 there : (d : tie.After-shared-slice-known3) → let a = d .before .before .before .args in
     NodeAt (now (a .table)) (getD (now (a .index)) (a .n) 0) (nodeIn (now (a .table)) (a .n))
 there d = let start = d .before .before .before in indexed-node _ _ (slice-bytes _ (d .before .before .shared-slice-known .given)) (start .pre .0) _ (start .pre .1)
+
+-- what it is, by its kind
+held : (d : tie.After-kind) → StoredAs _ _ _ (there (d .before)) (d .kind .result)
+held d = stored _ _ _ (there (d .before)) _ (d .kind .ensures)
 
 -- a kind that is none of the others is the last
 last : (d : tie.At-match-rest) → d .before .kind .result ≡ 54
@@ -34,25 +38,25 @@ command-at-spec =
     (λ c. search needs)
     (λ c. omega (arith, c .shared-slice-known3 .given (c .before .before .before .args .n)))
     (λ c κs. head-there _ _ _ (there c))
-    (λ c κs. omega (arith, stored _ _ _ (there (c .before .before)) _ (c .before .kind .ensures) _ (c .match .keys2) _ refl .whole))
-    (λ c κs. omega (arith, stored _ _ _ (there (c .before .before .before)) _ (c .before .before .kind .ensures) _ (c .before .match .keys2) _ refl .whole))
-    (λ c κs. omega (arith, stored _ _ _ (there (c .before .before)) _ (c .before .kind .ensures) _ (c .match .keys3) _ refl .whole))
-    (λ c κs. omega (arith, stored _ _ _ (there (c .before .before .before)) _ (c .before .before .kind .ensures) _ (c .before .match .keys3) _ refl .whole))
-    (λ c κs. omega (arith, stored _ _ _ (there (c .before .before)) _ (c .before .kind .ensures) _ (c .match .keys4) _ refl .whole))
-    (λ c κs. omega (arith, stored _ _ _ (there (c .before .before .before)) _ (c .before .before .kind .ensures) _ (c .before .match .keys4) _ refl .whole))
-    (λ c κs. omega (arith, stored _ _ _ (there (c .before .before .before .before)) _ (c .before .before .before .kind .ensures) _ (c .before .before .match .keys4) _ refl .whole))
-    (λ c κs. omega (arith, stored _ _ _ (there (c .before .before)) _ (c .before .kind .ensures) _ (c .match .keys5) _ refl .whole))
-    (λ c κs. omega (arith, stored _ _ _ (there (c .before .before .before)) _ (c .before .before .kind .ensures) _ (c .before .match .keys5) _ refl .whole))
-    (λ c κs. omega (arith, stored _ _ _ (there (c .before .before)) _ (c .before .kind .ensures) _ (c .match .keys6) _ refl .whole))
-    (λ c κs. omega (arith, stored _ _ _ (there (c .before .before .before)) _ (c .before .before .kind .ensures) _ (c .before .match .keys6) _ refl .whole))
-    (λ c κs. omega (arith, stored _ _ _ (there (c .before .before .before .before)) _ (c .before .before .before .kind .ensures) _ (c .before .before .match .keys6) _ refl .whole))
-    (λ c κs. omega (arith, stored _ _ _ (there (c .before .before)) _ (c .before .kind .ensures) _ (last c) _ refl .whole))
-    (λ c κs. omega (arith, stored _ _ _ (there (c .before .before .before)) _ (c .before .before .kind .ensures) _ (last (c .before)) _ refl .whole))
-    (λ c κs. omega (arith, stored _ _ _ (there (c .before .before .before .before)) _ (c .before .before .before .kind .ensures) _ (last (c .before .before)) _ refl .whole))
-    (λ c. stored _ _ _ (there (c .before .before)) _ (c .before .kind .ensures) _ (c .match .keys1) _ refl .isNode)
-    (λ c. rw (c .before .first .ensures, c .second .ensures) (stored _ _ _ (there (c .before .before .before .before)) _ (c .before .before .before .kind .ensures) _ (c .before .before .match .keys2) _ refl .isNode))
-    (λ c. rw (c .before .first2 .ensures, c .second2 .ensures) (stored _ _ _ (there (c .before .before .before .before)) _ (c .before .before .before .kind .ensures) _ (c .before .before .match .keys3) _ refl .isNode))
-    (λ c. rw (c .before .before .first3 .ensures, c .before .second3 .ensures, c .third .ensures) (stored _ _ _ (there (c .before .before .before .before .before)) _ (c .before .before .before .before .kind .ensures) _ (c .before .before .before .match .keys4) _ refl .isNode))
-    (λ c. rw (c .before .first4 .ensures, c .second4 .ensures) (stored _ _ _ (there (c .before .before .before .before)) _ (c .before .before .before .kind .ensures) _ (c .before .before .match .keys5) _ refl .isNode))
-    (λ c. rw (c .before .before .first5 .ensures, c .before .second5 .ensures, c .third2 .ensures) (stored _ _ _ (there (c .before .before .before .before .before)) _ (c .before .before .before .before .kind .ensures) _ (c .before .before .before .match .keys6) _ refl .isNode))
-    (λ c. rw (c .before .before .first6 .ensures, c .before .second6 .ensures, c .third3 .ensures) (stored _ _ _ (there (c .before .before .before .before .before)) _ (c .before .before .before .before .kind .ensures) _ (last (c .before .before .before)) _ refl .isNode)))
+    (λ c κs. omega (arith, held (c .before) _ (c .match .keys2) _ refl .whole))
+    (λ c κs. omega (arith, held (c .before .before) _ (c .before .match .keys2) _ refl .whole))
+    (λ c κs. omega (arith, held (c .before) _ (c .match .keys3) _ refl .whole))
+    (λ c κs. omega (arith, held (c .before .before) _ (c .before .match .keys3) _ refl .whole))
+    (λ c κs. omega (arith, held (c .before) _ (c .match .keys4) _ refl .whole))
+    (λ c κs. omega (arith, held (c .before .before) _ (c .before .match .keys4) _ refl .whole))
+    (λ c κs. omega (arith, held (c .before .before .before) _ (c .before .before .match .keys4) _ refl .whole))
+    (λ c κs. omega (arith, held (c .before) _ (c .match .keys5) _ refl .whole))
+    (λ c κs. omega (arith, held (c .before .before) _ (c .before .match .keys5) _ refl .whole))
+    (λ c κs. omega (arith, held (c .before) _ (c .match .keys6) _ refl .whole))
+    (λ c κs. omega (arith, held (c .before .before) _ (c .before .match .keys6) _ refl .whole))
+    (λ c κs. omega (arith, held (c .before .before .before) _ (c .before .before .match .keys6) _ refl .whole))
+    (λ c κs. omega (arith, held (c .before) _ (last c) _ refl .whole))
+    (λ c κs. omega (arith, held (c .before .before) _ (last (c .before)) _ refl .whole))
+    (λ c κs. omega (arith, held (c .before .before .before) _ (last (c .before .before)) _ refl .whole))
+    (λ c. held (c .before) _ (c .match .keys1) _ refl .isNode)
+    (λ c. rw (c .before .first .ensures, c .second .ensures) (held (c .before .before .before) _ (c .before .before .match .keys2) _ refl .isNode))
+    (λ c. rw (c .before .first2 .ensures, c .second2 .ensures) (held (c .before .before .before) _ (c .before .before .match .keys3) _ refl .isNode))
+    (λ c. rw (c .before .before .first3 .ensures, c .before .second3 .ensures, c .third .ensures) (held (c .before .before .before .before) _ (c .before .before .before .match .keys4) _ refl .isNode))
+    (λ c. rw (c .before .first4 .ensures, c .second4 .ensures) (held (c .before .before .before) _ (c .before .before .match .keys5) _ refl .isNode))
+    (λ c. rw (c .before .before .first5 .ensures, c .before .second5 .ensures, c .third2 .ensures) (held (c .before .before .before .before) _ (c .before .before .before .match .keys6) _ refl .isNode))
+    (λ c. rw (c .before .before .first6 .ensures, c .before .second6 .ensures, c .third3 .ensures) (held (c .before .before .before .before) _ (last (c .before .before .before)) _ refl .isNode)))
