@@ -201,17 +201,17 @@ module _ (s index : List ℕ) (vs arrs nodes : ℕ) where
         record { answers = λ isHeader. cells-got (Answers s index answer) (readCounts arrs s 20 []) cells f (λ cs counts total. on .answers cs isHeader isLabels counts total) }
 
 -- ---- the whole table
+-- a header that was read is within the limits
+pub header-limits : (s : List ℕ) (vs arrs nodes : ℕ) → HeaderGot vs arrs nodes ≡ headerAs (readHeader s) → HeaderFits s (record { variables = vs; arrays = arrs; nodes = nodes })
+header-limits s vs arrs nodes e = header-fits s (record { variables = vs; arrays = arrs; nodes = nodes }) (header-got (readHeader s) vs arrs nodes e)
+
 module _ (s index : List ℕ) where
   -- a refused header refuses the table
   pub header-stop : (x : Refusal) → HeaderRefused x ≡ headerAs (readHeader s) → Answers s index (Refused x)
   unfolding readRecords andThen
   header-stop x e = isRejected x (table-refused s x (rw (header-not-got (readHeader s) x e))) refl
 
-  -- a header that was read is within the limits
-  pub header-limits : (vs arrs nodes : ℕ) → HeaderGot vs arrs nodes ≡ headerAs (readHeader s) → HeaderFits s (record { variables = vs; arrays = arrs; nodes = nodes })
-  header-limits vs arrs nodes e = header-fits s (record { variables = vs; arrays = arrs; nodes = nodes }) (header-got (readHeader s) vs arrs nodes e)
-
-  -- and leaves it to what follows
+  -- one that was read leaves it to what follows
   pub header-on : (vs arrs nodes : ℕ) (answer : Read) → HeaderGot vs arrs nodes ≡ headerAs (readHeader s) → ReadsDeclared s index vs arrs nodes answer → Answers s index answer
   header-on vs arrs nodes answer e on = on .answers (header-got (readHeader s) vs arrs nodes e)
 
