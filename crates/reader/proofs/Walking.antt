@@ -1,13 +1,11 @@
 -- Walking the node records: what is left to read from here is what is to be read of all nodes.
 use Prim.Native.Nat.{ℕ, suc, _+_, _-_, _*_, _≤_, _<_}
 use native.Mathlib.Omega.{arith}
-use mathlib.Core.Bool.{Bool, true, false}
+use mathlib.Core.Bool.{true}
 use mathlib.Core.Path.{_≡_, refl, ap, _∙_}
 use mathlib.Core.List.{List, [], _∷_, _++_, map, map-append, flatMap, append-nil}
 use lib.ListN.{length, getD, set, take, length-append, List·getD-append}
 use lib.Seq.{getD-set-same, getD-set-other, getD-at, take-append-le, take-at}
-use lib.Dec.{ltb}
-use borrow.Author.Tests.{ltb-true, ltb-false}
 use Rattle.bytes_le.proofs.Numbers.{Below}
 use Rattle.awhile.specs.Lists.{sum, all, occurrences}
 use Rattle.awhile.specs.Refusals.{Answer, refused, got}
@@ -18,6 +16,7 @@ use Rattle.awhile.proofs.Lists.{sum-append, occurrences-append, flatMap-append}
 use Rattle.awhile.proofs.Cases.{nodes-next, nodes-refused}
 use Rattle.awhile.proofs.Records.{sizes-most}
 use Rattle.awhile.proofs.Accepted.{NodeRead, node-read}
+use Rattle.reader.proofs.Searching.{up-to}
 use Rattle.reader.proofs.Sorting.{padded-all, padded-children}
 use Rattle.reader.proofs.Tally.{getD-tally, occurrences-most, fields-children, fields-below, below-weaken}
 use Rattle.awhile.specs.declared.Node.{Node}
@@ -55,27 +54,20 @@ module _ (ns : List Node) (m : Node) where
     index-here : getD (set index (length ns) at) (length ns) 0 ≡ at
     index-here = getD-set-same index (length ns) at 0 long
 
+    each : (P : ℕ → Type 0) → ((i : ℕ) → i < length ns → P i) → P (length ns) → (i : ℕ) → i < length (ns ++ (m ∷ [])) → P i
+    each P before here i inside = up-to (length ns) P before here i (omega (arith, length-append ns (m ∷ [])))
+
     leads-more : decodeAt s at ≡ Known m → (i : ℕ) → i < length (ns ++ (m ∷ [])) → decodeAt s (getD (set index (length ns) at) i 0) ≡ Known (getD (ns ++ (m ∷ [])) i Skip)
-    leads-more d i inside = go (ltb i (length ns)) refl
-      where
-        go : (b : Bool) → ltb i (length ns) ≡ b → decodeAt s (getD (set index (length ns) at) i 0) ≡ Known (getD (ns ++ (m ∷ [])) i Skip)
-        go true e =
-            let below = ltb-true i (length ns) e in
-            rw (index-before i below, before-same i below) (k .leads .decoded i below)
-        go false e =
-            let last : i ≡ length ns = omega (arith, ltb-false i (length ns) e, length-append ns (m ∷ [])) in
-            rw (last, index-here, getD-at ns m [] Skip (length ns) refl) d
+    leads-more d =
+        each (λ i. decodeAt s (getD (set index (length ns) at) i 0) ≡ Known (getD (ns ++ (m ∷ [])) i Skip))
+        (λ i below. rw (index-before i below, before-same i below) (k .leads .decoded i below))
+        (rw (index-here, getD-at ns m [] Skip (length ns) refl) d)
 
     offsets-more : (i : ℕ) → i < length (ns ++ (m ∷ [])) → getD (set index (length ns) at) i 0 ≡ start + sum (map sizeOf (take i (ns ++ (m ∷ []))))
-    offsets-more i inside = go (ltb i (length ns)) refl
-      where
-        go : (b : Bool) → ltb i (length ns) ≡ b → getD (set index (length ns) at) i 0 ≡ start + sum (map sizeOf (take i (ns ++ (m ∷ []))))
-        go true e =
-            let below = ltb-true i (length ns) e in
-            rw (index-before i below, take-append-le i ns (m ∷ []) (omega arith)) (k .offsets i below)
-        go false e =
-            let last : i ≡ length ns = omega (arith, ltb-false i (length ns) e, length-append ns (m ∷ [])) in
-            rw (last, index-here, take-at ns (m ∷ []) (length ns) refl) place
+    offsets-more =
+        each (λ i. getD (set index (length ns) at) i 0 ≡ start + sum (map sizeOf (take i (ns ++ (m ∷ [])))))
+        (λ i below. rw (index-before i below, take-append-le i ns (m ∷ []) (omega arith)) (k .offsets i below))
+        (rw (index-here, take-at ns (m ∷ []) (length ns) refl) place)
 
     -- what is kept of one node more
     pub kept-more : (cs : List ℕ) → cs ≡ childrenOf m → allBelow (length uses) cs ≡ true → decodeAt s at ≡ Known m

@@ -1,37 +1,33 @@
 -- `frame` makes the three tests of a record's frame in their order.
-use Prim.Native.Nat.{ℕ}
-use native.Mathlib.Omega.{arith}
-use mathlib.Core.Bool.{true}
-use mathlib.Core.Path.{_≡_, sym, _∙_}
-use lib.Dec.{ltb}
-use borrow.Author.Tests.{lt-leb, le-leb, lt-ltb, eq-eqb, ne-eqb}
+use mathlib.Core.Path.{sym, _∙_}
+use borrow.Author.Tests.{lt-leb, le-leb, eq-eqb, ne-eqb}
 use Rattle.awhile.specs.Refusals.{check}
 use Rattle.awhile.specs.Tables.{framed}
 use Rattle.reader.specs.Reader.{checkedAs}
+use Rattle.reader.proofs.Passing.{some-positive}
 use borrow.Author.Needs.{needs}
 use Rattle.reader.proofs.checks.frame.Statement.{statement}
 use Rattle.reader.proofs.checks.frame.Tie as tie
 
--- what is not 0 is positive
-some-positive : (n : ℕ) → ¬ (n ≡ 0) → ltb 0 n ≡ true
-some-positive n other = lt-ltb 0 n (omega arith)
-
 returns-3 : tie.Need-returns-3
 unfolding framed check checkedAs
 returns-3 c =
-    rw (le-leb _ _ (c .before .before .before .if1 .left), some-positive _ (c .before .before .if2 .left), ne-eqb _ _ (λ e. c .if3 .taken (c .before .u16-at .ensures .0 ∙ e)))
+    let read = c .before in
+    rw (le-leb _ _ (read .before .before .if1 .left), some-positive _ (read .before .if2 .left), ne-eqb _ _ (λ e. c .if3 .taken (read .u16-at .ensures .0 ∙ e)))
 
 returns-4 : tie.Need-returns-4
 unfolding framed check checkedAs
 returns-4 c =
     let read = c .before .before in
-    rw (le-leb _ _ (read .before .before .if1 .left), some-positive _ (read .before .if2 .left), eq-eqb _ _ (sym (read .u16-at .ensures .0) ∙ c .before .if3 .left), lt-leb _ _ (c .if4 .taken))
+    let same = sym (read .u16-at .ensures .0) ∙ c .before .if3 .left in
+    rw (le-leb _ _ (read .before .before .if1 .left), some-positive _ (read .before .if2 .left), eq-eqb _ _ same, lt-leb _ _ (c .if4 .taken))
 
 returns-5 : tie.Need-returns-5
 unfolding framed check checkedAs
 returns-5 c =
     let read = c .before .before in
-    rw (le-leb _ _ (read .before .before .if1 .left), some-positive _ (read .before .if2 .left), eq-eqb _ _ (sym (read .u16-at .ensures .0) ∙ c .before .if3 .left), le-leb _ _ (c .if4 .left))
+    let same = sym (read .u16-at .ensures .0) ∙ c .before .if3 .left in
+    rw (le-leb _ _ (read .before .before .if1 .left), some-positive _ (read .before .if2 .left), eq-eqb _ _ same, le-leb _ _ (c .if4 .left))
 
 pub frame-spec : {M : Type 1} → statement M
 unfolding framed check checkedAs

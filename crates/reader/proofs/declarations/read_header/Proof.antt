@@ -3,7 +3,7 @@ use mathlib.Core.Bool.{Bool, true, false}
 use mathlib.Core.Path.{_≡_, sym, _∙_}
 use denote.Ref.{now}
 use Rattle.awhile.specs.Refusals.{got, check}
-use Rattle.awhile.specs.Tables.{readHeader}
+use Rattle.awhile.specs.Tables.{Header, readHeader}
 use Rattle.reader.specs.Reader.{headerAs}
 use Rattle.reader.proofs.Declaring.{header-refused, header-tested}
 use Rattle.awhile.specs.declared.Refusal.the-variants.{BeyondLimit}
@@ -11,14 +11,19 @@ use borrow.Author.Needs.{needs}
 use Rattle.reader.proofs.declarations.read_header.Statement.{statement}
 use Rattle.reader.proofs.declarations.read_header.Tie as tie
 
--- the fields decide
-tested : (c : tie.After-within-limits) (b : Bool) → c .within-limits .result ≡ b
-    → headerAs (check b (BeyondLimit 0) (got (record { variables = c .before .before .before .byte-at .result; arrays = c .before .before .byte-at2 .result; nodes = c .before .u16-at2 .result })))
-    ≡ headerAs (readHeader (now (c .before .before .before .before .before .before .before .before .before .args .table)))
-tested c b e =
-    let passed = c .before .before .before .before .before in
-    header-tested _ _ _ _ _ b (sym (passed .before .before .frame-of-kind .ensures) ∙ passed .enum-told .given .1) (c .before .before .before .before .u16-at .ensures .0)
-    (c .before .before .before .byte-at .ensures .0) (c .before .before .byte-at2 .ensures .0) (c .before .u16-at2 .ensures .0) (sym e ∙ c .within-limits .ensures)
+module _ (c : tie.After-within-limits) where
+  abbrev passed : tie.After-enum-told
+  passed = c .before .before .before .before .before
+
+  abbrev fields : Header
+  fields = record { variables = c .before .before .before .byte-at .result; arrays = c .before .before .byte-at2 .result; nodes = c .before .u16-at2 .result }
+
+  -- the fields decide
+  tested : (b : Bool) → c .within-limits .result ≡ b
+      → headerAs (check b (BeyondLimit 0) (got fields)) ≡ headerAs (readHeader (now (passed .before .before .before .before .args .table)))
+  tested b e =
+      header-tested _ _ _ _ _ b (sym (passed .before .before .frame-of-kind .ensures) ∙ passed .enum-told .given .1) (c .before .before .before .before .u16-at .ensures .0)
+      (c .before .before .before .byte-at .ensures .0) (c .before .before .byte-at2 .ensures .0) (c .before .u16-at2 .ensures .0) (sym e ∙ c .within-limits .ensures)
 
 pub read-header-spec : {M : Type 1} → statement M
 unfolding headerAs check

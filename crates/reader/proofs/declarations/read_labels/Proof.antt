@@ -13,14 +13,16 @@ unfolding labelsAs check
 returns-2 c nodes =
     let masks = c .before .before .before .before in
     labels-tested _ _ _ _ true true (sym (masks .before .before .before .before .frame-of-kind .ensures) ∙ masks .before .before .enum-told .given .1)
-    (masks .before .u32-at .ensures) (masks .u16-at .ensures .0) (sym (c .before .before .if1 .taken) ∙ c .before .before .before .mask-fits .ensures) (sym (c .if2 .taken) ∙ c .before .mask-fits2 .ensures)
+    (masks .before .u32-at .ensures) (masks .u16-at .ensures .0)
+    (sym (c .before .before .if1 .taken) ∙ c .before .before .before .mask-fits .ensures) (sym (c .if2 .taken) ∙ c .before .mask-fits2 .ensures)
 
 returns-3 : tie.Need-returns-3
 unfolding labelsAs check
 returns-3 c nodes =
     let masks = c .before .before .before .before in
     labels-tested _ _ _ _ true false (sym (masks .before .before .before .before .frame-of-kind .ensures) ∙ masks .before .before .enum-told .given .1)
-    (masks .before .u32-at .ensures) (masks .u16-at .ensures .0) (sym (c .before .before .if1 .taken) ∙ c .before .before .before .mask-fits .ensures) (sym (c .if2 .left) ∙ c .before .mask-fits2 .ensures)
+    (masks .before .u32-at .ensures) (masks .u16-at .ensures .0)
+    (sym (c .before .before .if1 .taken) ∙ c .before .before .before .mask-fits .ensures) (sym (c .if2 .left) ∙ c .before .mask-fits2 .ensures)
 
 returns-4 : tie.Need-returns-4
 unfolding labelsAs check

@@ -18,7 +18,9 @@ unfolding all
 returns-3 c =
     let first = c .before .before .before .before .field-in-range in
     let second = c .before .before .field-in-range2 in
-    rw (← first .ensures, not-false (first .result) (c .before .before .before .if1 .left), ← second .ensures, not-false (second .result) (c .before .if2 .left), ← c .field-in-range3 .ensures, and-true)
+    let one = not-false (first .result) (c .before .before .before .if1 .left) in
+    let two = not-false (second .result) (c .before .if2 .left) in
+    rw (← first .ensures, one, ← second .ensures, two, ← c .field-in-range3 .ensures, and-true)
 
 pub in-range-spec : {M : Type 1} → statement M
 unfolding all

@@ -19,7 +19,9 @@ use Rattle.reader.proofs.lookup.command_at.Tie as tie
 -- the node's record stands where the index says
 there : (d : tie.After-shared-slice-known3) → let a = d .before .before .before .args in
     NodeAt (now (a .table)) (getD (now (a .index)) (a .n) 0) (nodeIn (now (a .table)) (a .n))
-there d = let start = d .before .before .before in indexed-node _ _ (slice-bytes _ (d .before .before .shared-slice-known .given)) (start .pre .0) _ (start .pre .1)
+there d =
+    let start = d .before .before .before in
+    indexed-node _ _ (slice-bytes _ (d .before .before .shared-slice-known .given)) (start .pre .0) _ (start .pre .1)
 
 -- what it is, by its kind
 held : (d : tie.After-kind) → StoredAs _ _ _ (there (d .before)) (d .kind .result)
@@ -56,7 +58,10 @@ command-at-spec =
     (λ c. held (c .before) _ (c .match .keys1) _ refl .isNode)
     (λ c. rw (c .before .first .ensures, c .second .ensures) (held (c .before .before .before) _ (c .before .before .match .keys2) _ refl .isNode))
     (λ c. rw (c .before .first2 .ensures, c .second2 .ensures) (held (c .before .before .before) _ (c .before .before .match .keys3) _ refl .isNode))
-    (λ c. rw (c .before .before .first3 .ensures, c .before .second3 .ensures, c .third .ensures) (held (c .before .before .before .before) _ (c .before .before .before .match .keys4) _ refl .isNode))
+    (λ c. rw (c .before .before .first3 .ensures, c .before .second3 .ensures, c .third .ensures)
+    (held (c .before .before .before .before) _ (c .before .before .before .match .keys4) _ refl .isNode))
     (λ c. rw (c .before .first4 .ensures, c .second4 .ensures) (held (c .before .before .before) _ (c .before .before .match .keys5) _ refl .isNode))
-    (λ c. rw (c .before .before .first5 .ensures, c .before .second5 .ensures, c .third2 .ensures) (held (c .before .before .before .before) _ (c .before .before .before .match .keys6) _ refl .isNode))
-    (λ c. rw (c .before .before .first6 .ensures, c .before .second6 .ensures, c .third3 .ensures) (held (c .before .before .before .before) _ (last (c .before .before .before)) _ refl .isNode)))
+    (λ c. rw (c .before .before .first5 .ensures, c .before .second5 .ensures, c .third2 .ensures)
+    (held (c .before .before .before .before) _ (c .before .before .before .match .keys6) _ refl .isNode))
+    (λ c. rw (c .before .before .first6 .ensures, c .before .second6 .ensures, c .third3 .ensures)
+    (held (c .before .before .before .before) _ (last (c .before .before .before)) _ refl .isNode)))

@@ -14,7 +14,9 @@ use Rattle.reader.proofs.lookup.is_command.Tie as tie
 -- the node's record stands where the index says
 there : (d : tie.After-shared-slice-known3) → let a = d .before .before .before .args in
     NodeAt (now (a .table)) (getD (now (a .index)) (a .n) 0) (nodeIn (now (a .table)) (a .n))
-there d = let start = d .before .before .before in indexed-node _ _ (slice-bytes _ (d .before .before .shared-slice-known .given)) (start .pre .0) _ (start .pre .1)
+there d =
+    let start = d .before .before .before in
+    indexed-node _ _ (slice-bytes _ (d .before .before .shared-slice-known .given)) (start .pre .0) _ (start .pre .1)
 
 pub is-command-spec : {M : Type 1} → statement M
 is-command-spec =

@@ -13,7 +13,8 @@ room : (c : tie.Start) → Room 65533 (now (c .args .uses)) (fieldsOf (c .args .
 room c = record { below = c .pre .0; small = c .pre .1 }
 
 -- room for the second and third
-rest : (c : tie.After-count-field) → let fields = c .before .before .before .args .fields in Room 65534 (c .count-field .last .0) (fieldOf (fields .second) ∷ fieldOf (fields .third) ∷ [])
+rest : (c : tie.After-count-field) → let fields = c .before .before .before .args .fields in
+    Room 65534 (c .count-field .last .0) (fieldOf (fields .second) ∷ fieldOf (fields .third) ∷ [])
 rest c = room-rest _ _ _ _ (room (c .before .before .before)) _ (omega arith) (c .count-field .ensures)
 
 count-field-requires-3 : tie.Need-count-field-requires-3

@@ -34,6 +34,16 @@ returns c =
     (nodes-stop _ _ _ _ _ _ _ _ (tested .before .loop .inv .0) (tested .loop-test .taken) _ (rw (c .before .refusal .given .1) at (c .before .before .before .read-node .ensures)))
     refl
 
+mul-index : tie.Need-mul-index Inv-loop μ-loop
+mul-index c =
+    let tested = c .before .before .before .before .before in
+    omega (arith, tested .loop-test .taken, tested .before .before .before .before .before .pre)
+
+slice-write-index : tie.Need-slice-write-index Inv-loop μ-loop
+slice-write-index c =
+    let tested = c .before .before .before .before .before in
+    omega (arith, tested .loop-test .taken, tested .before .loop .inv .1, tested .before .before .before .before .before .pre)
+
 -- what the next node's record says
 module _ (c : tie.After-fields-of Inv-loop μ-loop) where
   abbrev tested : tie.In-loop Inv-loop μ-loop
@@ -93,8 +103,8 @@ read-nodes-spec =
     returns
     (λ c. search needs)
     (λ c. omega (arith, short (c .before .before .before .before .before)))
-    (λ c. omega (arith, c .before .before .before .before .before .loop-test .taken, c .before .before .before .before .before .before .before .before .before .before .pre))
-    (λ c. let tested = c .before .before .before .before .before in omega (arith, tested .loop-test .taken, tested .before .loop .inv .1, tested .before .before .before .before .before .pre))
+    mul-index
+    slice-write-index
     (λ c κs. search needs)
     count-fields-requires
     (λ c κs. search needs)
