@@ -33,7 +33,7 @@ use Rattle.reader.specs.declared.walk.NodesRead.the-variants.{Refused as
 use Rattle.reader.specs.declared.uses.Broken.the-variants.{At, Nowhere}
 
 -- the table that accepted bytes read as
-pub table-of : (s : List ℕ) (t : Table) → readTable s ≡ accepted t → tableOf s ≡ t
+table-of : (s : List ℕ) (t : Table) → readTable s ≡ accepted t → tableOf s ≡ t
 unfolding tableOf
 table-of s t e = rw (e, tableOf)
 

@@ -56,12 +56,12 @@ node-of-kind k f g h w =
     (kind-case k 54 _ _ (λ e. e) tt)))))))))))))))))
 
 -- ---- the kinds of a sort stand side by side
-abbrev pub firstKind : Sort → ℕ
+abbrev firstKind : Sort → ℕ
 firstKind Numeric = 16
 firstKind Truth = 32
 firstKind Command = 48
 
-abbrev pub lastKind : Sort → ℕ
+abbrev lastKind : Sort → ℕ
 lastKind Numeric = 21
 lastKind Truth = 36
 lastKind Command = 54
@@ -91,7 +91,7 @@ kind-of (Read a b c) = (omega arith, omega arith)
 kind-of (Write a b c) = (omega arith, omega arith)
 
 -- a number is none of so many from a least one up
-abbrev pub Others : (least count k : ℕ) → Type 0
+abbrev Others : (least count k : ℕ) → Type 0
 Others least zero k = Unit
 Others least (suc count) k = Others least count k × (k ≡ least + count → ⊥)
 

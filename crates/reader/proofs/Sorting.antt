@@ -58,7 +58,7 @@ never-child : (s : Sort) (n : ℕ) → OneOf (0 ∷ 1 ∷ 2 ∷ 3 ∷ []) (tagOf
 never-child s n h = ⊎-elim (λ e. omega arith) (λ r. ⊎-elim (λ e. omega arith) (λ q. ⊎-elim (λ e. omega arith) (λ e. omega arith) q) r) h
 
 -- another field asks for no sort
-pub not-child : (f : FieldRead) → OneOf (0 ∷ 1 ∷ 2 ∷ 3 ∷ []) (tagOf field.the-type f) → (ns : List Node) → fieldSorted ns (fieldOf f) ≡ true
+not-child : (f : FieldRead) → OneOf (0 ∷ 1 ∷ 2 ∷ 3 ∷ []) (tagOf field.the-type f) → (ns : List Node) → fieldSorted ns (fieldOf f) ≡ true
 unfolding fieldSorted
 not-child (Word n) h ns = refl
 not-child (Constant n) h ns = refl

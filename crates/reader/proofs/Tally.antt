@@ -15,13 +15,13 @@ use Rattle.awhile.specs.declared.Sort.{Sort}
 use Rattle.awhile.proofs.Lists.{all-head, all-tail, all-append, all-first, all-second}
 
 -- counts of two lists, one after the other
-pub tally-append : (ms ns counts : List ℕ) → tally counts (ms ++ ns) ≡ tally (tally counts ms) ns
+tally-append : (ms ns counts : List ℕ) → tally counts (ms ++ ns) ≡ tally (tally counts ms) ns
 unfolding tally
 tally-append [] ns counts = refl
 tally-append (m ∷ ms) ns counts = tally-append ms ns (set counts m (getD counts m 0 + 1))
 
 -- as many counts as before
-pub length-tally : (ns counts : List ℕ) → length (tally counts ns) ≡ length counts
+length-tally : (ns counts : List ℕ) → length (tally counts ns) ≡ length counts
 unfolding tally
 length-tally [] counts = refl
 length-tally (n ∷ ns) counts = length-tally ns (set counts n (getD counts n 0 + 1)) ∙ length-set counts n (getD counts n 0 + 1)

@@ -70,7 +70,7 @@ module _ (ns : List Node) (m : Node) where
         (rw (index-here, take-at ns (m ∷ []) (length ns) refl) place)
 
     -- what is kept of one node more
-    pub kept-more : (cs : List ℕ) → cs ≡ childrenOf m → allBelow (length uses) cs ≡ true → decodeAt s at ≡ Known m
+    kept-more : (cs : List ℕ) → cs ≡ childrenOf m → allBelow (length uses) cs ≡ true → decodeAt s at ≡ Known m
         → Kept s (set index (length ns) at) (tally uses cs) start (ns ++ (m ∷ []))
     kept-more cs same below d =
         record {
