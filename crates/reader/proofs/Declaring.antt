@@ -50,7 +50,7 @@ module _ (s : List ℕ) where
   -- ---- the header
   pub header-refused : (r : Refusal) → checkedAs (framed s 0 (lengthOfKind 1 headerSize s 0) (got tt)) ≡ Refused r → HeaderRefused r ≡ headerAs (readHeader s)
   unfolding readHeader headerAs
-  header-refused r e = sym (ap headerAs (framed-refused s 0 (lengthOfKind 1 headerSize s 0) _ r e))
+  header-refused r e = sym (ap headerAs (framed-refused _ _ _ _ _ e))
 
   -- a whole header is accepted where its fields are within the limits
   pub header-tested : (version vs arrs nodes : ℕ) (b : Bool) → checkedAs (framed s 0 (lengthOfKind 1 headerSize s 0) (got tt)) ≡ Passed
@@ -58,31 +58,31 @@ module _ (s : List ℕ) where
       → b ≡ (eqb version 1 && leb vs maxVariables && leb arrs maxArrays && ltb 0 nodes && leb nodes maxNodes)
       → headerAs (check b (BeyondLimit 0) (got (record { variables = vs; arrays = arrs; nodes = nodes }))) ≡ headerAs (readHeader s)
   unfolding readHeader
-  header-tested version vs arrs nodes b whole p q r t e = sym (ap headerAs (framed-passed-on s 0 (lengthOfKind 1 headerSize s 0) _ whole ∙ rw (e, p, q, r, t)))
+  header-tested version vs arrs nodes b whole p q r t e = sym (ap headerAs (framed-passed-on _ _ _ _ whole ∙ rw (e, p, q, r, t)))
 
   -- ---- the labels
   pub labels-refused : (h : Header) (r : Refusal) → checkedAs (framed s 10 (lengthOfKind 3 labelsSize s 10) (got tt)) ≡ Refused r → LabelsRefused r ≡ labelsAs (readLabels s h)
   unfolding readLabels labelsAs
-  labels-refused h r e = sym (ap labelsAs (framed-refused s 10 (lengthOfKind 3 labelsSize s 10) _ r e))
+  labels-refused h r e = sym (ap labelsAs (framed-refused _ _ _ _ _ e))
 
   -- a whole labels record is accepted where its masks fit
   pub labels-tested : (h : Header) (vs arrs : ℕ) (a b : Bool) → checkedAs (framed s 10 (lengthOfKind 3 labelsSize s 10) (got tt)) ≡ Passed
       → vs ≡ leAt 4 s 14 → arrs ≡ leAt 2 s 18 → a ≡ ltb vs (2 ^ h .variables) → b ≡ ltb arrs (2 ^ h .arrays)
       → labelsAs (check (a && b) (BeyondLimit 10) (got (record { variables = vs; arrays = arrs }))) ≡ labelsAs (readLabels s h)
   unfolding readLabels
-  labels-tested h vs arrs a b whole v w p q = sym (ap labelsAs (framed-passed-on s 10 (lengthOfKind 3 labelsSize s 10) _ whole ∙ rw (p, q, v, w)))
+  labels-tested h vs arrs a b whole v w p q = sym (ap labelsAs (framed-passed-on _ _ _ _ whole ∙ rw (p, q, v, w)))
 
   -- ---- the arrays
   module _ (at before : ℕ) where
     pub count-refused : (r : Refusal) → checkedAs (framed s at (lengthOfKind 2 arraySize s at) (got tt)) ≡ Refused r → CountRefused r ≡ countAs (readCount s at before)
     unfolding readCount countAs
-    count-refused r e = sym (ap countAs (framed-refused s at (lengthOfKind 2 arraySize s at) _ r e))
+    count-refused r e = sym (ap countAs (framed-refused _ _ _ _ _ e))
 
     -- a whole array record is accepted where its count is positive and the cells are not too many
     pub count-tested : (n : ℕ) (a b : Bool) → checkedAs (framed s at (lengthOfKind 2 arraySize s at) (got tt)) ≡ Passed → n ≡ leAt 2 s (at + 4)
         → ltb 0 n ≡ a → leb (before + n) maxCells ≡ b → countAs (check (a && b) (BeyondLimit at) (got n)) ≡ countAs (readCount s at before)
     unfolding readCount
-    count-tested n a b whole e p q = sym (ap countAs (framed-passed-on s at (lengthOfKind 2 arraySize s at) _ whole ∙ rw (← p, ← q, e)))
+    count-tested n a b whole e p q = sym (ap countAs (framed-passed-on _ _ _ _ whole ∙ rw (← p, ← q, e)))
 
   -- ---- all arrays
   -- what is left to read from here is what is to be read of all arrays
@@ -111,9 +111,9 @@ module _ (s : List ℕ) where
         record {
           before = h .before ++ (n ∷ []);
           summed = sum-append (h .before) (n ∷ []) ∙ omega (arith, h .summed);
-          same = h .same ∙ ap (λ k. readCounts k s at (h .before)) next ∙ counts-next s at (left - 1) (h .before) n (counted (got n) read);
+          same = h .same ∙ ap (λ k. readCounts k s at (h .before)) next ∙ counts-next _ _ _ _ _ (counted (got n) read);
           place = omega (arith, h .place);
-          few = count-fits s at cells n read .total;
+          few = count-fits _ _ _ _ read .total;
         }
 
     -- a refused count refuses them all
@@ -121,7 +121,7 @@ module _ (s : List ℕ) where
     unfolding cellsAs
     counts-stop some r e =
         let next : left ≡ suc (left - 1) = omega arith in
-        let refuses = counts-refused s at (left - 1) (h .before) r (counted (refused r) (count-not-got (readCount s at cells) r e)) in
+        let refuses = counts-refused _ _ _ _ _ (counted (refused r) (count-not-got (readCount s at cells) r e)) in
         sym (ap cellsAs (h .same ∙ ap (λ k. readCounts k s at (h .before)) next ∙ refuses))
 
     -- with none left all were read

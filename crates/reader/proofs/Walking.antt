@@ -131,15 +131,15 @@ module _ (s : List ℕ) (vs arrs nodes : ℕ) where
       -- a refused record refuses them all
       pub nodes-stop : (x : Refusal) → NodeChecked s index vs arrs n at (NodeRefused x) → readNodes nodes header s (nodesStart arrs) [] ≡ refused x
       nodes-stop x c =
-          let e = node-not-got (readNode header s at (h .before)) x (c .isRead (h .before) (h .counted) (h .kept .leads) nodes) in
-          h .same ∙ ap (λ k. readNodes k header s at (h .before)) next ∙ nodes-refused s at header (h .before) (nodes - (n + 1)) x e
+          let e = node-not-got _ x (c .isRead (h .before) (h .counted) (h .kept .leads) nodes) in
+          h .same ∙ ap (λ k. readNodes k header s at (h .before)) next ∙ nodes-refused _ _ _ _ _ _ e
 
       module _ (bytes : Below 256 s) (m : Node) (c : NodeChecked s index vs arrs n at (NodeGot m)) (fs : List Field) (f : fs ≡ padded 3 (form m .fields)) where
         was-read : readNode header s at (h .before) ≡ got m
-        was-read = node-got (readNode header s at (h .before)) m (c .isRead (h .before) (h .counted) (h .kept .leads) nodes)
+        was-read = node-got _ m (c .isRead (h .before) (h .counted) (h .kept .leads) nodes)
 
         known : NodeRead s bytes header at (h .before) m
-        known = node-read s bytes header at (h .before) m was-read
+        known = node-read _ bytes _ _ _ _ was-read
 
         same-children : flatMap fieldChildren fs ≡ childrenOf m
         unfolding childrenOf
@@ -164,11 +164,11 @@ module _ (s : List ℕ) (vs arrs nodes : ℕ) where
               same =
                   h .same
                   ∙ ap (λ k. readNodes k header s at (h .before)) next
-                  ∙ nodes-next s at header (h .before) (nodes - (n + 1)) m was-read;
+                  ∙ nodes-next _ _ _ _ _ _ was-read;
               place = rw (map-append, sum-append) (omega (arith, h .place));
               kept =
                   rw (← h .counted)
-                  (kept-more (h .before) m s index uses (nodesStart arrs) at (h .kept) (omega (arith, h .counted)) (h .place)
+                  (kept-more _ m _ _ _ _ _ (h .kept) (omega (arith, h .counted)) (h .place)
                   (flatMap fieldChildren fs) same-children (children-inside (length uses) longUses) (known .there .decoded));
               children =
                   rw (flatMap-append, length-append, append-nil, ← same-children)

@@ -1,7 +1,6 @@
 -- `command_at` reads what the record of the node has: the index leads to it, and its kind, of the kinds of commands, tells which fields those are.
 use native.Mathlib.Omega.{arith}
 use mathlib.Core.Path.{_≡_, refl}
-use mathlib.Core.List.{map}
 use denote.Ref.{now}
 use lib.ListN.{getD}
 use borrow.Author.Needs.{needs}
@@ -32,7 +31,7 @@ last : (d : tie.At-match-rest) → d .before .kind .result ≡ 54
 last d = last-kind _ _ _ (there (d .before .before)) Command (d .before .before .before .before .before .pre .2) _ (d .before .kind .ensures) (d .match .rest)
 
 pub command-at-spec : {M : Type 1} → statement M
-unfolding nodeOf sizeOf form sum map fieldSize
+unfolding nodeOf sizeOf form sum fieldSize
 command-at-spec =
     tie.close
     (tie.spec
