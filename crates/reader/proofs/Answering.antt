@@ -38,9 +38,6 @@ unfolding tableOf
 table-of s t e = rw (e, tableOf)
 
 -- ---- what the parts hand on was read
-same-header : (h : Header) (vs arrs nodes : ℕ) → vs ≡ h .variables → arrs ≡ h .arrays → nodes ≡ h .nodes → record { variables = vs; arrays = arrs; nodes = nodes } ≡ h
-same-header h vs arrs nodes p q r = λ i. record { variables = p i; arrays = q i; nodes = r i }
-
 labels-got : (a : Answer Labelling) (l : Labelling) → LabelsGot l ≡ labelsAs a → a ≡ got l
 unfolding labelsAs
 labels-got (refused r) l e = cc
@@ -64,7 +61,11 @@ cells-got Q (got cs) cells e next = next cs refl (let same : sum cs ≡ cells = 
 header-got : (a : Answer Header) (vs arrs nodes : ℕ) → HeaderGot vs arrs nodes ≡ headerAs a → a ≡ got (record { variables = vs; arrays = arrs; nodes = nodes })
 unfolding headerAs
 header-got (refused r) vs arrs nodes e = cc
-header-got (got h) vs arrs nodes e = sym (ap got (same-header h vs arrs nodes (let p : vs ≡ h .variables = cc in p) (let p : arrs ≡ h .arrays = cc in p) (let p : nodes ≡ h .nodes = cc in p)))
+header-got (got h) vs arrs nodes e =
+    let p : vs ≡ h .variables = cc in
+    let q : arrs ≡ h .arrays = cc in
+    let r : nodes ≡ h .nodes = cc in
+    sym (ap got (λ i. record { variables = p i; arrays = q i; nodes = r i }))
 
 header-not-got : (a : Answer Header) (x : Refusal) → HeaderRefused x ≡ headerAs a → a ≡ refused x
 unfolding headerAs
@@ -196,13 +197,15 @@ module _ (s index : List ℕ) (vs arrs nodes : ℕ) where
     cells-stop x f = record { answers = λ isHeader. isRejected x (table-refused s x (rw (isHeader, isLabels, cells-not-got _ x f))) refl }
 
     -- declarations that were read leave it to the nodes
-    pub declared-on : (cells : ℕ) (answer : Read) → CellsGot cells ≡ cellsAs (readCounts arrs s 20 []) → ReadsOn s index vs arrs nodes cells l answer → ReadsDeclared s index vs arrs nodes answer
+    pub declared-on : (cells : ℕ) (answer : Read) → CellsGot cells ≡ cellsAs (readCounts arrs s 20 []) → ReadsOn s index vs arrs nodes cells l answer
+        → ReadsDeclared s index vs arrs nodes answer
     declared-on cells answer f on =
         record { answers = λ isHeader. cells-got _ _ _ f (λ cs counts total. on .answers cs isHeader isLabels counts total) }
 
 -- ---- the whole table
 -- a header that was read is within the limits
-pub header-limits : (s : List ℕ) (vs arrs nodes : ℕ) → HeaderGot vs arrs nodes ≡ headerAs (readHeader s) → HeaderFits s (record { variables = vs; arrays = arrs; nodes = nodes })
+pub header-limits : (s : List ℕ) (vs arrs nodes : ℕ) → HeaderGot vs arrs nodes ≡ headerAs (readHeader s)
+    → HeaderFits s (record { variables = vs; arrays = arrs; nodes = nodes })
 header-limits s vs arrs nodes e = header-fits _ _ (header-got _ _ _ _ e)
 
 module _ (s index : List ℕ) where
@@ -244,7 +247,8 @@ module _ (vs arrs nodes cells : ℕ) (labels : Labelling) (end : ℕ) (t : Table
 
 module _ (s index : List ℕ) where
   -- an accepting answer
-  pub accepting : (vs arrs nodes cells : ℕ) (labels : Labelling) (end : ℕ) → Answers s index (Accepted vs arrs nodes cells labels end) → AcceptedTable s index vs arrs nodes cells labels end
+  pub accepting : (vs arrs nodes cells : ℕ) (labels : Labelling) (end : ℕ) → Answers s index (Accepted vs arrs nodes cells labels end)
+      → AcceptedTable s index vs arrs nodes cells labels end
   accepting vs arrs nodes cells labels end (isRejected r e q) = absurd (never-accepted _ _ _ _ _ _ _ q)
   accepting vs arrs nodes cells labels end (isNotATree t place e b q) = absurd (never-accepted _ _ _ _ _ _ _ q)
   accepting vs arrs nodes cells labels end (isAccepted i q) =

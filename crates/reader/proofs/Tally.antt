@@ -87,13 +87,15 @@ module _ (counts : List ℕ) (f : Field) (fs : List Field) where
         (all-first (λ n. ltb n (length counts)) (fieldChildren f) (flatMap fieldChildren fs) (room .below), record { each = λ k. omega (arith, room .small .each k) })
 
     -- and, once its child is counted, for the others
-    pub room-rest : (next : List ℕ) → bound < 65535 → next ≡ tally counts (fieldChildren f) → Room (bound + 1) next fs
+    pub room-rest : (next : List ℕ) → next ≡ tally counts (fieldChildren f) → Room (bound + 1) next fs
     unfolding allBelow flatMap
-    room-rest next wide e =
+    room-rest next e =
+        let children = fieldChildren f in
+        let inside = all-first (λ n. ltb n (length counts)) children (flatMap fieldChildren fs) (room .below) in
         rw e
         (record {
-          below = rw (length-tally (fieldChildren f) counts) (all-second (λ n. ltb n (length counts)) (fieldChildren f) (flatMap fieldChildren fs) (room .below));
-          small = record { each = λ k. omega (arith, getD-tally (fieldChildren f) counts k (room-first (omega arith) .0), room .small .each k, occurrences-most k (fieldChildren f), field-children f) };
+          below = rw (length-tally children counts) (all-second (λ n. ltb n (length counts)) children (flatMap fieldChildren fs) (room .below));
+          small = record { each = λ k. omega (arith, getD-tally children counts k inside, room .small .each k, occurrences-most k children, field-children f) };
         })
 
   -- counting the first field's child and then the others' counts all

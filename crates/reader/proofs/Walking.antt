@@ -57,7 +57,8 @@ module _ (ns : List Node) (m : Node) where
     each : (P : ℕ → Type 0) → ((i : ℕ) → i < length ns → P i) → P (length ns) → (i : ℕ) → i < length (ns ++ (m ∷ [])) → P i
     each P before here i inside = up-to (length ns) P before here i (omega (arith, length-append ns (m ∷ [])))
 
-    leads-more : decodeAt s at ≡ Known m → (i : ℕ) → i < length (ns ++ (m ∷ [])) → decodeAt s (getD (set index (length ns) at) i 0) ≡ Known (getD (ns ++ (m ∷ [])) i Skip)
+    leads-more : decodeAt s at ≡ Known m → (i : ℕ) → i < length (ns ++ (m ∷ []))
+        → decodeAt s (getD (set index (length ns) at) i 0) ≡ Known (getD (ns ++ (m ∷ [])) i Skip)
     leads-more d =
         each (λ i. decodeAt s (getD (set index (length ns) at) i 0) ≡ Known (getD (ns ++ (m ∷ [])) i Skip))
         (λ i below. rw (index-before i below, before-same i below) (k .leads .decoded i below))

@@ -15,12 +15,12 @@ room c = record { below = c .pre .0; small = c .pre .1 }
 -- room for the second and third
 rest : (c : tie.After-count-field) → let fields = c .before .before .before .args .fields in
     Room 65534 (c .count-field .last .0) (fieldOf (fields .second) ∷ fieldOf (fields .third) ∷ [])
-rest c = room-rest _ _ _ _ (room (c .before .before .before)) _ (omega arith) (c .count-field .ensures)
+rest c = room-rest _ _ _ _ (room (c .before .before .before)) _ (c .count-field .ensures)
 
 count-field-requires-3 : tie.Need-count-field-requires-3
 count-field-requires-3 c κs =
     let second = c .before .before .before in
-    room-first _ _ _ _ (room-rest _ _ _ _ (rest (second .before .before .before .before)) _ (omega arith) (second .count-field2 .ensures)) (omega arith)
+    room-first _ _ _ _ (room-rest _ _ _ _ (rest (second .before .before .before .before)) _ (second .count-field2 .ensures)) (omega arith)
 
 returns : tie.Need-returns
 returns c =
