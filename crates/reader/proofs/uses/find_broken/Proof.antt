@@ -17,11 +17,12 @@ Inv-loop uses nodes root n₀ n = UsedOnce uses nodes root n
 abbrev μ-loop : tie.MeasureT-loop
 μ-loop uses nodes root n₀ n = nodes - n
 
-returns : tie.Need-returns Inv-loop μ-loop
-returns c = broken-child _ _ _ _ (c .before .before .loop-test .taken) (c .if1 .taken)
-
+-- a count that is passed is 1
 loop-again : tie.Need-loop-again Inv-loop μ-loop
 loop-again c = once-more _ _ _ _ (c .before .before .before .loop .inv) (c .before .before .loop-test .taken) (c .if1 .left)
+
+returns : tie.Need-returns Inv-loop μ-loop
+returns c = broken-child _ _ _ _ (c .before .before .loop-test .taken) (c .if1 .taken)
 
 returns-3 : tie.Need-returns-3 Inv-loop μ-loop
 returns-3 c =
