@@ -33,14 +33,11 @@ use Rattle.reader.specs.declared.walk.NodesRead.the-variants.{Refused as
 use Rattle.reader.specs.declared.uses.Broken.the-variants.{At, Nowhere}
 
 -- the table that accepted bytes read as
-pub table-of : (s : List ℕ) (t : Table) → readTable s ≡ accepted t → tableOf s ≡ t
+table-of : (s : List ℕ) (t : Table) → readTable s ≡ accepted t → tableOf s ≡ t
 unfolding tableOf
 table-of s t e = rw (e, tableOf)
 
 -- ---- what the parts hand on was read
-same-header : (h : Header) (vs arrs nodes : ℕ) → vs ≡ h .variables → arrs ≡ h .arrays → nodes ≡ h .nodes → record { variables = vs; arrays = arrs; nodes = nodes } ≡ h
-same-header h vs arrs nodes p q r = λ i. record { variables = p i; arrays = q i; nodes = r i }
-
 labels-got : (a : Answer Labelling) (l : Labelling) → LabelsGot l ≡ labelsAs a → a ≡ got l
 unfolding labelsAs
 labels-got (refused r) l e = cc
@@ -64,7 +61,11 @@ cells-got Q (got cs) cells e next = next cs refl (let same : sum cs ≡ cells = 
 header-got : (a : Answer Header) (vs arrs nodes : ℕ) → HeaderGot vs arrs nodes ≡ headerAs a → a ≡ got (record { variables = vs; arrays = arrs; nodes = nodes })
 unfolding headerAs
 header-got (refused r) vs arrs nodes e = cc
-header-got (got h) vs arrs nodes e = sym (ap got (same-header h vs arrs nodes (let p : vs ≡ h .variables = cc in p) (let p : arrs ≡ h .arrays = cc in p) (let p : nodes ≡ h .nodes = cc in p)))
+header-got (got h) vs arrs nodes e =
+    let p : vs ≡ h .variables = cc in
+    let q : arrs ≡ h .arrays = cc in
+    let r : nodes ≡ h .nodes = cc in
+    sym (ap got (λ i. record { variables = p i; arrays = q i; nodes = r i }))
 
 header-not-got : (a : Answer Header) (x : Refusal) → HeaderRefused x ≡ headerAs a → a ≡ refused x
 unfolding headerAs
@@ -153,7 +154,7 @@ module _ (s : List ℕ) (vs arrs nodes : ℕ) (index uses : List ℕ) (cells : �
       record {
         answers = λ cs header isLabels counts total.
             isRejected y
-            (table-refused s y (records-then s (record { variables = vs; arrays = arrs; nodes = nodes }) labels cs (refused y) header isLabels counts e))
+            (table-refused s y (records-then _ _ _ _ _ header isLabels counts e))
             (ap Refused (same-refusal x y q));
       }
   on-refused x (ended ns e counted q k) = absurd (never-both _ x (sym q))
@@ -173,7 +174,7 @@ module _ (s : List ℕ) (vs arrs nodes : ℕ) (index uses : List ℕ) (cells : �
           let fit = counts-fit s arrs 20 [] cs (omega arith) counts in
           let many : length cs ≡ arrs = ap length (fit .whole) ∙ fit .counted in
           let atEnd : nodesStart (length cs) + sum (map sizeOf (take (length ns) ns)) ≡ end = rw (many, take-length) (sym (same-end end _ q)) in
-          finishes .answers t (records-then s (record { variables = vs; arrays = arrs; nodes = nodes }) labels cs (got ns) header isLabels counts e)
+          finishes .answers t (records-then _ _ _ _ _ header isLabels counts e)
           (record { isVariables = refl; isArrays = many; isNodes = counted; isCells = total; isLabels = refl }) atEnd (rw many k)
 
 -- ---- from the labels on
@@ -183,37 +184,39 @@ module _ (s index : List ℕ) (vs arrs nodes : ℕ) where
 
   -- a refused labels record refuses the table
   pub labels-stop : (x : Refusal) → LabelsRefused x ≡ labelsAs (readLabels s header) → ReadsDeclared s index vs arrs nodes (Refused x)
-  unfolding labelsAs readRecords andThen
-  labels-stop x e = record { answers = λ isHeader. isRejected x (table-refused s x (rw (isHeader, labels-not-got (readLabels s header) x e))) refl }
+  unfolding readRecords andThen
+  labels-stop x e = record { answers = λ isHeader. isRejected x (table-refused s x (rw (isHeader, labels-not-got _ x e))) refl }
 
   module _ (l : Labelling) (e : LabelsGot l ≡ labelsAs (readLabels s header)) where
     isLabels : readLabels s header ≡ got l
-    isLabels = labels-got (readLabels s header) l e
+    isLabels = labels-got _ l e
 
     -- a refused array record refuses the table
     pub cells-stop : (x : Refusal) → CellsRefused x ≡ cellsAs (readCounts arrs s 20 []) → ReadsDeclared s index vs arrs nodes (Refused x)
     unfolding readRecords andThen
-    cells-stop x f = record { answers = λ isHeader. isRejected x (table-refused s x (rw (isHeader, isLabels, cells-not-got (readCounts arrs s 20 []) x f))) refl }
+    cells-stop x f = record { answers = λ isHeader. isRejected x (table-refused s x (rw (isHeader, isLabels, cells-not-got _ x f))) refl }
 
     -- declarations that were read leave it to the nodes
-    pub declared-on : (cells : ℕ) (answer : Read) → CellsGot cells ≡ cellsAs (readCounts arrs s 20 []) → ReadsOn s index vs arrs nodes cells l answer → ReadsDeclared s index vs arrs nodes answer
+    pub declared-on : (cells : ℕ) (answer : Read) → CellsGot cells ≡ cellsAs (readCounts arrs s 20 []) → ReadsOn s index vs arrs nodes cells l answer
+        → ReadsDeclared s index vs arrs nodes answer
     declared-on cells answer f on =
-        record { answers = λ isHeader. cells-got (Answers s index answer) (readCounts arrs s 20 []) cells f (λ cs counts total. on .answers cs isHeader isLabels counts total) }
+        record { answers = λ isHeader. cells-got _ _ _ f (λ cs counts total. on .answers cs isHeader isLabels counts total) }
 
 -- ---- the whole table
+-- a header that was read is within the limits
+pub header-limits : (s : List ℕ) (vs arrs nodes : ℕ) → HeaderGot vs arrs nodes ≡ headerAs (readHeader s)
+    → HeaderFits s (record { variables = vs; arrays = arrs; nodes = nodes })
+header-limits s vs arrs nodes e = header-fits _ _ (header-got _ _ _ _ e)
+
 module _ (s index : List ℕ) where
   -- a refused header refuses the table
   pub header-stop : (x : Refusal) → HeaderRefused x ≡ headerAs (readHeader s) → Answers s index (Refused x)
   unfolding readRecords andThen
-  header-stop x e = isRejected x (table-refused s x (rw (header-not-got (readHeader s) x e))) refl
+  header-stop x e = isRejected x (table-refused s x (rw (header-not-got _ x e))) refl
 
-  -- a header that was read is within the limits
-  pub header-limits : (vs arrs nodes : ℕ) → HeaderGot vs arrs nodes ≡ headerAs (readHeader s) → HeaderFits s (record { variables = vs; arrays = arrs; nodes = nodes })
-  header-limits vs arrs nodes e = header-fits s (record { variables = vs; arrays = arrs; nodes = nodes }) (header-got (readHeader s) vs arrs nodes e)
-
-  -- and leaves it to what follows
+  -- one that was read leaves it to what follows
   pub header-on : (vs arrs nodes : ℕ) (answer : Read) → HeaderGot vs arrs nodes ≡ headerAs (readHeader s) → ReadsDeclared s index vs arrs nodes answer → Answers s index answer
-  header-on vs arrs nodes answer e on = on .answers (header-got (readHeader s) vs arrs nodes e)
+  header-on vs arrs nodes answer e on = on .answers (header-got _ _ _ _ e)
 
 -- ---- what a caller learns from the answer
 -- an accepted table has an index, and the numbers that were answered
@@ -244,15 +247,16 @@ module _ (vs arrs nodes cells : ℕ) (labels : Labelling) (end : ℕ) (t : Table
 
 module _ (s index : List ℕ) where
   -- an accepting answer
-  pub accepting : (vs arrs nodes cells : ℕ) (labels : Labelling) (end : ℕ) → Answers s index (Accepted vs arrs nodes cells labels end) → AcceptedTable s index vs arrs nodes cells labels end
-  accepting vs arrs nodes cells labels end (isRejected r e q) = absurd (never-accepted r vs arrs nodes cells labels end q)
-  accepting vs arrs nodes cells labels end (isNotATree t place e b q) = absurd (never-accepted (NotATree place) vs arrs nodes cells labels end q)
+  pub accepting : (vs arrs nodes cells : ℕ) (labels : Labelling) (end : ℕ) → Answers s index (Accepted vs arrs nodes cells labels end)
+      → AcceptedTable s index vs arrs nodes cells labels end
+  accepting vs arrs nodes cells labels end (isRejected r e q) = absurd (never-accepted _ _ _ _ _ _ _ q)
+  accepting vs arrs nodes cells labels end (isNotATree t place e b q) = absurd (never-accepted _ _ _ _ _ _ _ q)
   accepting vs arrs nodes cells labels end (isAccepted i q) =
-      record { indexed = i; declares = same-numbers vs arrs nodes cells labels end (tableOf s) q; ends = same-place vs arrs nodes cells labels end (tableOf s) q }
+      record { indexed = i; declares = same-numbers _ _ _ _ _ _ _ q; ends = same-place _ _ _ _ _ _ _ q }
 
   -- a refusing answer
   pub refusing : (r : Refusal) → Answers s index (Refused r) → RefusedTable s r
   unfolding acceptedAs
   refusing r (isRejected q e p) = byRecord (e ∙ ap rejected (sym (same-refused r q p)))
   refusing r (isNotATree t place e b p) = byOrder t place e b (same-refused r (NotATree place) p)
-  refusing r (isAccepted i p) = absurd (never-accepted r _ _ _ _ _ _ (sym p))
+  refusing r (isAccepted i p) = absurd (never-accepted _ _ _ _ _ _ _ (sym p))

@@ -3,7 +3,7 @@ use Prim.Native.Nat.{ℕ, suc, _+_, _-_, _*_, _/_, _^_, _≤_, _<_}
 use native.Mathlib.Nat.{one-le-pow, div-eq-of-lt, le-div-iff-mul-le, one-mul}
 use native.Mathlib.Omega.{arith}
 use mathlib.Core.Bool.{Bool, true, false, _&&_}
-use mathlib.Core.Path.{_≡_, refl, ap, _∙_}
+use mathlib.Core.Path.{_≡_, refl, sym, ap, _∙_}
 use mathlib.Core.List.{List, [], _∷_, _++_}
 use lib.Dec.{eqb, ltb, leb}
 use borrow.Author.Tests.{ltb-true, ltb-false, eq-eqb, ne-eqb}
@@ -12,13 +12,15 @@ use Rattle.awhile.specs.Lists.{sum}
 use Rattle.awhile.specs.Refusals.{Answer, refused, got, check}
 use Rattle.awhile.specs.Tables.{Header, maxVariables, maxArrays, maxNodes, maxCells, headerSize, labelsSize, arraySize}
 use Rattle.awhile.specs.Tables.{framed, lengthOfKind, readHeader, readLabels, readCount, readCounts}
-use Rattle.reader.specs.Reader.{checkedAs, countAs, cellsAs}
+use Rattle.reader.specs.Reader.{checkedAs, headerAs, labelsAs, countAs, cellsAs}
 use Rattle.awhile.proofs.Lists.{sum-append}
 use Rattle.awhile.proofs.Cases.{counts-next, counts-refused}
 use Rattle.awhile.proofs.Accepted.{count-fits}
 use Rattle.reader.proofs.Passing.{framed-refused, framed-passed-on}
 use Rattle.reader.specs.declared.checks.Checked.the-variants.{Refused, Passed}
-use Rattle.reader.specs.declared.declarations.CellsRead.the-variants.{Cells}
+use Rattle.reader.specs.declared.declarations.CellsRead.the-variants.{Refused as CellsRefused, Cells}
+use Rattle.reader.specs.declared.declarations.HeaderRead.the-variants.{Refused as HeaderRefused}
+use Rattle.reader.specs.declared.declarations.LabelsRead.the-variants.{Refused as LabelsRefused}
 use Rattle.reader.specs.declared.declarations.CountRead.the-variants.{Refused as CountRefused, Count}
 use Rattle.awhile.specs.declared.Refusal.{Refusal}
 use Rattle.awhile.specs.declared.Refusal.the-variants.{BeyondLimit}
@@ -34,53 +36,53 @@ shifted-out mask width = go (ltb mask (2 ^ width)) refl
         ne-eqb (mask / 2 ^ width) 0 (λ none. omega arith)
 
 -- a count that the reader hands on was read, and so was a refusal
-pub count-got : (a : Answer ℕ) (n : ℕ) → countAs a ≡ Count n → a ≡ got n
+count-got : (a : Answer ℕ) (n : ℕ) → countAs a ≡ Count n → a ≡ got n
 unfolding countAs
 count-got (refused r) n e = cc
 count-got (got m) n e = cc
 
--- a refusal that the reader hands on is the one of the record
-pub count-not-got : (a : Answer ℕ) (r : Refusal) → countAs a ≡ CountRefused r → a ≡ refused r
+count-not-got : (a : Answer ℕ) (r : Refusal) → countAs a ≡ CountRefused r → a ≡ refused r
 unfolding countAs
 count-not-got (refused q) r e = cc
 count-not-got (got m) r e = cc
 
 module _ (s : List ℕ) where
   -- ---- the header
-  pub header-refused : (r : Refusal) → checkedAs (framed s 0 (lengthOfKind 1 headerSize s 0) (got tt)) ≡ Refused r → readHeader s ≡ refused r
-  unfolding readHeader
-  header-refused r e = framed-refused s 0 (lengthOfKind 1 headerSize s 0) _ r e
+  pub header-refused : (r : Refusal) → checkedAs (framed s 0 (lengthOfKind 1 headerSize s 0) (got tt)) ≡ Refused r → HeaderRefused r ≡ headerAs (readHeader s)
+  unfolding readHeader headerAs
+  header-refused r e = sym (ap headerAs (framed-refused _ _ _ _ _ e))
 
   -- a whole header is accepted where its fields are within the limits
-  pub header-tested : (b : Bool) → checkedAs (framed s 0 (lengthOfKind 1 headerSize s 0) (got tt)) ≡ Passed
-      → (eqb (leAt 2 s 4) 1 && leb (leAt 1 s 6) maxVariables && leb (leAt 1 s 7) maxArrays && ltb 0 (leAt 2 s 8) && leb (leAt 2 s 8) maxNodes) ≡ b
-      → readHeader s ≡ check b (BeyondLimit 0) (got (record { variables = leAt 1 s 6; arrays = leAt 1 s 7; nodes = leAt 2 s 8 }))
+  pub header-tested : (version vs arrs nodes : ℕ) (b : Bool) → checkedAs (framed s 0 (lengthOfKind 1 headerSize s 0) (got tt)) ≡ Passed
+      → version ≡ leAt 2 s 4 → vs ≡ leAt 1 s 6 → arrs ≡ leAt 1 s 7 → nodes ≡ leAt 2 s 8
+      → b ≡ (eqb version 1 && leb vs maxVariables && leb arrs maxArrays && ltb 0 nodes && leb nodes maxNodes)
+      → headerAs (check b (BeyondLimit 0) (got (record { variables = vs; arrays = arrs; nodes = nodes }))) ≡ headerAs (readHeader s)
   unfolding readHeader
-  header-tested b whole e = framed-passed-on s 0 (lengthOfKind 1 headerSize s 0) _ whole ∙ rw e
+  header-tested version vs arrs nodes b whole p q r t e = sym (ap headerAs (framed-passed-on _ _ _ _ whole ∙ rw (e, p, q, r, t)))
 
   -- ---- the labels
-  pub labels-refused : (h : Header) (r : Refusal) → checkedAs (framed s 10 (lengthOfKind 3 labelsSize s 10) (got tt)) ≡ Refused r → readLabels s h ≡ refused r
-  unfolding readLabels
-  labels-refused h r e = framed-refused s 10 (lengthOfKind 3 labelsSize s 10) _ r e
+  pub labels-refused : (h : Header) (r : Refusal) → checkedAs (framed s 10 (lengthOfKind 3 labelsSize s 10) (got tt)) ≡ Refused r → LabelsRefused r ≡ labelsAs (readLabels s h)
+  unfolding readLabels labelsAs
+  labels-refused h r e = sym (ap labelsAs (framed-refused _ _ _ _ _ e))
 
   -- a whole labels record is accepted where its masks fit
-  pub labels-tested : (h : Header) (a b : Bool) → checkedAs (framed s 10 (lengthOfKind 3 labelsSize s 10) (got tt)) ≡ Passed
-      → ltb (leAt 4 s 14) (2 ^ h .variables) ≡ a → ltb (leAt 2 s 18) (2 ^ h .arrays) ≡ b
-      → readLabels s h ≡ check (a && b) (BeyondLimit 10) (got (record { variables = leAt 4 s 14; arrays = leAt 2 s 18 }))
+  pub labels-tested : (h : Header) (vs arrs : ℕ) (a b : Bool) → checkedAs (framed s 10 (lengthOfKind 3 labelsSize s 10) (got tt)) ≡ Passed
+      → vs ≡ leAt 4 s 14 → arrs ≡ leAt 2 s 18 → a ≡ ltb vs (2 ^ h .variables) → b ≡ ltb arrs (2 ^ h .arrays)
+      → labelsAs (check (a && b) (BeyondLimit 10) (got (record { variables = vs; arrays = arrs }))) ≡ labelsAs (readLabels s h)
   unfolding readLabels
-  labels-tested h a b whole p q = framed-passed-on s 10 (lengthOfKind 3 labelsSize s 10) _ whole ∙ rw (p, q)
+  labels-tested h vs arrs a b whole v w p q = sym (ap labelsAs (framed-passed-on _ _ _ _ whole ∙ rw (p, q, v, w)))
 
   -- ---- the arrays
   module _ (at before : ℕ) where
-    pub count-refused : (r : Refusal) → checkedAs (framed s at (lengthOfKind 2 arraySize s at) (got tt)) ≡ Refused r → readCount s at before ≡ refused r
-    unfolding readCount
-    count-refused r e = framed-refused s at (lengthOfKind 2 arraySize s at) _ r e
+    pub count-refused : (r : Refusal) → checkedAs (framed s at (lengthOfKind 2 arraySize s at) (got tt)) ≡ Refused r → CountRefused r ≡ countAs (readCount s at before)
+    unfolding readCount countAs
+    count-refused r e = sym (ap countAs (framed-refused _ _ _ _ _ e))
 
     -- a whole array record is accepted where its count is positive and the cells are not too many
-    pub count-tested : (n : ℕ) (a b : Bool) → checkedAs (framed s at (lengthOfKind 2 arraySize s at) (got tt)) ≡ Passed → leAt 2 s (at + 4) ≡ n
-        → ltb 0 n ≡ a → leb (before + n) maxCells ≡ b → readCount s at before ≡ check (a && b) (BeyondLimit at) (got n)
+    pub count-tested : (n : ℕ) (a b : Bool) → checkedAs (framed s at (lengthOfKind 2 arraySize s at) (got tt)) ≡ Passed → n ≡ leAt 2 s (at + 4)
+        → ltb 0 n ≡ a → leb (before + n) maxCells ≡ b → countAs (check (a && b) (BeyondLimit at) (got n)) ≡ countAs (readCount s at before)
     unfolding readCount
-    count-tested n a b whole e p q = framed-passed-on s at (lengthOfKind 2 arraySize s at) _ whole ∙ rw (e, p, q)
+    count-tested n a b whole e p q = sym (ap countAs (framed-passed-on _ _ _ _ whole ∙ rw (← p, ← q, e)))
 
   -- ---- all arrays
   -- what is left to read from here is what is to be read of all arrays
@@ -101,25 +103,28 @@ module _ (s : List ℕ) where
     counted a e = rw (h .summed) e
 
     -- a count that was read is added
-    pub counts-more : 0 < left → (n : ℕ) → readCount s at cells ≡ got n → CountsLeft arrays (left - 1) (at + arraySize) (cells + n)
+    pub counts-more : 0 < left → (n : ℕ) → countAs (readCount s at cells) ≡ Count n → CountsLeft arrays (left - 1) (at + arraySize) (cells + n)
     unfolding sum
     counts-more some n e =
+        let read = count-got (readCount s at cells) n e in
         let next : left ≡ suc (left - 1) = omega arith in
         record {
           before = h .before ++ (n ∷ []);
           summed = sum-append (h .before) (n ∷ []) ∙ omega (arith, h .summed);
-          same = h .same ∙ ap (λ k. readCounts k s at (h .before)) next ∙ counts-next s at (left - 1) (h .before) n (counted (got n) e);
+          same = h .same ∙ ap (λ k. readCounts k s at (h .before)) next ∙ counts-next _ _ _ _ _ (counted (got n) read);
           place = omega (arith, h .place);
-          few = count-fits s at cells n e .total;
+          few = count-fits _ _ _ _ read .total;
         }
 
     -- a refused count refuses them all
-    pub counts-stop : 0 < left → (r : Refusal) → readCount s at cells ≡ refused r → readCounts arrays s 20 [] ≡ refused r
+    pub counts-stop : 0 < left → (r : Refusal) → countAs (readCount s at cells) ≡ CountRefused r → CellsRefused r ≡ cellsAs (readCounts arrays s 20 [])
+    unfolding cellsAs
     counts-stop some r e =
         let next : left ≡ suc (left - 1) = omega arith in
-        h .same ∙ ap (λ k. readCounts k s at (h .before)) next ∙ counts-refused s at (left - 1) (h .before) r (counted (refused r) e)
+        let refuses = counts-refused _ _ _ _ _ (counted (refused r) (count-not-got (readCount s at cells) r e)) in
+        sym (ap cellsAs (h .same ∙ ap (λ k. readCounts k s at (h .before)) next ∙ refuses))
 
     -- with none left all were read
-    pub counts-done : left ≡ 0 → cellsAs (readCounts arrays s 20 []) ≡ Cells cells
+    pub counts-done : left ≡ 0 → Cells cells ≡ cellsAs (readCounts arrays s 20 [])
     unfolding readCounts cellsAs
-    counts-done none = ap cellsAs (h .same ∙ ap (λ k. readCounts k s at (h .before)) none) ∙ ap Cells (h .summed)
+    counts-done none = sym (ap cellsAs (h .same ∙ ap (λ k. readCounts k s at (h .before)) none) ∙ ap Cells (h .summed))

@@ -114,7 +114,7 @@ module _ (table index : List ℕ) (bytes : Below 256 table) (indexed : Indexed t
       rw (indexed .offsets n inside) (node-there table bytes (tableOf table) (accepted-read table bytes (tableOf table) (indexed .reads)) n inside)
 
   -- a node's tree is built from its children's trees
-  pub indexed-tree : (n : ℕ) → n < nodesIn table → treeIn table n ≡ treeOf (treeIn table) n (nodeIn table n)
+  indexed-tree : (n : ℕ) → n < nodesIn table → treeIn table n ≡ treeOf (treeIn table) n (nodeIn table n)
   unfolding nodesIn nodeIn treeIn
   indexed-tree n inside =
       tree-of-node (tableOf table .nodes) (tableOf table .variables) (length (tableOf table .counts)) n inside (indexed-well-formed .eachFits n inside)

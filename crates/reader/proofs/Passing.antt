@@ -1,16 +1,22 @@
 -- A record whose frame was tested: refused there, or read on from its fields.
 use Prim.Native.Nat.{ℕ, _+_}
+use native.Mathlib.Omega.{arith}
 use mathlib.Core.Bool.{Bool, true, false, _&&_}
 use mathlib.Core.Path.{_≡_, refl}
 use mathlib.Core.List.{List}
 use lib.ListN.{length}
 use lib.Dec.{eqb, ltb, leb}
+use borrow.Author.Tests.{lt-ltb}
 use Rattle.bytes_le.specs.Numbers.{leAt}
 use Rattle.awhile.specs.Refusals.{Answer, refused, got, check}
 use Rattle.awhile.specs.Tables.{framed}
 use Rattle.reader.specs.Reader.{checkedAs}
 use Rattle.reader.specs.declared.checks.Checked.the-variants.{Refused, Passed}
 use Rattle.awhile.specs.declared.Refusal.{Refusal}
+
+-- what is not 0 is positive
+pub some-positive : (n : ℕ) → ¬ (n ≡ 0) → ltb 0 n ≡ true
+some-positive n other = lt-ltb 0 n (omega arith)
 
 module _ {A : Type 0} (p q r : Refusal) (rest : Answer A) where
   checks-refused : (a b c : Bool) (x : Refusal) → checkedAs (check a p (check b q (check c r (got tt)))) ≡ Refused x → check a p (check b q (check c r rest)) ≡ refused x

@@ -2,7 +2,7 @@
 use Prim.Native.Nat.{ℕ, _+_, _-_, _≤_, _<_}
 use native.Mathlib.Omega.{arith}
 use mathlib.Core.Bool.{Bool, true, false}
-use mathlib.Core.Path.{_≡_, refl, sym, ap, _∙_}
+use mathlib.Core.Path.{_≡_, refl, sym, subst, _∙_}
 use mathlib.Core.List.{List}
 use lib.ListN.{length, getD}
 use lib.Dec.{ltb}
@@ -16,6 +16,14 @@ use Rattle.awhile.specs.declared.Sort.the-variants.{Command}
 use Rattle.awhile.specs.declared.Node.{Node}
 use Rattle.awhile.specs.declared.Node.the-variants.{Skip}
 use Rattle.reader.specs.declared.uses.Broken.the-variants.{At, Nowhere}
+
+-- what holds of the numbers below one and of that one holds up to it
+pub up-to : (n : ℕ) (P : ℕ → Type 0) → ((i : ℕ) → i < n → P i) → P n → (i : ℕ) → i < n + 1 → P i
+up-to n P before here i inside = go (ltb i n) refl
+  where
+    go : (b : Bool) → ltb i n ≡ b → P i
+    go true e = before i (ltb-true i n e)
+    go false e = subst P (omega (arith, ltb-false i n e)) here
 
 -- one node out of order is enough
 pub not-all-in-order : (ns : List Node) (count n : ℕ) → n < count → inOrder ns n ≡ false → allInOrder ns count ≡ false
@@ -33,14 +41,7 @@ module _ (uses : List ℕ) (nodes : ℕ) (root : Sort) where
 
   -- one more that is a child exactly once
   pub once-more : (n : ℕ) → UsedOnce n → n < nodes - 1 → getD uses n 0 ≡ 1 → UsedOnce (n + 1)
-  once-more n h inside here = record { more = omega arith; once = once }
-    where
-      once : (i : ℕ) → i < n + 1 → getD uses i 0 ≡ 1
-      once i below = go (ltb i n) refl
-        where
-          go : (b : Bool) → ltb i n ≡ b → getD uses i 0 ≡ 1
-          go true e = h .once i (ltb-true i n e)
-          go false e = ap (λ k. getD uses k 0) (omega (arith, ltb-false i n e)) ∙ here
+  once-more n h inside here = record { more = omega arith; once = up-to n (λ i. getD uses i 0 ≡ 1) (h .once) here }
 
   -- a node that is not a child exactly once
   pub broken-child : (n : ℕ) → n < nodes - 1 → ¬ (getD uses n 0 ≡ 1) → OrderSearched uses nodes root (At n)
@@ -67,14 +68,8 @@ module _ (uses : List ℕ) (nodes : ℕ) (root : Sort) where
     none-broken isCommand =
         record {
           found = λ ns counted used last.
-              all-in-order ns (length ns) (λ i inside. each ns counted used last i inside (ltb i n) refl);
+              all-in-order ns (length ns)
+              (λ i inside. up-to n (λ i. inOrder ns i ≡ true)
+              (λ i below. in-order-child ns i (λ f. omega (arith, h .more)) ∙ eq-eqb (usesOf ns i) 1 (sym (used i) ∙ h .once i below))
+              (last-order ns counted last ∙ isCommand) i (omega (arith, h .more)));
         }
-      where
-        each : (ns : List Node) → length ns ≡ nodes → ((k : ℕ) → getD uses k 0 ≡ usesOf ns k) → sortOf (getD ns (nodes - 1) Skip) ≡ root
-            → (i : ℕ) → i < length ns → (b : Bool) → ltb i n ≡ b → inOrder ns i ≡ true
-        each ns counted used last i inside true e =
-            let below = ltb-true i n e in
-            in-order-child ns i (λ f. omega (arith, h .more)) ∙ eq-eqb (usesOf ns i) 1 (sym (used i) ∙ h .once i below)
-        each ns counted used last i inside false e =
-            let here : i ≡ n = omega (arith, ltb-false i n e, h .more) in
-            rw here (last-order ns counted last ∙ isCommand)

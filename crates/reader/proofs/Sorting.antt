@@ -58,7 +58,7 @@ never-child : (s : Sort) (n : ℕ) → OneOf (0 ∷ 1 ∷ 2 ∷ 3 ∷ []) (tagOf
 never-child s n h = ⊎-elim (λ e. omega arith) (λ r. ⊎-elim (λ e. omega arith) (λ q. ⊎-elim (λ e. omega arith) (λ e. omega arith) q) r) h
 
 -- another field asks for no sort
-pub not-child : (f : FieldRead) → OneOf (0 ∷ 1 ∷ 2 ∷ 3 ∷ []) (tagOf field.the-type f) → (ns : List Node) → fieldSorted ns (fieldOf f) ≡ true
+not-child : (f : FieldRead) → OneOf (0 ∷ 1 ∷ 2 ∷ 3 ∷ []) (tagOf field.the-type f) → (ns : List Node) → fieldSorted ns (fieldOf f) ≡ true
 unfolding fieldSorted
 not-child (Word n) h ns = refl
 not-child (Constant n) h ns = refl
@@ -109,7 +109,7 @@ module _ (s index : List ℕ) (at : ℕ) where
         isChecked = λ vs arrs ns leads ranged.
             let range = fieldInRange vs arrs (length ns) in
             let one = h .isChecked vs arrs ns leads (all-cons range f [] (all-head range f fs ranged) refl) in
-            both-checked a b (WrongSort at) (fieldSorted ns f) (all (fieldSorted ns) fs) (rw and-true at one)
+            both-checked _ _ _ _ _ (rw and-true at one)
             (rest .isChecked vs arrs ns leads (all-tail range f fs ranged));
       }
 
@@ -142,7 +142,7 @@ module _ (s index : List ℕ) (vs arrs n at : ℕ) where
   -- of no kind
   pub unknown-read : (x : Refusal) → decodeAt s at ≡ Unknown → framed s at 0 (got Skip) ≡ refused x → NodeChecked s index vs arrs n at (NodeRefused x)
   unfolding nodeAs
-  unknown-read x d e = record { isRead = λ before counted leads nodes. sym (ap nodeAs (node-unknown s at (record { variables = vs; arrays = arrs; nodes = nodes }) before d ∙ e)) }
+  unknown-read x d e = record { isRead = λ before counted leads nodes. sym (ap nodeAs (node-unknown _ _ _ _ d ∙ e)) }
 
   module _ (m : Node) (d : decodeAt s at ≡ Known m) where
     -- of a kind, but its frame is refused
@@ -151,7 +151,7 @@ module _ (s index : List ℕ) (vs arrs n at : ℕ) where
     frame-refused-read x e =
         record {
           isRead = λ before counted leads nodes.
-              sym (ap nodeAs (node-known s at (record { variables = vs; arrays = arrs; nodes = nodes }) before m d ∙ framed-refused s at (sizeOf m) _ x e));
+              sym (ap nodeAs (node-known _ _ _ _ _ d ∙ framed-refused _ _ _ _ _ e));
         }
 
     module _ (e : checkedAs (framed s at (sizeOf m) (got tt)) ≡ Passed) (fs : List Field) (f : fs ≡ padded 3 (form m .fields)) where
@@ -168,9 +168,7 @@ module _ (s index : List ℕ) (vs arrs n at : ℕ) where
           → readNode (record { variables = vs; arrays = arrs; nodes = nodes }) s at before
           ≡ check (all (fieldInRange vs arrs n) fs) (OutOfRange at) (check (all (fieldSorted before) fs) (WrongSort at) (got m))
       framed-read before counted nodes =
-          node-known s at (record { variables = vs; arrays = arrs; nodes = nodes }) before m d
-          ∙ framed-passed-on s at (sizeOf m) _ e
-          ∙ rw (counted, range-same, sorts-same before)
+          node-known _ _ _ _ _ d ∙ framed-passed-on _ _ _ _ e ∙ rw (counted, range-same, sorts-same before)
 
       -- ranges come before sorts
       pub fields-read : (ranges sorts : Checked) → ranges ≡ checkedAs (check (all (fieldInRange vs arrs n) fs) (OutOfRange at) (got tt)) → SortsChecked s index at fs sorts
@@ -178,7 +176,7 @@ module _ (s index : List ℕ) (vs arrs n at : ℕ) where
       fields-read ranges sorts r h =
           record {
             isRead = λ before counted leads nodes.
-                node-checked m ranges sorts (OutOfRange at) (WrongSort at) (all (fieldInRange vs arrs n) fs) (all (fieldSorted before) fs) r
+                node-checked _ _ _ _ _ _ _ r
                 (λ within. h .isChecked vs arrs before leads (rw counted within))
                 ∙ sym (ap nodeAs (framed-read before counted nodes));
           }

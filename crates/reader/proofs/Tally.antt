@@ -3,7 +3,7 @@ use Prim.Native.Nat.{ℕ, zero, suc, _+_, _≤_, _<_}
 use native.Mathlib.Omega.{arith}
 use mathlib.Core.Bool.{Bool, true, false, cond}
 use mathlib.Core.Path.{_≡_, refl, _∙_}
-use mathlib.Core.List.{List, [], _∷_, _++_, flatMap, append-nil}
+use mathlib.Core.List.{List, [], _∷_, _++_, flatMap}
 use lib.ListN.{length, getD, set, replicate, length-set, length-append}
 use lib.Seq.{getD-set-same, getD-set-other}
 use lib.Dec.{eqb, ltb}
@@ -15,13 +15,13 @@ use Rattle.awhile.specs.declared.Sort.{Sort}
 use Rattle.awhile.proofs.Lists.{all-head, all-tail, all-append, all-first, all-second}
 
 -- counts of two lists, one after the other
-pub tally-append : (ms ns counts : List ℕ) → tally counts (ms ++ ns) ≡ tally (tally counts ms) ns
+tally-append : (ms ns counts : List ℕ) → tally counts (ms ++ ns) ≡ tally (tally counts ms) ns
 unfolding tally
 tally-append [] ns counts = refl
 tally-append (m ∷ ms) ns counts = tally-append ms ns (set counts m (getD counts m 0 + 1))
 
 -- as many counts as before
-pub length-tally : (ns counts : List ℕ) → length (tally counts ns) ≡ length counts
+length-tally : (ns counts : List ℕ) → length (tally counts ns) ≡ length counts
 unfolding tally
 length-tally [] counts = refl
 length-tally (n ∷ ns) counts = length-tally ns (set counts n (getD counts n 0 + 1)) ∙ length-set counts n (getD counts n 0 + 1)
@@ -63,33 +63,51 @@ zeros-below length = record { each = each length }
     each (suc length) zero = omega arith
     each (suc length) (suc n) = each length n
 
--- ---- counting part after part
--- there are counts for all these numbers, and each is below a bound
-pub record Room (bound : ℕ) (counts ns : List ℕ) : Type 0 where
-  pub below : allBelow (length counts) ns ≡ true
+-- ---- counting field after field
+-- a field names one child at most
+field-children : (f : Field) → length (fieldChildren f) ≤ 1
+unfolding fieldChildren
+field-children (word n) = omega arith
+field-children (constant n) = omega arith
+field-children (variable x) = omega arith
+field-children (array a) = omega arith
+field-children (child s n) = omega arith
+
+-- there are counts for the children of these fields, and each is below a bound
+pub record Room (bound : ℕ) (counts : List ℕ) (fs : List Field) : Type 0 where
+  pub below : allBelow (length counts) (flatMap fieldChildren fs) ≡ true
   pub small : CountsBelow bound counts
 
-module _ (bound : ℕ) (counts ms ns : List ℕ) (room : Room bound counts (ms ++ ns)) where
-  -- enough for the first part
-  pub room-first : (wider : ℕ) → bound ≤ wider → (allBelow (length counts) ms ≡ true) × CountsBelow wider counts
-  unfolding allBelow
-  room-first wider less =
-      (all-first (λ n. ltb n (length counts)) ms ns (room .below), record { each = λ k. omega (arith, room .small .each k) })
+module _ (counts : List ℕ) (f : Field) (fs : List Field) where
+  module _ (bound : ℕ) (room : Room bound counts (f ∷ fs)) where
+    -- enough for the first field
+    pub room-first : bound ≤ 65535 → (allBelow (length counts) (fieldChildren f) ≡ true) × CountsBelow 65535 counts
+    unfolding allBelow flatMap
+    room-first wide =
+        (all-first (λ n. ltb n (length counts)) (fieldChildren f) (flatMap fieldChildren fs) (room .below), record { each = λ k. omega (arith, room .small .each k) })
 
-  -- and, once one number at most is counted, for the others
-  pub room-rest : (next : List ℕ) → length ms ≤ 1 → next ≡ tally counts ms → Room (bound + 1) next ns
-  unfolding allBelow
-  room-rest next one e =
-      rw e
-      (record {
-        below = rw (length-tally ms counts) (all-second (λ n. ltb n (length counts)) ms ns (room .below));
-        small = record { each = λ k. omega (arith, getD-tally ms counts k (room-first bound (omega arith) .0), room .small .each k, occurrences-most k ms) };
-      })
+    -- and, once its child is counted, for the others
+    pub room-rest : (next : List ℕ) → next ≡ tally counts (fieldChildren f) → Room (bound + 1) next fs
+    unfolding allBelow flatMap
+    room-rest next e =
+        let children = fieldChildren f in
+        let inside = all-first (λ n. ltb n (length counts)) children (flatMap fieldChildren fs) (room .below) in
+        rw e
+        (record {
+          below = rw (length-tally children counts) (all-second (λ n. ltb n (length counts)) children (flatMap fieldChildren fs) (room .below));
+          small = record { each = λ k. omega (arith, getD-tally children counts k inside, room .small .each k, occurrences-most k children, field-children f) };
+        })
 
--- three parts, one after the other
-pub tally-three : (a b c d xs ys zs : List ℕ) → b ≡ tally a xs → c ≡ tally b ys → d ≡ tally c zs → d ≡ tally a (xs ++ (ys ++ (zs ++ [])))
-tally-three a b c d xs ys zs p q r =
-    rw (append-nil zs, tally-append xs (ys ++ zs) a, tally-append ys zs (tally a xs), ← p, ← q) r
+  -- counting the first field's child and then the others' counts all
+  pub tally-fields : (next last : List ℕ) → next ≡ tally counts (fieldChildren f) → last ≡ tally next (flatMap fieldChildren fs)
+      → last ≡ tally counts (flatMap fieldChildren (f ∷ fs))
+  unfolding flatMap
+  tally-fields next last e rest = rw (tally-append (fieldChildren f) (flatMap fieldChildren fs) counts, ← e) rest
+
+-- no fields count nothing
+pub tally-no-fields : (counts : List ℕ) → counts ≡ tally counts (flatMap fieldChildren [])
+unfolding tally flatMap
+tally-no-fields counts = refl
 
 -- the child that a field names has its count
 pub child-inside : (bound : ℕ) (s : Sort) (n : ℕ) → allBelow bound (fieldChildren (child s n)) ≡ true → n < bound
@@ -107,15 +125,6 @@ unfolding tally
 count-none counts = refl
 
 -- ---- the children of fields
--- a field names one child at most
-pub field-children : (f : Field) → length (fieldChildren f) ≤ 1
-unfolding fieldChildren
-field-children (word n) = omega arith
-field-children (constant n) = omega arith
-field-children (variable x) = omega arith
-field-children (array a) = omega arith
-field-children (child s n) = omega arith
-
 -- fields name no more children than they are
 pub fields-children : (fs : List Field) → length (flatMap fieldChildren fs) ≤ length fs
 unfolding flatMap

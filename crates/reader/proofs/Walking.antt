@@ -1,13 +1,11 @@
 -- Walking the node records: what is left to read from here is what is to be read of all nodes.
 use Prim.Native.Nat.{ℕ, suc, _+_, _-_, _*_, _≤_, _<_}
 use native.Mathlib.Omega.{arith}
-use mathlib.Core.Bool.{Bool, true, false}
+use mathlib.Core.Bool.{true}
 use mathlib.Core.Path.{_≡_, refl, ap, _∙_}
 use mathlib.Core.List.{List, [], _∷_, _++_, map, map-append, flatMap, append-nil}
 use lib.ListN.{length, getD, set, take, length-append, List·getD-append}
 use lib.Seq.{getD-set-same, getD-set-other, getD-at, take-append-le, take-at}
-use lib.Dec.{ltb}
-use borrow.Author.Tests.{ltb-true, ltb-false}
 use Rattle.bytes_le.proofs.Numbers.{Below}
 use Rattle.awhile.specs.Lists.{sum, all, occurrences}
 use Rattle.awhile.specs.Refusals.{Answer, refused, got}
@@ -18,6 +16,7 @@ use Rattle.awhile.proofs.Lists.{sum-append, occurrences-append, flatMap-append}
 use Rattle.awhile.proofs.Cases.{nodes-next, nodes-refused}
 use Rattle.awhile.proofs.Records.{sizes-most}
 use Rattle.awhile.proofs.Accepted.{NodeRead, node-read}
+use Rattle.reader.proofs.Searching.{up-to}
 use Rattle.reader.proofs.Sorting.{padded-all, padded-children}
 use Rattle.reader.proofs.Tally.{getD-tally, occurrences-most, fields-children, fields-below, below-weaken}
 use Rattle.awhile.specs.declared.Node.{Node}
@@ -55,30 +54,24 @@ module _ (ns : List Node) (m : Node) where
     index-here : getD (set index (length ns) at) (length ns) 0 ≡ at
     index-here = getD-set-same index (length ns) at 0 long
 
-    leads-more : decodeAt s at ≡ Known m → (i : ℕ) → i < length (ns ++ (m ∷ [])) → decodeAt s (getD (set index (length ns) at) i 0) ≡ Known (getD (ns ++ (m ∷ [])) i Skip)
-    leads-more d i inside = go (ltb i (length ns)) refl
-      where
-        go : (b : Bool) → ltb i (length ns) ≡ b → decodeAt s (getD (set index (length ns) at) i 0) ≡ Known (getD (ns ++ (m ∷ [])) i Skip)
-        go true e =
-            let below = ltb-true i (length ns) e in
-            rw (index-before i below, before-same i below) (k .leads .decoded i below)
-        go false e =
-            let last : i ≡ length ns = omega (arith, ltb-false i (length ns) e, length-append ns (m ∷ [])) in
-            rw (last, index-here, getD-at ns m [] Skip (length ns) refl) d
+    each : (P : ℕ → Type 0) → ((i : ℕ) → i < length ns → P i) → P (length ns) → (i : ℕ) → i < length (ns ++ (m ∷ [])) → P i
+    each P before here i inside = up-to (length ns) P before here i (omega (arith, length-append ns (m ∷ [])))
+
+    leads-more : decodeAt s at ≡ Known m → (i : ℕ) → i < length (ns ++ (m ∷ []))
+        → decodeAt s (getD (set index (length ns) at) i 0) ≡ Known (getD (ns ++ (m ∷ [])) i Skip)
+    leads-more d =
+        each (λ i. decodeAt s (getD (set index (length ns) at) i 0) ≡ Known (getD (ns ++ (m ∷ [])) i Skip))
+        (λ i below. rw (index-before i below, before-same i below) (k .leads .decoded i below))
+        (rw (index-here, getD-at ns m [] Skip (length ns) refl) d)
 
     offsets-more : (i : ℕ) → i < length (ns ++ (m ∷ [])) → getD (set index (length ns) at) i 0 ≡ start + sum (map sizeOf (take i (ns ++ (m ∷ []))))
-    offsets-more i inside = go (ltb i (length ns)) refl
-      where
-        go : (b : Bool) → ltb i (length ns) ≡ b → getD (set index (length ns) at) i 0 ≡ start + sum (map sizeOf (take i (ns ++ (m ∷ []))))
-        go true e =
-            let below = ltb-true i (length ns) e in
-            rw (index-before i below, take-append-le i ns (m ∷ []) (omega arith)) (k .offsets i below)
-        go false e =
-            let last : i ≡ length ns = omega (arith, ltb-false i (length ns) e, length-append ns (m ∷ [])) in
-            rw (last, index-here, take-at ns (m ∷ []) (length ns) refl) place
+    offsets-more =
+        each (λ i. getD (set index (length ns) at) i 0 ≡ start + sum (map sizeOf (take i (ns ++ (m ∷ [])))))
+        (λ i below. rw (index-before i below, take-append-le i ns (m ∷ []) (omega arith)) (k .offsets i below))
+        (rw (index-here, take-at ns (m ∷ []) (length ns) refl) place)
 
     -- what is kept of one node more
-    pub kept-more : (cs : List ℕ) → cs ≡ childrenOf m → allBelow (length uses) cs ≡ true → decodeAt s at ≡ Known m
+    kept-more : (cs : List ℕ) → cs ≡ childrenOf m → allBelow (length uses) cs ≡ true → decodeAt s at ≡ Known m
         → Kept s (set index (length ns) at) (tally uses cs) start (ns ++ (m ∷ []))
     kept-more cs same below d =
         record {
@@ -139,15 +132,15 @@ module _ (s : List ℕ) (vs arrs nodes : ℕ) where
       -- a refused record refuses them all
       pub nodes-stop : (x : Refusal) → NodeChecked s index vs arrs n at (NodeRefused x) → readNodes nodes header s (nodesStart arrs) [] ≡ refused x
       nodes-stop x c =
-          let e = node-not-got (readNode header s at (h .before)) x (c .isRead (h .before) (h .counted) (h .kept .leads) nodes) in
-          h .same ∙ ap (λ k. readNodes k header s at (h .before)) next ∙ nodes-refused s at header (h .before) (nodes - (n + 1)) x e
+          let e = node-not-got _ x (c .isRead (h .before) (h .counted) (h .kept .leads) nodes) in
+          h .same ∙ ap (λ k. readNodes k header s at (h .before)) next ∙ nodes-refused _ _ _ _ _ _ e
 
       module _ (bytes : Below 256 s) (m : Node) (c : NodeChecked s index vs arrs n at (NodeGot m)) (fs : List Field) (f : fs ≡ padded 3 (form m .fields)) where
         was-read : readNode header s at (h .before) ≡ got m
-        was-read = node-got (readNode header s at (h .before)) m (c .isRead (h .before) (h .counted) (h .kept .leads) nodes)
+        was-read = node-got _ m (c .isRead (h .before) (h .counted) (h .kept .leads) nodes)
 
         known : NodeRead s bytes header at (h .before) m
-        known = node-read s bytes header at (h .before) m was-read
+        known = node-read _ bytes _ _ _ _ was-read
 
         same-children : flatMap fieldChildren fs ≡ childrenOf m
         unfolding childrenOf
@@ -172,11 +165,11 @@ module _ (s : List ℕ) (vs arrs nodes : ℕ) where
               same =
                   h .same
                   ∙ ap (λ k. readNodes k header s at (h .before)) next
-                  ∙ nodes-next s at header (h .before) (nodes - (n + 1)) m was-read;
+                  ∙ nodes-next _ _ _ _ _ _ was-read;
               place = rw (map-append, sum-append) (omega (arith, h .place));
               kept =
                   rw (← h .counted)
-                  (kept-more (h .before) m s index uses (nodesStart arrs) at (h .kept) (omega (arith, h .counted)) (h .place)
+                  (kept-more _ m _ _ _ _ _ (h .kept) (omega (arith, h .counted)) (h .place)
                   (flatMap fieldChildren fs) same-children (children-inside (length uses) longUses) (known .there .decoded));
               children =
                   rw (flatMap-append, length-append, append-nil, ← same-children)

@@ -1,38 +1,43 @@
 -- `read_header` tests the frame, then the fields.
-use mathlib.Core.Bool.{true, false}
-use mathlib.Core.Path.{sym, ap, _∙_}
+use mathlib.Core.Bool.{Bool, true, false}
+use mathlib.Core.Path.{_≡_, sym, _∙_}
 use denote.Ref.{now}
-use Rattle.awhile.specs.Refusals.{check}
+use Rattle.awhile.specs.Refusals.{got, check}
+use Rattle.awhile.specs.Tables.{Header, readHeader}
 use Rattle.reader.specs.Reader.{headerAs}
 use Rattle.reader.proofs.Declaring.{header-refused, header-tested}
+use Rattle.awhile.specs.declared.Refusal.the-variants.{BeyondLimit}
 use borrow.Author.Needs.{needs}
 use Rattle.reader.proofs.declarations.read_header.Statement.{statement}
 use Rattle.reader.proofs.declarations.read_header.Tie as tie
 
-returns : tie.Need-returns
-unfolding headerAs check
-returns c = sym (ap headerAs (header-refused (now (c .before .before .before .before .before .args .table)) (c .before .refusal .given .0 .0) (sym (c .before .before .before .frame-of-kind .ensures) ∙ c .before .refusal .given .1)))
+module _ (c : tie.After-within-limits) where
+  abbrev passed : tie.After-enum-told
+  passed = c .before .before .before .before .before
 
-returns-2 : tie.Need-returns-2
-unfolding headerAs check
-returns-2 c = rw (c .before .before .before .before .byte-at .ensures .0, c .before .before .before .byte-at2 .ensures .0, c .before .before .u16-at2 .ensures .0) (sym (ap headerAs (header-tested (now (c .before .before .before .before .before .before .before .before .before .before .args .table)) true (sym (c .before .before .before .before .before .before .before .before .frame-of-kind .ensures) ∙ c .before .before .before .before .before .before .enum-told .given .1) (rw (c .before .before .before .before .before .u16-at .ensures .0, c .before .before .before .before .byte-at .ensures .0, c .before .before .before .byte-at2 .ensures .0, c .before .before .u16-at2 .ensures .0) at (sym (c .before .within-limits .ensures) ∙ c .if1 .taken)))))
+  abbrev fields : Header
+  fields = record { variables = c .before .before .before .byte-at .result; arrays = c .before .before .byte-at2 .result; nodes = c .before .u16-at2 .result }
 
-returns-3 : tie.Need-returns-3
-unfolding headerAs check
-returns-3 c = sym (ap headerAs (header-tested (now (c .before .before .before .before .before .before .before .before .before .before .args .table)) false (sym (c .before .before .before .before .before .before .before .before .frame-of-kind .ensures) ∙ c .before .before .before .before .before .before .enum-told .given .1) (rw (c .before .before .before .before .before .u16-at .ensures .0, c .before .before .before .before .byte-at .ensures .0, c .before .before .before .byte-at2 .ensures .0, c .before .before .u16-at2 .ensures .0) at (sym (c .before .within-limits .ensures) ∙ c .if1 .left))))
+  -- the fields decide
+  tested : (b : Bool) → c .within-limits .result ≡ b
+      → headerAs (check b (BeyondLimit 0) (got fields)) ≡ headerAs (readHeader (now (passed .before .before .before .before .args .table)))
+  tested b e =
+      header-tested _ _ _ _ _ b (sym (passed .before .before .frame-of-kind .ensures) ∙ passed .enum-told .given .1) (c .before .before .before .before .u16-at .ensures .0)
+      (c .before .before .before .byte-at .ensures .0) (c .before .before .byte-at2 .ensures .0) (c .before .u16-at2 .ensures .0) (sym e ∙ c .within-limits .ensures)
 
 pub read-header-spec : {M : Type 1} → statement M
+unfolding headerAs check
 read-header-spec =
     tie.close
     (tie.spec
     (λ c κs. search needs)
     (λ c. search needs)
-    returns
+    (λ c. header-refused _ _ (sym (c .before .before .before .frame-of-kind .ensures) ∙ c .before .refusal .given .1))
     (λ c. search needs)
     (λ c κs. search needs)
     (λ c κs. search needs)
     (λ c κs. search needs)
     (λ c κs. search needs)
     (λ c κs. search needs)
-    returns-2
-    returns-3)
+    (λ c. tested (c .before) true (c .if1 .taken))
+    (λ c. tested (c .before) false (c .if1 .left)))

@@ -12,19 +12,11 @@ use Rattle.reader.proofs.lookup.is_command.Statement.{statement}
 use Rattle.reader.proofs.lookup.is_command.Tie as tie
 
 -- the node's record stands where the index says
-there : (d : tie.After-shared-slice-known3)
-    → NodeAt (now (d .before .before .before .args .table)) (getD (now (d .before .before .before .args .index)) (d .before .before .before .args .n) 0)
-    (nodeIn (now (d .before .before .before .args .table)) (d .before .before .before .args .n))
+there : (d : tie.After-shared-slice-known3) → let a = d .before .before .before .args in
+    NodeAt (now (a .table)) (getD (now (a .index)) (a .n) 0) (nodeIn (now (a .table)) (a .n))
 there d =
     let start = d .before .before .before in
-    let table = now (start .args .table) in
-    indexed-node table (now (start .args .index)) (slice-bytes table (d .before .before .shared-slice-known .given)) (start .pre .0) (start .args .n) (start .pre .1)
-
-cast-at : tie.Need-cast-at
-cast-at c = omega (arith, c .shared-slice-known3 .given (c .before .before .before .args .n))
-
-kind-requires : tie.Need-kind-requires
-kind-requires c κs = head-there _ _ _ (there c)
+    indexed-node _ _ (slice-bytes _ (d .before .before .shared-slice-known .given)) (start .pre .0) _ (start .pre .1)
 
 pub is-command-spec : {M : Type 1} → statement M
 is-command-spec =
@@ -32,6 +24,6 @@ is-command-spec =
     (tie.spec
     (λ c. search needs)
     (λ c. search needs)
-    cast-at
-    kind-requires
+    (λ c. omega (arith, c .shared-slice-known3 .given (c .before .before .before .args .n)))
+    (λ c κs. head-there _ _ _ (there c))
     (λ c. command-kind _ _ _ (there (c .before)) (c .kind .result) (c .kind .ensures)))

@@ -1,98 +1,54 @@
 -- `truth_at` reads what the record of the node has: the index leads to it, and its kind, of the kinds of truths, tells which fields those are.
 use native.Mathlib.Omega.{arith}
-use Prim.Native.Nat.{_+_}
-use mathlib.Core.Path.{_≡_, sym, _∙_}
+use mathlib.Core.Path.{_≡_, refl}
 use denote.Ref.{now}
 use lib.ListN.{getD}
 use borrow.Author.Needs.{needs}
-use Rattle.bytes_le.specs.Numbers.{leAt}
 use Rattle.bytes_le.proofs.Numbers.{slice-bytes}
+use Rattle.awhile.specs.Lists.{sum}
+use Rattle.awhile.specs.Nodes.{form, fieldSize, sizeOf, nodeOf}
 use Rattle.awhile.proofs.Records.{NodeAt}
 use Rattle.reader.specs.Index.{nodeIn}
 use Rattle.reader.proofs.Index.{indexed-node}
-use Rattle.reader.proofs.RecordKinds.{head-there, stored-constant, stored-equal, stored-less, stored-not, stored-and, left-and}
+use Rattle.reader.proofs.RecordKinds.{StoredAs, stored, head-there, last-kind}
+use Rattle.awhile.specs.declared.Sort.the-variants.{Truth}
 use Rattle.reader.proofs.lookup.truth_at.Statement.{statement}
 use Rattle.reader.proofs.lookup.truth_at.Tie as tie
 
 -- the node's record stands where the index says
-there : (d : tie.After-shared-slice-known3)
-    → NodeAt (now (d .before .before .before .args .table)) (getD (now (d .before .before .before .args .index)) (d .before .before .before .args .n) 0)
-    (nodeIn (now (d .before .before .before .args .table)) (d .before .before .before .args .n))
+there : (d : tie.After-shared-slice-known3) → let a = d .before .before .before .args in
+    NodeAt (now (a .table)) (getD (now (a .index)) (a .n) 0) (nodeIn (now (a .table)) (a .n))
 there d =
     let start = d .before .before .before in
-    let table = now (start .args .table) in
-    indexed-node table (now (start .args .index)) (slice-bytes table (d .before .before .shared-slice-known .given)) (start .pre .0) (start .args .n) (start .pre .1)
+    indexed-node _ _ (slice-bytes _ (d .before .before .shared-slice-known .given)) (start .pre .0) _ (start .pre .1)
+
+-- what it is, by its kind
+held : (d : tie.After-kind) → StoredAs _ _ _ (there (d .before)) (d .kind .result)
+held d = stored _ _ _ (there (d .before)) _ (d .kind .ensures)
 
 -- a kind that is none of the others is the last
-last : (d : tie.At-match-rest) → leAt 2 (now (d .before .before .before .before .before .args .table)) (getD (now (d .before .before .before .before .before .args .index)) (d .before .before .before .before .before .args .n) 0 + 2) ≡ 36
-last d =
-    sym (d .before .kind .ensures)
-    ∙ left-and _ _ _ (there (d .before .before)) (d .before .kind .result) (d .before .kind .ensures) (d .before .before .before .before .before .pre .2)
-    (d .match .rest .0 .0 .0 .1) (d .match .rest .0 .0 .1) (d .match .rest .0 .1) (d .match .rest .1)
-
-cast-at : tie.Need-cast-at
-cast-at c = omega (arith, c .shared-slice-known3 .given (c .before .before .before .args .n))
-
-kind-requires : tie.Need-kind-requires
-kind-requires c κs = head-there _ _ _ (there c)
-
-first-requires : tie.Need-first-requires
-first-requires c κs = omega (arith, stored-constant _ _ _ (there (c .before .before)) (sym (c .before .kind .ensures) ∙ c .match .keys1) .whole)
-
-first-requires-2 : tie.Need-first-requires-2
-first-requires-2 c κs = omega (arith, stored-equal _ _ _ (there (c .before .before)) (sym (c .before .kind .ensures) ∙ c .match .keys2) .whole)
-
-second-requires : tie.Need-second-requires
-second-requires c κs = omega (arith, stored-equal _ _ _ (there (c .before .before .before)) (sym (c .before .before .kind .ensures) ∙ c .before .match .keys2) .whole)
-
-first-requires-3 : tie.Need-first-requires-3
-first-requires-3 c κs = omega (arith, stored-less _ _ _ (there (c .before .before)) (sym (c .before .kind .ensures) ∙ c .match .keys3) .whole)
-
-second-requires-2 : tie.Need-second-requires-2
-second-requires-2 c κs = omega (arith, stored-less _ _ _ (there (c .before .before .before)) (sym (c .before .before .kind .ensures) ∙ c .before .match .keys3) .whole)
-
-first-requires-4 : tie.Need-first-requires-4
-first-requires-4 c κs = omega (arith, stored-not _ _ _ (there (c .before .before)) (sym (c .before .kind .ensures) ∙ c .match .keys4) .whole)
-
-first-requires-5 : tie.Need-first-requires-5
-first-requires-5 c κs = omega (arith, stored-and _ _ _ (there (c .before .before)) (last c) .whole)
-
-second-requires-3 : tie.Need-second-requires-3
-second-requires-3 c κs = omega (arith, stored-and _ _ _ (there (c .before .before .before)) (last (c .before)) .whole)
-
-returns : tie.Need-returns
-returns c = rw (c .first .ensures) (stored-constant _ _ _ (there (c .before .before .before)) (sym (c .before .before .kind .ensures) ∙ c .before .match .keys1) .isNode)
-
-returns-2 : tie.Need-returns-2
-returns-2 c = rw (c .before .first2 .ensures, c .second .ensures) (stored-equal _ _ _ (there (c .before .before .before .before)) (sym (c .before .before .before .kind .ensures) ∙ c .before .before .match .keys2) .isNode)
-
-returns-3 : tie.Need-returns-3
-returns-3 c = rw (c .before .first3 .ensures, c .second2 .ensures) (stored-less _ _ _ (there (c .before .before .before .before)) (sym (c .before .before .before .kind .ensures) ∙ c .before .before .match .keys3) .isNode)
-
-returns-4 : tie.Need-returns-4
-returns-4 c = rw (c .first4 .ensures) (stored-not _ _ _ (there (c .before .before .before)) (sym (c .before .before .kind .ensures) ∙ c .before .match .keys4) .isNode)
-
-returns-5 : tie.Need-returns-5
-returns-5 c = rw (c .before .first5 .ensures, c .second3 .ensures) (stored-and _ _ _ (there (c .before .before .before .before)) (last (c .before .before)) .isNode)
+last : (d : tie.At-match-rest) → d .before .kind .result ≡ 36
+last d = last-kind _ _ _ (there (d .before .before)) Truth (d .before .before .before .before .before .pre .2) _ (d .before .kind .ensures) (d .match .rest)
 
 pub truth-at-spec : {M : Type 1} → statement M
+unfolding nodeOf sizeOf form sum fieldSize
 truth-at-spec =
     tie.close
     (tie.spec
     (λ c. search needs)
     (λ c. search needs)
-    cast-at
-    kind-requires
-    first-requires
-    first-requires-2
-    second-requires
-    first-requires-3
-    second-requires-2
-    first-requires-4
-    first-requires-5
-    second-requires-3
-    returns
-    returns-2
-    returns-3
-    returns-4
-    returns-5)
+    (λ c. omega (arith, c .shared-slice-known3 .given (c .before .before .before .args .n)))
+    (λ c κs. head-there _ _ _ (there c))
+    (λ c κs. omega (arith, held (c .before) _ (c .match .keys1) _ refl .whole))
+    (λ c κs. omega (arith, held (c .before) _ (c .match .keys2) _ refl .whole))
+    (λ c κs. omega (arith, held (c .before .before) _ (c .before .match .keys2) _ refl .whole))
+    (λ c κs. omega (arith, held (c .before) _ (c .match .keys3) _ refl .whole))
+    (λ c κs. omega (arith, held (c .before .before) _ (c .before .match .keys3) _ refl .whole))
+    (λ c κs. omega (arith, held (c .before) _ (c .match .keys4) _ refl .whole))
+    (λ c κs. omega (arith, held (c .before) _ (last c) _ refl .whole))
+    (λ c κs. omega (arith, held (c .before .before) _ (last (c .before)) _ refl .whole))
+    (λ c. rw (c .first .ensures) (held (c .before .before) _ (c .before .match .keys1) _ refl .isNode))
+    (λ c. rw (c .before .first2 .ensures, c .second .ensures) (held (c .before .before .before) _ (c .before .before .match .keys2) _ refl .isNode))
+    (λ c. rw (c .before .first3 .ensures, c .second2 .ensures) (held (c .before .before .before) _ (c .before .before .match .keys3) _ refl .isNode))
+    (λ c. rw (c .first4 .ensures) (held (c .before .before) _ (c .before .match .keys4) _ refl .isNode))
+    (λ c. rw (c .before .first5 .ensures, c .second3 .ensures) (held (c .before .before .before) _ (last (c .before .before)) _ refl .isNode)))

@@ -2,7 +2,6 @@
 use Prim.Native.Nat.{_-_}
 use native.Mathlib.Omega.{arith}
 use mathlib.Core.Path.{ap, _∙_}
-use denote.Ref.{now}
 use borrow.Author.Needs.{needs}
 use Rattle.awhile.specs.Nodes.{sameSort}
 use Rattle.awhile.proofs.Children.{sameSort-refl}
@@ -18,49 +17,16 @@ Inv-loop uses nodes root n₀ n = UsedOnce uses nodes root n
 abbrev μ-loop : tie.MeasureT-loop
 μ-loop uses nodes root n₀ n = nodes - n
 
-loop-holds : tie.Need-loop-holds Inv-loop μ-loop
-loop-holds c = record { more = c .pre .0; once = λ i below. absurd (omega arith) }
-
-sub-loop : tie.Need-sub-loop Inv-loop μ-loop
-sub-loop c = omega arith
-
-mul-if1 : tie.Need-mul-if1 Inv-loop μ-loop
-mul-if1 c = omega arith
-
-shared-slice-read-if1 : tie.Need-shared-slice-read-if1 Inv-loop μ-loop
-shared-slice-read-if1 c = omega arith
+-- a count that is passed is 1
+loop-again : tie.Need-loop-again Inv-loop μ-loop
+loop-again c = once-more _ _ _ _ (c .before .before .before .loop .inv) (c .before .before .loop-test .taken) (c .if1 .left)
 
 returns : tie.Need-returns Inv-loop μ-loop
-returns c =
-    let a = c .before .before .before .before .args in
-    broken-child (now (a .uses)) (a .nodes) (a .root) (c .before .before .before .loop .n) (c .before .before .loop-test .taken) (c .if1 .taken)
-
-add-n : tie.Need-add-n Inv-loop μ-loop
-add-n c = omega arith
-
-loop-less : tie.Need-loop-less Inv-loop μ-loop
-loop-less c = omega arith
-
-loop-again : tie.Need-loop-again Inv-loop μ-loop
-loop-again c =
-    let a = c .before .before .before .before .args in
-    let turn = c .before .before .before .loop in
-    once-more (now (a .uses)) (a .nodes) (a .root) (turn .n) (turn .inv) (c .before .before .loop-test .taken) (c .if1 .left)
-
-enum-told : tie.Need-enum-told Inv-loop μ-loop
-enum-told c = search needs
-
-returns-2 : tie.Need-returns-2 Inv-loop μ-loop
-returns-2 c =
-    let a = c .before .before .before .args in
-    let turn = c .before .before .loop in
-    broken-root (now (a .uses)) (a .nodes) (a .root) (turn .n) (turn .inv) (c .before .loop-test .left) (not-command (a .root) (c .match .keys2))
+returns c = broken-child _ _ _ _ (c .before .before .loop-test .taken) (c .if1 .taken)
 
 returns-3 : tie.Need-returns-3 Inv-loop μ-loop
 returns-3 c =
-    let a = c .before .before .before .before .args in
-    let turn = c .before .before .before .loop in
-    none-broken (now (a .uses)) (a .nodes) (a .root) (turn .n) (turn .inv) (c .before .before .loop-test .left)
+    none-broken _ _ _ _ (c .before .before .before .loop .inv) (c .before .before .loop-test .left)
     (ap (λ s. sameSort s Command) (c .enum-told .given .1) ∙ sameSort-refl Command)
 
 pub find-broken-spec : {M : Type 1} → statement M
@@ -69,14 +35,14 @@ find-broken-spec =
     (tie.spec
     Inv-loop
     μ-loop
-    loop-holds
-    sub-loop
-    mul-if1
-    shared-slice-read-if1
+    (λ c. record { more = c .pre .0; once = λ i below. absurd (omega arith) })
+    (λ c. omega arith)
+    (λ c. omega arith)
+    (λ c. omega arith)
     returns
-    add-n
-    loop-less
+    (λ c. omega arith)
+    (λ c. omega arith)
     loop-again
-    enum-told
-    returns-2
+    (λ c. search needs)
+    (λ c. broken-root _ _ _ _ (c .before .before .loop .inv) (c .before .loop-test .left) (not-command _ (c .match .keys2)))
     returns-3)

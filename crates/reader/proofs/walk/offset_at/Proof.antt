@@ -7,15 +7,12 @@ use borrow.Author.Needs.{needs}
 use Rattle.reader.proofs.walk.offset_at.Statement.{statement}
 use Rattle.reader.proofs.walk.offset_at.Tie as tie
 
-cast-result : tie.Need-cast-result
-cast-result c = omega (arith, c .shared-slice-known .given (c .before .before .args .n))
-
 pub offset-at-spec : {M : Type 1} → statement M
 offset-at-spec =
     tie.close
     (tie.spec
     (λ c. search needs)
     (λ c. search needs)
-    cast-result
+    (λ c. omega (arith, c .shared-slice-known .given (c .before .before .args .n)))
     (λ c. (refl, omega (arith, c .shared-slice-known .given (c .before .before .args .n))))
     (λ c. (sym (List·getD-eq-default (now (c .before .args .index)) 0 (c .if1 .left)), omega arith)))
