@@ -15,7 +15,7 @@ use Rattle.awhile.specs.declared.Labelling.{Labelling}
 use Rattle.awhile.specs.declared.Sort.the-variants.{Command}
 use Rattle.awhile.specs.declared.Node.{Node}
 use Rattle.awhile.specs.declared.Node.the-variants.{Skip, Assign, Sequence, If, While, Read, Write}
-use Rattle.reader.proofs.Index.{Child, Parts}
+use Rattle.reader.proofs.Index.{Child, Parts, child-of-sort}
 use Rattle.awhile.proofs.Node.{the-type}
 use Rattle.labels.specs.Labellings.{variableMark, arrayMark, labelOfA, labelOfB, setLabel, join}
 use Rattle.labels.specs.Analysis.{readLabel, writeLabel, analyse}
@@ -26,7 +26,6 @@ use Rattle.analysis.specs.Conditions.{Single, NoteRoom, Analysable, Anal
 use Rattle.analysis.specs.Conditions.{SequenceAnalysable, SequenceAnalysed, SidesAnalysable, SidesAnalysed}
 use Rattle.analysis.proofs.CommandNotes.{NotedAt, note-stored, distinct-part, alone-analysed}
 use Rattle.analysis.proofs.CommandNotes.{second-ready, pair-analysed, part-ready, sequence-analysed, if-analysed, loop-ready, while-analysed}
-use Rattle.analysis.proofs.ExpressionLabels.{child-of-sort}
 use Rattle.analysis.proofs.Nodes.{command-kinds}
 
 -- the kinds of nodes that a function over commands with parts does not name

@@ -5,24 +5,18 @@ use mathlib.Core.List.{List, [], _∷_}
 use mathlib.Core.Path.{_≡_, sym, _∙_}
 use denote.Enum.Declared.{tagOf}
 use types.Run.{OneOf, miss}
-use Rattle.reader.specs.Index.{Indexed, numericIn, truthIn}
+use Rattle.reader.specs.Index.{numericIn, truthIn}
 use Rattle.awhile.specs.Language.{AExp, BExp}
 use Rattle.awhile.specs.Nodes.{form, sortOf}
 use Rattle.awhile.specs.declared.Labelling.{Labelling}
-use Rattle.awhile.specs.declared.Sort.{Sort}
 use Rattle.awhile.specs.declared.Sort.the-variants.{Numeric, Truth}
 use Rattle.awhile.specs.declared.Node.{Node}
 use Rattle.awhile.specs.declared.Node.the-variants.{Number, Variable, Add, Subtract, Multiply, Choice}
 use Rattle.awhile.specs.declared.Node.the-variants.{Constant, Equal, Less, Not, And}
 use Rattle.awhile.specs.declared.Node.the-variants.{Skip, Assign, Sequence, If, While, Read, Write}
-use Rattle.reader.proofs.Index.{Child, Parts}
+use Rattle.reader.proofs.Index.{Parts}
 use Rattle.awhile.proofs.Node.{the-type}
-use Rattle.analysis.specs.Conditions.{OfSort}
 use Rattle.labels.specs.Labellings.{labelOfA, labelOfB}
-
--- a child of an indexed table's node
-pub child-of-sort : {table index : List ℕ} {s : Sort} {n k : ℕ} → Indexed table index → Child table s n k → OfSort table index s k
-child-of-sort i c = record { indexed = i; inside = c .inside; isSort = c .isSort }
 
 module _ {found a : Bool} (is : found ≡ a) where
   -- a join whose first label was found secret

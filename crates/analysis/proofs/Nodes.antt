@@ -4,7 +4,7 @@ use mathlib.Core.List.{List}
 use mathlib.Core.Path.{_≡_, sym, _∙_}
 use native.Mathlib.Omega.{arith}
 use Rattle.bytes_le.proofs.Numbers.{Below}
-use Rattle.reader.specs.Index.{Indexed, nodesIn, nodeIn}
+use Rattle.reader.specs.Index.{Indexed, nodesIn, nodeIn, OfSort}
 use Rattle.awhile.specs.Nodes.{form, sortOf}
 use Rattle.awhile.specs.declared.Sort.{Sort}
 use Rattle.awhile.specs.declared.Sort.the-variants.{Numeric, Truth, Command}
@@ -12,9 +12,7 @@ use Rattle.awhile.specs.declared.Node.{Node}
 use Rattle.awhile.specs.declared.Node.the-variants.{Number, Variable, Add, Subtract, Multiply, Choice}
 use Rattle.awhile.specs.declared.Node.the-variants.{Constant, Equal, Less, Not, And}
 use Rattle.awhile.specs.declared.Node.the-variants.{Skip, Assign, Sequence, If, While, Read, Write}
-use Rattle.reader.proofs.Index.{Child, Parts, indexed-parts}
-use Rattle.analysis.specs.Conditions.{OfSort}
-use Rattle.analysis.proofs.ExpressionLabels.{child-of-sort}
+use Rattle.reader.proofs.Index.{Child, Parts, indexed-parts, child-of-sort}
 
 -- the parts of a node that was looked up
 pub node-parts : {table index : List ℕ} {n : ℕ} {r : Node} → Below 256 table → Indexed table index → n < nodesIn table → r ≡ nodeIn table n

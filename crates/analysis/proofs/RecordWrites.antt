@@ -15,14 +15,13 @@ use Rattle.awhile.specs.declared.Labelling.{Labelling}
 use Rattle.awhile.specs.declared.Node.{Node}
 use Rattle.awhile.specs.declared.Node.the-variants.{Sequence, If, While, Read, Write}
 use Rattle.awhile.specs.declared.Sort.the-variants.{Numeric, Truth}
-use Rattle.reader.specs.Index.{tableOf, nodesIn, nodeIn, truthIn, numericIn}
-use Rattle.reader.proofs.Index.{Parts, indexed-parts}
+use Rattle.reader.specs.Index.{tableOf, nodesIn, nodeIn, truthIn, numericIn, OfSort}
+use Rattle.reader.proofs.Index.{Parts, indexed-parts, child-of-sort}
 use Rattle.labels.specs.Analysis.{readLabel}
 use Rattle.labels.specs.Labellings.{labelOfA, labelOfB}
 use Rattle.labels.specs.Sheet.{masksBytes, labelBytes, recordOf, annotated}
-use Rattle.analysis.specs.Conditions.{OfSort, Sheetable}
+use Rattle.analysis.specs.Conditions.{Sheetable}
 use Rattle.analysis.specs.Notes.{noteIn}
-use Rattle.analysis.proofs.ExpressionLabels.{child-of-sort}
 use Rattle.analysis.proofs.SheetLengths.{record-stored, nothing-stored}
 use Rattle.analysis.proofs.SheetNodes.{unnamedRecord, record-length, unrecorded, sequence-record, if-record, while-record, read-record, write-record}
 

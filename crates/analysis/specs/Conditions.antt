@@ -4,15 +4,13 @@ use mathlib.Core.Bool.{Bool, false, _||_}
 use mathlib.Core.List.{List}
 use mathlib.Core.Path.{_≡_}
 use lib.ListN.{length, getD}
-use Rattle.reader.specs.Index.{Indexed, tableOf, nodesIn, nodeIn, truthIn, commandIn}
+use Rattle.reader.specs.Index.{Indexed, tableOf, nodesIn, nodeIn, truthIn, commandIn, OfSort}
 use Rattle.awhile.specs.Language.{BExp, Com, while, noteOf}
-use Rattle.awhile.specs.Nodes.{sortOf}
 use Rattle.awhile.specs.Tables.{Table}
 use Rattle.awhile.specs.Trees.{rootOf}
 use Rattle.awhile.specs.declared.Labelling.{Labelling}
 use Rattle.awhile.specs.declared.Node.{Node}
 use Rattle.awhile.specs.declared.Node.the-variants.{Sequence, If, While}
-use Rattle.awhile.specs.declared.Sort.{Sort}
 use Rattle.awhile.specs.declared.Sort.the-variants.{Truth, Command}
 use Rattle.labels.specs.Labellings.{labelOfB, join}
 use Rattle.labels.specs.Analysis.{analyse}
@@ -20,12 +18,6 @@ use Rattle.labels.specs.Annotation.{annotate}
 use Rattle.analysis.specs.Notes.{noteIn, Noted}
 use Rattle.labels.specs.Sheet.{annotated}
 use Rattle.analysis.specs.Warm.{standing, Distinct, Outside, InOrder}
-
--- a node of this sort, in a table that was read and indexed
-pub record OfSort (table index : List ℕ) (sort : Sort) (n : ℕ) : Type 0 where
-  pub indexed : Indexed table index
-  pub inside : n < nodesIn table
-  pub isSort : sortOf (nodeIn table n) ≡ sort
 
 -- the two slices of notes have room for all nodes, and every array note fits a doubled mask
 pub record NoteRoom (table vs arrs : List ℕ) : Type 0 where

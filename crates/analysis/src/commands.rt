@@ -16,10 +16,10 @@ use reader::lookup::command_at;
 ghost use Prim.Native.Nat.{_<_};
 ghost use mathlib.Core.Bool.{_||_};
 ghost use mathlib.Core.Path.{_≡_};
-ghost use Rattle.reader.specs.Index.{numericIn, truthIn, commandIn};
+ghost use Rattle.reader.specs.Index.{numericIn, truthIn, commandIn, OfSort};
 ghost use Rattle.awhile.specs.declared.Sort.the-variants.{Numeric, Truth};
 ghost use Rattle.labels.specs.Analysis.{readLabel, writeLabel};
-ghost use Rattle.analysis.specs.Conditions.{OfSort, SingleIn, SingleAnalysed, Analysable, Analysed};
+ghost use Rattle.analysis.specs.Conditions.{SingleIn, SingleAnalysed, Analysable, Analysed};
 ghost use Rattle.analysis.specs.Conditions.{SequenceAnalysable, SequenceAnalysed, SidesAnalysable, SidesAnalysed, Settleable, SettledLoop};
 ghost use Rattle.labels.specs.Labellings.{variableMark, arrayMark, setLabel, labelOfA, labelOfB};
 

@@ -7,9 +7,8 @@ use reader::lookup::numeric_at;
 use reader::lookup::truth_at;
 ghost use mathlib.Core.Bool.{_||_};
 ghost use mathlib.Core.Path.{_≡_};
-ghost use Rattle.reader.specs.Index.{numericIn, truthIn};
+ghost use Rattle.reader.specs.Index.{numericIn, truthIn, OfSort};
 ghost use Rattle.awhile.specs.declared.Sort.the-variants.{Numeric, Truth};
-ghost use Rattle.analysis.specs.Conditions.{OfSort};
 ghost use Rattle.labels.specs.Labellings.{labelOfA, labelOfB};
 
 // The label of a numeric node.

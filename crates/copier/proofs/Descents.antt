@@ -9,12 +9,10 @@ use Rattle.awhile.specs.Language.{AExp, BExp}
 use Rattle.awhile.specs.Encoding.{nodesOfA, nodesOfB}
 use Rattle.awhile.specs.Tables.{maxNodes}
 use Rattle.awhile.specs.declared.Node.{Node}
-use Rattle.reader.specs.Index.{Indexed, nodeIn, numericIn, truthIn}
+use Rattle.reader.specs.Index.{Indexed, nodeIn, numericIn, truthIn, OfSort}
 use Rattle.awhile.specs.declared.Sort.{Sort}
 use Rattle.awhile.specs.declared.Sort.the-variants.{Numeric, Truth}
-use Rattle.reader.proofs.Index.{Child, Parts, indexed-parts}
-use Rattle.analysis.specs.Conditions.{OfSort}
-use Rattle.analysis.proofs.ExpressionLabels.{child-of-sort}
+use Rattle.reader.proofs.Index.{Child, Parts, indexed-parts, child-of-sort}
 use Rattle.copier.specs.Sizes.{bytesOfA, bytesOfB}
 use Rattle.copier.specs.Written.{Room}
 use Rattle.copier.proofs.ExpressionWrites.{room-A, room-B}

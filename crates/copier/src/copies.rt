@@ -11,10 +11,9 @@ ghost use Prim.Native.Nat.{_+_, _-_, _≤_, _<_};
 ghost use mathlib.Core.Path.{_≡_};
 ghost use Rattle.awhile.specs.Language.{choice, and};
 ghost use Rattle.awhile.specs.Encoding.{nodesOfA, nodesOfB, writeA, writeB};
-ghost use Rattle.reader.specs.Index.{numericIn, truthIn};
+ghost use Rattle.reader.specs.Index.{numericIn, truthIn, OfSort};
 ghost use Rattle.awhile.specs.Tables.{maxNodes};
 ghost use Rattle.awhile.specs.declared.Sort.the-variants.{Numeric, Truth};
-ghost use Rattle.analysis.specs.Conditions.{OfSort};
 ghost use Rattle.copier.specs.Sizes.{bytesOfA, bytesOfB, Few};
 ghost use Rattle.copier.specs.Written.{Room, Wrote, WrotePair, WroteBinary, Both};
 

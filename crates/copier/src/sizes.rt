@@ -5,10 +5,9 @@ use reader::lookup::numeric_at;
 use reader::lookup::truth_at;
 ghost use Prim.Native.Nat.{_+_, _≤_};
 ghost use Rattle.awhile.specs.Encoding.{nodesOfA, nodesOfB};
-ghost use Rattle.reader.specs.Index.{numericIn, truthIn};
+ghost use Rattle.reader.specs.Index.{numericIn, truthIn, OfSort};
 ghost use Rattle.awhile.specs.Tables.{maxNodes};
 ghost use Rattle.awhile.specs.declared.Sort.the-variants.{Numeric, Truth};
-ghost use Rattle.analysis.specs.Conditions.{OfSort};
 ghost use Rattle.copier.specs.Sizes.{bytesOfA, bytesOfB, Sized, Few};
 
 // A node over one part; its own record has so many bytes. And the same over two and three parts.

@@ -8,10 +8,9 @@ use mathlib.Core.Path.{_≡_, sym, ap, _∙_}
 use Rattle.awhile.specs.Language.{AExp, skip, assign, sequence, if, while, read, write, noteOf, mapNotes}
 use Rattle.awhile.specs.Encoding.{nodesOf, writeC}
 use Rattle.reader.specs.Index.{truthIn, commandIn}
-use Rattle.reader.proofs.Index.{Child}
+use Rattle.reader.proofs.Index.{Child, child-of-sort}
 use Rattle.awhile.specs.declared.Sort.{Sort}
 use Rattle.awhile.specs.declared.Sort.the-variants.{Command}
-use Rattle.analysis.proofs.ExpressionLabels.{child-of-sort}
 use Rattle.labels.specs.Analysis.{readLabel}
 use Rattle.labels.specs.Labellings.{labelOfA, labelOfB}
 use Rattle.analysis.specs.Notes.{noteIn}

@@ -1,5 +1,5 @@
 -- Laws for sizes and writes of hardened commands and tables.
-pub mod TwoParts
+pub mod CommandParts
 pub mod CommandWrites
 pub mod PartWrites
 pub mod CommandSizes

@@ -11,12 +11,10 @@ use Rattle.awhile.specs.Encoding.{nodesOfA, nodesOfB, nodesOf}
 use Rattle.awhile.specs.Tables.{maxNodes}
 use Rattle.awhile.specs.declared.Node.the-variants.{Skip, Assign, Sequence, If, While, Read, Write}
 use Rattle.awhile.specs.declared.Sort.the-variants.{Numeric, Truth, Command}
-use Rattle.reader.specs.Index.{numericIn, commandIn}
-use Rattle.reader.proofs.Index.{Child, Parts}
+use Rattle.reader.specs.Index.{numericIn, commandIn, OfSort}
+use Rattle.reader.proofs.Index.{Child, Parts, child-of-sort}
 use Rattle.labels.specs.Analysis.{readLabel}
-use Rattle.analysis.specs.Conditions.{OfSort}
 use Rattle.analysis.specs.Notes.{noteIn}
-use Rattle.analysis.proofs.ExpressionLabels.{child-of-sort}
 use Rattle.masks.specs.Hardening.{Origin, maskedIndex, harden}
 use Rattle.masking.specs.InMemory.{hardenedIn, testIn, sideIn, ifIn, loopIn, whileIn, Hardenable, NotedAt}
 use Rattle.copier.specs.Sizes.{bytesOfA, bytesOfB, bytesOf, Sized, Few}

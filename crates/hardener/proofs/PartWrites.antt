@@ -13,12 +13,10 @@ use Rattle.awhile.specs.Lists.{sum}
 use Rattle.awhile.specs.Encoding.{nodesOf, writeC}
 use Rattle.awhile.specs.declared.Node.the-variants.{Skip, Assign, Sequence, If, While, Read, Write}
 use Rattle.awhile.specs.declared.Sort.the-variants.{Numeric, Truth}
-use Rattle.reader.specs.Index.{nodesIn, numericIn, commandIn}
-use Rattle.reader.proofs.Index.{Parts}
+use Rattle.reader.specs.Index.{nodesIn, numericIn, commandIn, OfSort}
+use Rattle.reader.proofs.Index.{Parts, child-of-sort}
 use Rattle.labels.specs.Analysis.{readLabel}
-use Rattle.analysis.specs.Conditions.{OfSort}
 use Rattle.analysis.specs.Notes.{noteIn}
-use Rattle.analysis.proofs.ExpressionLabels.{child-of-sort}
 use Rattle.masks.specs.Decisions.{decision}
 use Rattle.masks.specs.Hardening.{harden}
 use Rattle.masking.specs.InMemory.{hardenedIn, ifIn, loopIn, whileIn, Hardenable}

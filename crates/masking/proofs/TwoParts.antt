@@ -9,13 +9,13 @@ use Rattle.awhile.specs.Encoding.{binary}
 use Rattle.awhile.specs.declared.Node.{Node}
 use Rattle.awhile.specs.declared.Node.the-variants.{Sequence}
 use Rattle.copier.specs.Sizes.{Few}
-use Rattle.copier.specs.Written.{Appended, Wrote, Both, pairOf, Room}
+use Rattle.copier.specs.Written.{Appended, Wrote, WroteTwo, Both, pairOf, Room}
 use Rattle.copier.specs.declared.Pair.{Pair}
 use Rattle.copier.specs.declared.Size.{Size}
 use Rattle.copier.proofs.SizeSums.{Short}
 use Rattle.copier.proofs.Lengths.{Counted}
 use Rattle.copier.proofs.Writers.{restOf, withRest, wrote-sized, room-rest, rest-inside}
-use Rattle.copier.proofs.Joins.{two-few, two-room, two-parent, both-of}
+use Rattle.copier.proofs.Joins.{two-few, two-room, two-parent, two-lists, both-of, one-last}
 
 -- the first part is written, and there is room for the second and for so many nodes and bytes more
 pub record FirstWritten (from : ℕ) (ms : List Node) (ns : ℕ → List Node) (i j k h more size : ℕ) (l m : List ℕ) (s : Size) : Type 0 where
@@ -46,6 +46,10 @@ module _ {from : ℕ} {ms : List Node} {ns : ℕ → List Node} {i j k h more si
   pub rest-room : Room (from + s .nodes) k h (restOf (s .bytes) m)
   rest-room = room-rest (p .wrote) (p .first) (p .room) (omega arith) (omega arith)
 
+  -- the number of the first part's last node can be computed
+  pub first-last : (0 < s .nodes) × (from + s .nodes ≤ 4096)
+  first-last = one-last from (p .wrote) (p .first) (p .room) (omega arith) (p .some)
+
   module _ {rest : List ℕ} {u : Size} (v : Wrote (ns (from + s .nodes)) (restOf (s .bytes) m) rest u) where
     -- the sizes of both may be added
     pub both-few : Few (from + s .nodes + u .nodes) (s .bytes + u .bytes) × (0 < s .nodes)
@@ -60,6 +64,10 @@ module _ {from : ℕ} {ms : List Node} {ns : ℕ → List Node} {i j k h more si
       pub parent-wrote : (f : ℕ → ℕ → Node) {x : List ℕ} {r : Size} → Appended (q .nodes) (q .bytes) (f (q .left) (q .right)) (withRest (s .bytes) m rest) x r
           → Wrote (ms ++ (ns (from + i) ++ (binary f from i k ∷ []))) l x r
       parent-wrote f parent = two-parent from ns (p .wrote) (p .first) v (p .second) added f (omega (arith, p .room .fits)) parent
+
+      -- both are written
+      pub both-wrote : WroteTwo from ms (ns (from + i)) l (withRest (s .bytes) m rest) q
+      both-wrote = two-lists from ns (p .wrote) (p .first) v (p .second) added (omega (arith, p .room .fits))
 
 -- a sequence over them, as `append_sequence` asks and leaves it
 module _ {from : ℕ} {ms : List Node} {ns : ℕ → List Node} {i j k h : ℕ} {l m : List ℕ} {s : Size} (p : FirstWritten from ms ns i j k h 1 8 l m s)

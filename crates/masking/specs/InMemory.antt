@@ -5,13 +5,13 @@ use mathlib.Core.Option.{none}
 use mathlib.Core.List.{List, [], _∷_, _++_}
 use Rattle.awhile.specs.Language.{number, variable, BExp, equal, Com, sequence, if, while, mapNotes}
 use Rattle.awhile.specs.Encoding.{writeB}
-use Rattle.reader.specs.Index.{nodesIn, truthIn, commandIn}
+use Rattle.reader.specs.Index.{nodesIn, truthIn, commandIn, OfSort}
 use Rattle.awhile.specs.declared.Sort.{Sort}
 use Rattle.awhile.specs.declared.Sort.the-variants.{Command}
 use Rattle.awhile.specs.declared.Node.{Node}
 use Rattle.awhile.specs.declared.Node.the-variants.{Number}
 use Rattle.labels.specs.Annotation.{Entry}
-use Rattle.analysis.specs.Conditions.{OfSort, NoteRoom}
+use Rattle.analysis.specs.Conditions.{NoteRoom}
 use Rattle.analysis.specs.Notes.{noteIn}
 use Rattle.masks.specs.Decisions.{decide}
 use Rattle.masks.specs.Hardening.{Origin, maskedCondition, flagIfTrue, flagIfFalse, harden}

@@ -18,7 +18,7 @@ use Rattle.awhile.specs.Nodes.{word as wordField, constant as constantField, va
 use Rattle.awhile.specs.Tables.{maxNodes}
 use Rattle.awhile.specs.Trees.{numeric, truth, asNumeric, asTruth, asCommand, treeOf, rootOf}
 use Rattle.awhile.specs.WellFormed.{WellFormed}
-use Rattle.reader.specs.Index.{tableOf, nodesIn, nodeIn, treeIn, numericIn, truthIn, commandIn, Indexed}
+use Rattle.reader.specs.Index.{tableOf, nodesIn, nodeIn, treeIn, numericIn, truthIn, commandIn, Indexed, OfSort}
 use Rattle.awhile.proofs.Lists.{all-head, all-tail}
 use Rattle.awhile.proofs.Records.{NodeAt}
 use Rattle.awhile.proofs.Children.{sameSort-true}
@@ -189,3 +189,7 @@ module _ (table index : List ℕ) (bytes : Below 256 table) (indexed : Indexed t
       let some = indexed-well-formed .hasNodes in
       sameSort-true (sortOf (getD ns last Skip)) Command
       (sym (in-order-last ns last (omega arith)) ∙ each-in-order ns (length ns) (indexed-well-formed .oneTree) last (omega arith))
+
+-- a child of an indexed table's node
+pub child-of-sort : {table index : List ℕ} {s : Sort} {n k : ℕ} → Indexed table index → Child table s n k → OfSort table index s k
+child-of-sort i c = record { indexed = i; inside = c .inside; isSort = c .isSort }

@@ -14,6 +14,8 @@ use Rattle.reader.specs.declared.Read.{Read}
 use Rattle.reader.specs.declared.Read.the-variants.{Refused, Accepted}
 use Rattle.awhile.specs.declared.Refusal.{Refusal}
 use Rattle.awhile.specs.declared.Refusal.the-variants.{NotATree}
+use Rattle.awhile.specs.Nodes.{sortOf}
+use Rattle.awhile.specs.declared.Sort.{Sort}
 use Rattle.awhile.specs.declared.Node.{Node}
 use Rattle.awhile.specs.declared.Node.the-variants.{Skip}
 
@@ -51,6 +53,12 @@ pub record Indexed (table index : List ℕ) : Type 0 where
   pub reads : readTable table ≡ accepted (tableOf table)
   pub long : nodesIn table ≤ length index
   pub offsets : (n : ℕ) → n < nodesIn table → getD index n 0 ≡ offsetOf (tableOf table) n
+
+-- a node of this sort, in a table that was read and indexed
+pub record OfSort (table index : List ℕ) (sort : Sort) (n : ℕ) : Type 0 where
+  pub indexed : Indexed table index
+  pub inside : n < nodesIn table
+  pub isSort : sortOf (nodeIn table n) ≡ sort
 
 -- ---- what the reader answers
 -- the numbers of an accepted table

@@ -8,8 +8,7 @@ use Rattle.awhile.specs.Nodes.{sortOf}
 use Rattle.awhile.specs.WellFormed.{Declared}
 use Rattle.awhile.specs.declared.Node.{Node}
 use Rattle.reader.specs.Index.{tableOf, nodesIn, nodeIn}
-use Rattle.reader.proofs.Index.{Parts, indexed-well-formed}
-use Rattle.analysis.proofs.ExpressionLabels.{child-of-sort}
+use Rattle.reader.proofs.Index.{Parts, indexed-well-formed, child-of-sort}
 use Rattle.analysis.proofs.Nodes.{node-parts}
 use Rattle.analysis.proofs.CommandCases.{unnamed-skip, after-assign, after-read, after-write, after-skip}
 use borrow.Author.Needs.{needs}

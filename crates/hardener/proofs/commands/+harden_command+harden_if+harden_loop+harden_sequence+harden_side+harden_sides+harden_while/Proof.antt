@@ -22,9 +22,9 @@ use Rattle.copier.specs.Sizes.{bytesOfB, bytesOf}
 use Rattle.copier.specs.Written.{Room}
 use Rattle.copier.proofs.Writers.{room-first}
 use Rattle.hardener.specs.Forms.{sequenceIn, secretAt}
-use Rattle.hardener.proofs.TwoParts.{CommandWritten, ConditionWritten, TestWritten, command-written, condition-written, test-written}
-use Rattle.hardener.proofs.TwoParts.{rest-number, rest-begins, rest-room, first-last, both-few, parent-room, parent-wrote, both-wrote, joined-asks, joined-wrote}
-use Rattle.hardener.proofs.TwoParts.{sides-nodes, sides-bytes, sides-asks, sides-wrote}
+use Rattle.hardener.proofs.CommandParts.{CommandWritten, ConditionWritten, TestWritten, command-written, condition-written, test-written}
+use Rattle.masking.proofs.TwoParts.{rest-number, rest-begins, rest-room, first-last, both-few, parent-room, parent-wrote, both-wrote, joined-asks, joined-wrote}
+use Rattle.hardener.proofs.CommandParts.{sides-nodes, sides-bytes, sides-asks, sides-wrote}
 use Rattle.hardener.proofs.PartWrites.{sequence-asks, sequence-whole, if-asks, if-whole, while-asks, while-whole}
 use Prim.Native.Nat.{ℕ, _+_, _*_, _<_, max}
 use borrow.Author.Needs.{needs}
