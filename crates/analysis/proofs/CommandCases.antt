@@ -46,13 +46,13 @@ unnamed-single m o =
     }
 
 -- the same room, in slices as long and as fit
-pub same-room : {table vs arrs ws brrs : List ℕ} → NoteRoom table vs arrs → length ws ≡ length vs → length brrs ≡ length arrs
-    → ((p : ℕ) → getD brrs p 0 < 131072) → NoteRoom table ws brrs
+pub same-room : {table vs arrs vs′ arrs′ : List ℕ} → NoteRoom table vs arrs → length vs′ ≡ length vs → length arrs′ ≡ length arrs
+    → ((p : ℕ) → getD arrs′ p 0 < 131072) → NoteRoom table vs′ arrs′
 same-room r e f fit = record { variables = omega (arith, r .variables); arrays = omega (arith, r .arrays); fit = fit }
 
 -- what the code stores on entry is the command's note
-pub entry-noted : {table index vs arrs ws brrs : List ℕ} {n : ℕ} {x : Bool} {l : Labelling} → Analysable table index vs arrs n x l → l .arrays < 65536
-    → (ws ≡ set vs n (l .variables)) × (brrs ≡ set arrs n (arrayNote (entered n x l))) → NotedAt n x l vs arrs ws brrs
+pub entry-noted : {table index vs arrs vs′ arrs′ : List ℕ} {n : ℕ} {x : Bool} {l : Labelling} → Analysable table index vs arrs n x l → l .arrays < 65536
+    → (vs′ ≡ set vs n (l .variables)) × (arrs′ ≡ set arrs n (arrayNote (entered n x l))) → NotedAt n x l vs arrs vs′ arrs′
 entry-noted {vs = vs} {arrs = arrs} {n = n} {x = x} {l = l} pre small e =
     let inside = pre .node .inside in
     note-stored n x l vs arrs (omega (arith, pre .room .variables)) (omega (arith, pre .room .arrays)) small e
@@ -143,14 +143,14 @@ module _ {table index vs arrs : List ℕ} {b c d : ℕ} {x y : Bool} {l : Labell
         }
 
 -- ---- a command that is noted before its parts are analysed
-module _ {table index vs arrs ws brrs : List ℕ} {n : ℕ} {x : Bool} {l : Labelling} (pre : Analysable table index vs arrs n x l)
-    (w : NotedAt n x l vs arrs ws brrs) where
+module _ {table index vs arrs vs′ arrs′ : List ℕ} {n : ℕ} {x : Bool} {l : Labelling} (pre : Analysable table index vs arrs n x l)
+    (w : NotedAt n x l vs arrs vs′ arrs′) where
   -- one without parts leaves its own note
   pub single-analysed : (m : Node) → sortOf m ≡ Command → Single m → Parts table n m → (r : Labelling) → r ≡ analyse (commandIn table n) x l
-      → Analysed (commandIn table n) x l vs arrs ws brrs r
+      → Analysed (commandIn table n) x l vs arrs vs′ arrs′ r
   unfolding annotate standing
   single-analysed =
-      command-kinds (λ m. Single m → Parts table n m → (r : Labelling) → r ≡ analyse (commandIn table n) x l → Analysed (commandIn table n) x l vs arrs ws brrs r)
+      command-kinds (λ m. Single m → Parts table n m → (r : Labelling) → r ≡ analyse (commandIn table n) x l → Analysed (commandIn table n) x l vs arrs vs′ arrs′ r)
       (λ s p r q. rw p (alone-analysed w (pre .room .fit) (skip n) (λ k. refl) (w .here) (rw p at q)))
       (λ v e s p r q. rw (p .2) (alone-analysed w (pre .room .fit) (assign n v (numericIn table e)) (λ k. refl) (w .here) (rw (p .2) at q)))
       (λ c d s p r q. absurd (s .noSequence c d refl))
@@ -159,14 +159,14 @@ module _ {table index vs arrs ws brrs : List ℕ} {n : ℕ} {x : Bool} {l : Labe
       (λ v a i s p r q. rw (p .3) (alone-analysed w (pre .room .fit) (read n v a (numericIn table i)) (λ k. refl) (w .here) (rw (p .3) at q)))
       (λ a i e s p r q. rw (p .3) (alone-analysed w (pre .room .fit) (write n a (numericIn table i) (numericIn table e)) (λ k. refl) (w .here) (rw (p .3) at q)))
 
-  module _ (first : length ws ≡ length vs) (second : length brrs ≡ length arrs) where
-    entered-room : NoteRoom table ws brrs
+  module _ (first : length vs′ ≡ length vs) (second : length arrs′ ≡ length arrs) where
+    entered-room : NoteRoom table vs′ arrs′
     entered-room = same-room (pre .room) first second (w .fit (pre .room .fit))
 
     module _ (c d : ℕ) (once : (k : ℕ) → cond (eqb k n) 1 0 + standing k (commandIn table c) + standing k (commandIn table d) ≤ 1)
         (p : Child table Command n c) (q : Child table Command n d) where
       entered-pair : (y : Bool) (m k : Labelling) → InOrder vs arrs (commandIn table c) y m → InOrder vs arrs (commandIn table d) y k
-          → PairAnalysable table index ws brrs c d y m k
+          → PairAnalysable table index vs′ arrs′ c d y m k
       entered-pair y m k g h =
           record {
             firstNode = child-of-sort (pre .node .indexed) p;
@@ -186,13 +186,13 @@ module _ {table index vs arrs ws brrs : List ℕ} {n : ℕ} {x : Bool} {l : Labe
       sequence-once k = sequence-distinct .once k
 
       -- what a sequence's parts require is there
-      pub sequence-ready : SequenceAnalysable table index ws brrs c d x l
+      pub sequence-ready : SequenceAnalysable table index vs′ arrs′ c d x l
       sequence-ready =
           let o = subst (λ m. InOrder vs arrs m x l) (p .2) (pre .inOrder) in
           entered-pair c d sequence-once (p .0) (p .1) x l (analyse (commandIn table c) x l) (o .0) (o .1)
 
       -- they leave what the sequence does
-      pub sequence-left : {v3 a3 : List ℕ} {s : Labelling} → SequenceAnalysed (commandIn table c) (commandIn table d) x l ws brrs v3 a3 s
+      pub sequence-left : {v3 a3 : List ℕ} {s : Labelling} → SequenceAnalysed (commandIn table c) (commandIn table d) x l vs′ arrs′ v3 a3 s
           → Analysed (commandIn table n) x l vs arrs v3 a3 s
       sequence-left f = rw (p .2) (sequence-analysed w (commandIn table c) (commandIn table d) sequence-once f)
 
@@ -205,7 +205,7 @@ module _ {table index vs arrs ws brrs : List ℕ} {n : ℕ} {x : Bool} {l : Labe
       if-once k = if-distinct .once k
 
       -- what an if's sides require is there
-      pub if-ready : SidesAnalysable table index ws brrs b c d x l
+      pub if-ready : SidesAnalysable table index vs′ arrs′ b c d x l
       if-ready =
           let o = subst (λ m. InOrder vs arrs m x l) (p .3) (pre .inOrder) in
           record {
@@ -214,7 +214,7 @@ module _ {table index vs arrs ws brrs : List ℕ} {n : ℕ} {x : Bool} {l : Labe
           }
 
       -- they leave what the if does
-      pub if-left : {v3 a3 : List ℕ} {s : Labelling} → SidesAnalysed (truthIn table b) (commandIn table c) (commandIn table d) x l ws brrs v3 a3 s
+      pub if-left : {v3 a3 : List ℕ} {s : Labelling} → SidesAnalysed (truthIn table b) (commandIn table c) (commandIn table d) x l vs′ arrs′ v3 a3 s
           → Analysed (commandIn table n) x l vs arrs v3 a3 s
       if-left f = rw (p .3) (if-analysed w (commandIn table c) (commandIn table d) if-once f)
 
@@ -227,7 +227,7 @@ module _ {table index vs arrs ws brrs : List ℕ} {n : ℕ} {x : Bool} {l : Labe
       loop-once k = loop-distinct .once k
 
       -- what settling a loop requires is there
-      pub loop-settleable : Settleable table index ws brrs b c x l
+      pub loop-settleable : Settleable table index vs′ arrs′ b c x l
       unfolding standing
       loop-settleable =
           record {
@@ -239,7 +239,7 @@ module _ {table index vs arrs ws brrs : List ℕ} {n : ℕ} {x : Bool} {l : Labe
           }
 
       -- the settled loop leaves what the while does
-      pub loop-settled : {v2 a2 : List ℕ} {r : Labelling} → SettledLoop (truthIn table b) (commandIn table c) x l ws brrs v2 a2 r → Analysed (commandIn table n) x l vs arrs v2 a2 r
+      pub loop-settled : {v2 a2 : List ℕ} {r : Labelling} → SettledLoop (truthIn table b) (commandIn table c) x l vs′ arrs′ v2 a2 r → Analysed (commandIn table n) x l vs arrs v2 a2 r
       loop-settled f = rw (p .2) (while-analysed n (truthIn table b) (commandIn table c) loop-once w f)
 
 -- ---- measures

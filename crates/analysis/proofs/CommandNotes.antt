@@ -21,10 +21,10 @@ use Rattle.labels.proofs.Masks.{digit-small}
 use Rattle.analysis.proofs.Warm.{SameOn, outside-same, in-order-same, in-order-loop, noted-same}
 
 -- one command's note was written, and no other
-pub record NotedAt (n : ℕ) (x : Bool) (l : Labelling) (vs arrs ws brrs : List ℕ) : Type 0 where
-  pub here : noteIn ws brrs n ≡ entered n x l
-  pub others : (p : ℕ) → eqb p n ≡ false → noteIn ws brrs p ≡ noteIn vs arrs p
-  pub fit : ((p : ℕ) → getD arrs p 0 < 131072) → (p : ℕ) → getD brrs p 0 < 131072
+pub record NotedAt (n : ℕ) (x : Bool) (l : Labelling) (vs arrs vs′ arrs′ : List ℕ) : Type 0 where
+  pub here : noteIn vs′ arrs′ n ≡ entered n x l
+  pub others : (p : ℕ) → eqb p n ≡ false → noteIn vs′ arrs′ p ≡ noteIn vs arrs p
+  pub fit : ((p : ℕ) → getD arrs p 0 < 131072) → (p : ℕ) → getD arrs′ p 0 < 131072
 
 -- a context and its digit
 digit-context : (a : ℕ) (x : Bool) → eqb ((2 * a + cond x 1 0) % 2) 1 ≡ x
@@ -54,7 +54,7 @@ module _ (n : ℕ) (x : Bool) (l : Labelling) (vs arrs : List ℕ) (first : n < 
       go (no e) = rw (getD-set-other arrs n p (2 * l .arrays + cond x 1 0) 0 e) (h p)
 
   -- what the code stores is the command's note
-  pub note-stored : l .arrays < 65536 → {ws brrs : List ℕ} → (ws ≡ set vs n (l .variables)) × (brrs ≡ set arrs n (arrayNote (entered n x l))) → NotedAt n x l vs arrs ws brrs
+  pub note-stored : l .arrays < 65536 → {vs′ arrs′ : List ℕ} → (vs′ ≡ set vs n (l .variables)) × (arrs′ ≡ set arrs n (arrayNote (entered n x l))) → NotedAt n x l vs arrs vs′ arrs′
   note-stored small e = rw (e .0, e .1) (record { here = noted-here; others = noted-other; fit = noted-fit small })
 
 -- ---- what stands apart

@@ -57,15 +57,15 @@ fewer-public v a l m h k e = go (decLe (publicAmong (declaredMarks v a) l) (publ
 -- ---- the loop's invariant
 -- Between passes: the masks are between those at the start and what the loop settles at, the kept masks of the body are in order for the
 -- next pass, and notes outside of the body are as they were.
-pub record Passing (b : BExp) (c : Com ℕ) (x : Bool) (start : Labelling) (vs arrs : List ℕ) (m : Labelling) (ws brrs : List ℕ) : Type 0 where
+pub record Passing (b : BExp) (c : Com ℕ) (x : Bool) (start : Labelling) (vs arrs : List ℕ) (m : Labelling) (vs′ arrs′ : List ℕ) : Type 0 where
   pub above : start ⊑ m
   pub below : m ⊑ analyse (while (noteOf c) b c) x start
-  pub inOrder : InOrder ws brrs c (labelOfB m b || x) m
-  pub outside : Outside c vs arrs ws brrs
-  pub fit : (p : ℕ) → getD brrs p 0 < 131072
+  pub inOrder : InOrder vs′ arrs′ c (labelOfB m b || x) m
+  pub outside : Outside c vs arrs vs′ arrs′
+  pub fit : (p : ℕ) → getD arrs′ p 0 < 131072
   pub within : Within 64 16 m
-  pub variableLength : length ws ≡ length vs
-  pub arrayLength : length brrs ≡ length arrs
+  pub variableLength : length vs′ ≡ length vs
+  pub arrayLength : length arrs′ ≡ length arrs
 
 module _ (b : BExp) (c : Com ℕ) (x : Bool) where
   module _ (l : Labelling) (vs arrs : List ℕ) (h : InOrder vs arrs (while (noteOf c) b c) x l) where
@@ -91,13 +91,13 @@ module _ (b : BExp) (c : Com ℕ) (x : Bool) where
           arrayLength = refl;
         }
 
-  module _ {start m r k : Labelling} {y : Bool} {vs arrs ws brrs us urrs : List ℕ} (h : Passing b c x start vs arrs m ws brrs)
-      (context : y ≡ (labelOfB m b || x)) (pass : Analysed c y m ws brrs us urrs r) (joined : k ≡ join m r) where
+  module _ {start m r k : Labelling} {y : Bool} {vs arrs vs′ arrs′ us urrs : List ℕ} (h : Passing b c x start vs arrs m vs′ arrs′)
+      (context : y ≡ (labelOfB m b || x)) (pass : Analysed c y m vs′ arrs′ us urrs r) (joined : k ≡ join m r) where
     passed-once : r ≡ loopPass b c x m
     passed-once = pass .answers ∙ ap (λ z. analyse c z m) context
 
     -- and again after a pass
-    pub passing-next : Within 64 16 r → length us ≡ length ws → length urrs ≡ length brrs → Passing b c x start vs arrs k us urrs
+    pub passing-next : Within 64 16 r → length us ≡ length vs′ → length urrs ≡ length arrs′ → Passing b c x start vs arrs k us urrs
     passing-next w e f =
         let settled : Settled (loopPass b c x) start (analyse (while (noteOf c) b c) x start) = loop-settles (noteOf c) b c x start in
         let up : m ⊑ join m r = join-left m r in

@@ -29,31 +29,31 @@ stands (read n v a i) = rw (eq-eqb n n refl) (omega arith)
 stands (write n a i e) = rw (eq-eqb n n refl) (omega arith)
 
 -- the notes of a command's commands are the same before and after
-pub record SameOn (c : Com ℕ) (vs arrs ws brrs : List ℕ) : Type 0 where
-  pub same : (p : ℕ) → 1 ≤ standing p c → noteIn ws brrs p ≡ noteIn vs arrs p
+pub record SameOn (c : Com ℕ) (vs arrs vs′ arrs′ : List ℕ) : Type 0 where
+  pub same : (p : ℕ) → 1 ≤ standing p c → noteIn vs′ arrs′ p ≡ noteIn vs arrs p
 
-module _ {vs arrs ws brrs : List ℕ} where
+module _ {vs arrs vs′ arrs′ : List ℕ} where
   -- what is the same for a command is the same for its parts
-  same-part : {c d : Com ℕ} → ((p : ℕ) → standing p d ≤ standing p c) → SameOn c vs arrs ws brrs → SameOn d vs arrs ws brrs
+  same-part : {c d : Com ℕ} → ((p : ℕ) → standing p d ≤ standing p c) → SameOn c vs arrs vs′ arrs′ → SameOn d vs arrs vs′ arrs′
   same-part h s = record { same = λ p k. s .same p (omega (arith, h p)) }
 
   -- what changed outside of a command left the notes of its commands
-  pub outside-same : {c d : Com ℕ} → ((p : ℕ) → standing p c + standing p d ≤ 1) → Outside d vs arrs ws brrs → SameOn c vs arrs ws brrs
+  pub outside-same : {c d : Com ℕ} → ((p : ℕ) → standing p c + standing p d ≤ 1) → Outside d vs arrs vs′ arrs′ → SameOn c vs arrs vs′ arrs′
   outside-same h o = record { same = λ p k. o .same p (omega (arith, h p)) }
 
-  kept-same : (c : Com ℕ) → SameOn c vs arrs ws brrs → keptIn ws brrs c ≡ keptIn vs arrs c
+  kept-same : (c : Com ℕ) → SameOn c vs arrs vs′ arrs′ → keptIn vs′ arrs′ c ≡ keptIn vs arrs c
   unfolding keptIn
   kept-same c s = ap (λ (e : Entry). e .labelling) (s .same (noteOf c) (stands c))
 
   -- the same for a loop, from its body
-  pub in-order-loop : (n : ℕ) (b : BExp) (c : Com ℕ) (x : Bool) (l : Labelling) → SameOn c vs arrs ws brrs
-      → ((y : Bool) (m : Labelling) → InOrder vs arrs c y m → InOrder ws brrs c y m) → InOrder vs arrs (while n b c) x l → InOrder ws brrs (while n b c) x l
+  pub in-order-loop : (n : ℕ) (b : BExp) (c : Com ℕ) (x : Bool) (l : Labelling) → SameOn c vs arrs vs′ arrs′
+      → ((y : Bool) (m : Labelling) → InOrder vs arrs c y m → InOrder vs′ arrs′ c y m) → InOrder vs arrs (while n b c) x l → InOrder vs′ arrs′ (while n b c) x l
   in-order-loop n b c x l s body h =
-      subst (λ (k : Labelling). (k ⊑ analyse (while n b c) x l) × InOrder ws brrs c (labelOfB (join l k) b || x) (join l k)) (sym (kept-same c s))
+      subst (λ (k : Labelling). (k ⊑ analyse (while n b c) x l) × InOrder vs′ arrs′ c (labelOfB (join l k) b || x) (join l k)) (sym (kept-same c s))
       (h .0, body (labelOfB (join l (keptIn vs arrs c)) b || x) (join l (keptIn vs arrs c)) (h .1))
 
   -- masks that are in order stay so while the notes of the command stay
-  pub in-order-same : (c : Com ℕ) (x : Bool) (l : Labelling) → SameOn c vs arrs ws brrs → InOrder vs arrs c x l → InOrder ws brrs c x l
+  pub in-order-same : (c : Com ℕ) (x : Bool) (l : Labelling) → SameOn c vs arrs vs′ arrs′ → InOrder vs arrs c x l → InOrder vs′ arrs′ c x l
   unfolding standing
   in-order-same (skip n) x l s h = tt
   in-order-same (assign n v e) x l s h = tt
@@ -66,13 +66,13 @@ module _ {vs arrs ws brrs : List ℕ} where
     in-order-same d (labelOfB l b || x) l (same-part {c = if n b c d} (λ p. omega arith) s) (h .1),
   )
   in-order-same (while n b c) x l s h =
-      let t : SameOn c vs arrs ws brrs = same-part {c = while n b c} (λ p. omega arith) s in
+      let t : SameOn c vs arrs vs′ arrs′ = same-part {c = while n b c} (λ p. omega arith) s in
       in-order-loop n b c x l t (λ y m. in-order-same c y m t) h
   in-order-same (read n v a i) x l s h = tt
   in-order-same (write n a i e) x l s h = tt
 
   -- notes stay right while they stay
-  pub noted-same : (c : Com ℕ) (x : Bool) (l : Labelling) → SameOn c vs arrs ws brrs → Noted vs arrs (annotate c x l) → Noted ws brrs (annotate c x l)
+  pub noted-same : (c : Com ℕ) (x : Bool) (l : Labelling) → SameOn c vs arrs vs′ arrs′ → Noted vs arrs (annotate c x l) → Noted vs′ arrs′ (annotate c x l)
   unfolding standing annotate noteOf
   noted-same (skip n) x l s h = s .same n (stands (skip n)) ∙ h
   noted-same (assign n v e) x l s h = s .same n (stands (assign n v e)) ∙ h

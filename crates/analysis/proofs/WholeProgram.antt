@@ -39,14 +39,14 @@ module _ {table index vs arrs : List ℕ} (bytes : Below 256 table) (h : Fresh t
         inOrder = fresh-in-order vs arrs fresh-notes (commandIn table (nodesIn table - 1)) false l;
       }
 
-  module _ {ws brrs : List ℕ} {l r : Labelling} (e : l ≡ tableOf table .labels) (a : Analysed (commandIn table (nodesIn table - 1)) false l vs arrs ws brrs r) where
+  module _ {vs′ arrs′ : List ℕ} {l r : Labelling} (e : l ≡ tableOf table .labels) (a : Analysed (commandIn table (nodesIn table - 1)) false l vs arrs vs′ arrs′ r) where
     -- its analysis answers the labelling after the program
     pub root-answer : r ≡ finalLabels (tableOf table)
     unfolding finalLabels
     root-answer = a .answers ∙ ap (analyse (commandIn table (nodesIn table - 1)) false) e ∙ ap (λ c. analyse c false (tableOf table .labels)) (sym (indexed-root table index bytes (h .indexed)))
 
     -- and leaves what the sheet is written from
-    pub root-sheetable : length ws ≡ length vs → length brrs ≡ length arrs → Sheetable table index ws brrs
+    pub root-sheetable : length vs′ ≡ length vs → length arrs′ ≡ length arrs → Sheetable table index vs′ arrs′
     unfolding annotated
     root-sheetable f g =
         record {

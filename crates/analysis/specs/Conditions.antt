@@ -33,11 +33,11 @@ pub record Analysable (table index vs arrs : List ℕ) (n : ℕ) (x : Bool) (l :
   pub inOrder : InOrder vs arrs (commandIn table n) x l
 
 -- what the analysis of a command leaves: the labelling after it, the notes of its commands, and all other notes as they were
-pub record Analysed (c : Com ℕ) (x : Bool) (l : Labelling) (vs arrs ws brrs : List ℕ) (result : Labelling) : Type 0 where
+pub record Analysed (c : Com ℕ) (x : Bool) (l : Labelling) (vs arrs vs′ arrs′ : List ℕ) (result : Labelling) : Type 0 where
   pub answers : result ≡ analyse c x l
-  pub notes : Noted ws brrs (annotate c x l)
-  pub outside : Outside c vs arrs ws brrs
-  pub fit : (p : ℕ) → getD brrs p 0 < 131072
+  pub notes : Noted vs′ arrs′ (annotate c x l)
+  pub outside : Outside c vs arrs vs′ arrs′
+  pub fit : (p : ℕ) → getD arrs′ p 0 < 131072
 
 -- a node that is no command with command parts
 pub record Single (node : Node) : Type 0 where
@@ -66,28 +66,28 @@ pub record PairAnalysable (table index vs arrs : List ℕ) (first second : ℕ) 
   pub secondInOrder : InOrder vs arrs (commandIn table second) x m
 
 -- and what it leaves: the notes of both, and all other notes as they were
-pub record PairAnalysed (c d : Com ℕ) (x : Bool) (l m : Labelling) (vs arrs ws brrs : List ℕ) : Type 0 where
-  pub firstNotes : Noted ws brrs (annotate c x l)
-  pub secondNotes : Noted ws brrs (annotate d x m)
-  pub outside : (p : ℕ) → standing p c + standing p d ≡ 0 → noteIn ws brrs p ≡ noteIn vs arrs p
-  pub fit : (p : ℕ) → getD brrs p 0 < 131072
+pub record PairAnalysed (c d : Com ℕ) (x : Bool) (l m : Labelling) (vs arrs vs′ arrs′ : List ℕ) : Type 0 where
+  pub firstNotes : Noted vs′ arrs′ (annotate c x l)
+  pub secondNotes : Noted vs′ arrs′ (annotate d x m)
+  pub outside : (p : ℕ) → standing p c + standing p d ≡ 0 → noteIn vs′ arrs′ p ≡ noteIn vs arrs p
+  pub fit : (p : ℕ) → getD arrs′ p 0 < 131072
 
 -- the parts of a sequence: the second is entered with what the first leaves
 abbrev pub SequenceAnalysable : (table index vs arrs : List ℕ) → (first second : ℕ) → Bool → Labelling → Type 0
 SequenceAnalysable table index vs arrs c d x l = PairAnalysable table index vs arrs c d x l (analyse (commandIn table c) x l)
 
-pub record SequenceAnalysed (c d : Com ℕ) (x : Bool) (l : Labelling) (vs arrs ws brrs : List ℕ) (result : Labelling) : Type 0 where
+pub record SequenceAnalysed (c d : Com ℕ) (x : Bool) (l : Labelling) (vs arrs vs′ arrs′ : List ℕ) (result : Labelling) : Type 0 where
   pub answers : result ≡ analyse d x (analyse c x l)
-  pub both : PairAnalysed c d x l (analyse c x l) vs arrs ws brrs
+  pub both : PairAnalysed c d x l (analyse c x l) vs arrs vs′ arrs′
 
 -- the sides of an if: both are entered with what enters it, in the context of its condition
 pub record SidesAnalysable (table index vs arrs : List ℕ) (condition first second : ℕ) (x : Bool) (l : Labelling) : Type 0 where
   pub test : OfSort table index Truth condition
   pub both : PairAnalysable table index vs arrs first second (labelOfB l (truthIn table condition) || x) l l
 
-pub record SidesAnalysed (b : BExp) (c d : Com ℕ) (x : Bool) (l : Labelling) (vs arrs ws brrs : List ℕ) (result : Labelling) : Type 0 where
+pub record SidesAnalysed (b : BExp) (c d : Com ℕ) (x : Bool) (l : Labelling) (vs arrs vs′ arrs′ : List ℕ) (result : Labelling) : Type 0 where
   pub answers : result ≡ join (analyse c (labelOfB l b || x) l) (analyse d (labelOfB l b || x) l)
-  pub both : PairAnalysed c d (labelOfB l b || x) l l vs arrs ws brrs
+  pub both : PairAnalysed c d (labelOfB l b || x) l l vs arrs vs′ arrs′
 
 -- what settling a loop requires, from its condition and its body
 pub record Settleable (table index vs arrs : List ℕ) (condition body : ℕ) (x : Bool) (l : Labelling) : Type 0 where
@@ -98,11 +98,11 @@ pub record Settleable (table index vs arrs : List ℕ) (condition body : ℕ) (x
   pub inOrder : InOrder vs arrs (while (noteOf (commandIn table body)) (truthIn table condition) (commandIn table body)) x l
 
 -- what settling a loop leaves: the settled labelling, the notes of its body as entered with it, and all other notes as they were
-pub record SettledLoop (b : BExp) (c : Com ℕ) (x : Bool) (l : Labelling) (vs arrs ws brrs : List ℕ) (result : Labelling) : Type 0 where
+pub record SettledLoop (b : BExp) (c : Com ℕ) (x : Bool) (l : Labelling) (vs arrs vs′ arrs′ : List ℕ) (result : Labelling) : Type 0 where
   pub answers : result ≡ analyse (while (noteOf c) b c) x l
-  pub notes : Noted ws brrs (annotate c (labelOfB result b || x) result)
-  pub outside : Outside c vs arrs ws brrs
-  pub fit : (p : ℕ) → getD brrs p 0 < 131072
+  pub notes : Noted vs′ arrs′ (annotate c (labelOfB result b || x) result)
+  pub outside : Outside c vs arrs vs′ arrs′
+  pub fit : (p : ℕ) → getD arrs′ p 0 < 131072
 
 -- the labelling after a table's program
 unfoldable pub finalLabels : Table → Labelling

@@ -26,8 +26,8 @@ pub record Distinct (c : Com ℕ) : Type 0 where
   pub once : (p : ℕ) → standing p c ≤ 1
 
 -- the notes of all commands other than those of a command are the same before and after
-pub record Outside (c : Com ℕ) (vs arrs ws brrs : List ℕ) : Type 0 where
-  pub same : (p : ℕ) → standing p c ≡ 0 → noteIn ws brrs p ≡ noteIn vs arrs p
+pub record Outside (c : Com ℕ) (vs arrs vs′ arrs′ : List ℕ) : Type 0 where
+  pub same : (p : ℕ) → standing p c ≡ 0 → noteIn vs′ arrs′ p ≡ noteIn vs arrs p
 
 -- what a loop last settled at, from the note of its body
 unfoldable pub keptIn : (vs arrs : List ℕ) → (body : Com ℕ) → Labelling
