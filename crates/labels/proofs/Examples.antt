@@ -16,6 +16,6 @@ unfolding opened
 copies-once = refl
 
 -- as the body of `while x<3` it makes all of x, y and z secret: one a pass, and passes repeat until one adds no secret
-pub loop-settles : analyse (while 11 (less (variable 0) (number 3)) copies) false (record { variables = 8; arrays = 0 }) ≡ record { variables = 15; arrays = 0 }
+pub copies-settle : analyse (while 11 (less (variable 0) (number 3)) copies) false (record { variables = 8; arrays = 0 }) ≡ record { variables = 15; arrays = 0 }
 unfolding opened
-loop-settles = refl
+copies-settle = refl

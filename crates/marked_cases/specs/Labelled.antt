@@ -33,9 +33,9 @@ loopSheet =
     ∷ []
 
 -- P: variable mask 8 settles as 15, the condition secret
-pub loop-settles : HasSheet loop loopSheet
+pub loop-ends : HasSheet loop loopSheet
 unfolding opened
-loop-settles = written loopSheet
+loop-ends = written loopSheet
 
 -- `x:=y; (y:=z; z:=s)`: the same body without the loop
 abbrev pub straight : List ℕ
