@@ -12,7 +12,7 @@ use Rattle.awhile.specs.Language.{Com}
 use Rattle.awhile.specs.Tables.{Table}
 use Rattle.labels.specs.Annotation.{Entry}
 use Rattle.analysis.specs.Conditions.{finalLabels}
-use Rattle.labels.specs.Sheet.{masksBytes, recordOf, recordsBelow, annotated, sheetBytes}
+use Rattle.labels.specs.Sheet.{masksBytes, recordOf, recordsBelow, annotated, sheetOf, sheetBytes}
 use Rattle.analysis.proofs.Stored.{stored-then}
 
 -- the sheet's first record

@@ -56,7 +56,7 @@ written-into s t bytes reads small free buffer answer =
       answers = refl;
       demands = subst (Demands t (hardenedProgram t)) (sym (front out buffer answer)) demands;
       calls =
-          subst (CallsShowTheSame t) (sym (front out buffer answer))
+          subst (CallsShowTheSame (t .labels) t) (sym (front out buffer answer))
           (calls-related t (demands .hardened) out (back .accepts) (back .variables) (back .counts) (demands .secure));
     }
 

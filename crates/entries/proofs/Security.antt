@@ -8,6 +8,7 @@ use mathlib.Core.Path.{_≡_, refl, sym, ap, ap₂, subst₂, _∙_}
 use lib.ListN.{length}
 use Rattle.bytes_le.specs.Numbers.{fromWords}
 use Rattle.awhile.specs.Lists.{sum}
+use Rattle.awhile.specs.declared.Labelling.{Labelling}
 use Rattle.awhile.specs.Tables.{Table, readTable, accepted}
 use Rattle.awhile.specs.Trees.{rootOf}
 use Rattle.machine.specs.Observations.{Observation, observationBytes, shownBytes}
@@ -85,7 +86,7 @@ module _ (t hardened : Table) (table : List ℕ) (reads : readTable table ≡ ac
       ∙ ap shownBytes (shown-by-run lent budget vs cs script h)
 
   -- demand 3 for the calls, from demand 3 for the runs
-  pub calls-related : ShowsTheSame t hardened → CallsShowTheSame t table
+  pub calls-related : {l : Labelling} → ShowsTheSame l t hardened → CallsShowTheSame l t table
   calls-related secure =
       record {
         reports = λ directives place lent budget answer zero. call-reports place table directives lent budget answer (guess-accepted place table directives lent budget answer zero);

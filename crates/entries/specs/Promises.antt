@@ -84,7 +84,7 @@ pub record HardenedInto (table answer : List ℕ) (exit : Written) : Type 0 wher
   -- so many bytes of the buffer at exit are a table of the hardened program, which runs as the original does and meets demand 3
   pub demands : Demands original (hardenedProgram original) (take size (exit .buffer))
   -- and demand 3 holds of calls of the guessing entry on them
-  pub calls : CallsShowTheSame original (take size (exit .buffer))
+  pub calls : CallsShowTheSame (original .labels) original (take size (exit .buffer))
 
 -- THE PROMISE of the hardening entry: result, buffer and answer slice at exit, by equations; and where it answers 0, the demands
 pub record Hardens (table out answer : List ℕ) (result : ℕ) (out′ answer′ : List ℕ) : Type 0 where

@@ -6,6 +6,7 @@ use mathlib.Core.Path.{_≡_}
 use lib.ListN.{length}
 use Rattle.bytes_le.specs.Numbers.{fromWords}
 use Rattle.awhile.specs.Lists.{sum}
+use Rattle.awhile.specs.declared.Labelling.{Labelling}
 use Rattle.awhile.specs.Tables.{Table, Reading, rejected, notATree, accepted, readTable}
 use Rattle.machine.specs.Observations.{shownBytes}
 use Rattle.machine.specs.Directives.{readDirectives}
@@ -44,11 +45,11 @@ pub record Holds (t : Table) (lent : Lent) (vs cs : List ℕ) : Type 0 where
 
 -- The claim about an original table and the bytes of a hardened one: two accepted calls of flow_guess on these bytes, with one directive list
 -- and any budgets and slices, from states that agree and whose plain runs are related, report the bytes of their runs, and one list begins the other.
-pub record CallsShowTheSame (t : Table) (hardened : List ℕ) : Type 0 where
+pub record CallsShowTheSame (l : Labelling) (t : Table) (hardened : List ℕ) : Type 0 where
   pub reports : (directives : List ℕ) (place : ℕ) (lent : Lent) (budget : ℕ) (answer : List ℕ)
       → guessEntry place hardened directives lent budget answer .result ≡ 0
       → Reports (guessEntry place hardened directives lent budget answer) lent answer (reported hardened directives lent budget)
-  pub related : (vs cs ws ds : List ℕ) → AgreeingStates t vs cs ws ds
+  pub related : (vs cs ws ds : List ℕ) → AgreeingStates t l vs cs ws ds
       → ((n m : ℕ) → OneBegins (plainlyShown t vs cs n) (plainlyShown t ws ds m))
       → (directives : List ℕ) (place₁ place₂ : ℕ) (lent₁ lent₂ : Lent) (budget₁ budget₂ : ℕ) (answer₁ answer₂ : List ℕ)
       → Holds t lent₁ vs cs → Holds t lent₂ ws ds

@@ -37,7 +37,7 @@ writing (got out) buffer answer =
 
 -- flow_sheet(table, sheet, answer)
 unfoldable pub sheetEntry : (placeOf6 : ℕ) → (table sheet answer : List ℕ) → Written
-sheetEntry place table sheet answer = writing (andThen (tableIn table place) (λ t. got (sheetBytes t))) sheet answer
+sheetEntry place table sheet answer = writing (andThen (tableIn table place) (λ t. got (sheetBytes t (t .labels)))) sheet answer
 
 -- 8: hardening with N above 512; 9: hardening with V = 32
 unfoldable pub hardenedIn : Table → Answer (List ℕ)

@@ -56,13 +56,18 @@ unfoldable pub recordsBelow : Com Entry → ℕ → List ℕ
 recordsBelow c zero = []
 recordsBelow c (suc n) = recordsBelow c n ++ recordOf c n
 
--- the program of a table with its labels: the context is public at the root, the labelling is the labels record's
-unfoldable pub annotated : Table → Com Entry
-annotated t = annotate (rootOf t) false (t .labels)
+-- the program of a table with its labels: "a labelling and a context, public at the root". Which labelling it starts from is given.
+unfoldable pub annotated : Table → Labelling → Com Entry
+annotated t l = annotate (rootOf t) false l
+
+-- the labelling after it
+unfoldable pub finalLabels : Table → Labelling → Labelling
+finalLabels t l = analyse (rootOf t) false l
 
 -- the sheet of an annotated program with so many nodes and this labelling after it
 unfoldable pub sheetOf : (nodes : ℕ) → Com Entry → (final : Labelling) → List ℕ
 sheetOf n a final = le 2 14 ++ (le 2 128 ++ (le 2 1 ++ (le 2 n ++ (masksBytes final ++ recordsBelow a n))))
 
-unfoldable pub sheetBytes : Table → List ℕ
-sheetBytes t = sheetOf (length (t .nodes)) (annotated t) (analyse (rootOf t) false (t .labels))
+-- the sheet of a table whose analysis starts from a labelling
+unfoldable pub sheetBytes : Table → Labelling → List ℕ
+sheetBytes t l = sheetOf (length (t .nodes)) (annotated t l) (finalLabels t l)

@@ -66,7 +66,7 @@ agree-arrays (suc (suc (suc a))) i e p = absurd (nothing-inside i (ltb-true i 0 
     nothing-inside : (k : ℕ) → k < 0 → ⊥
     nothing-inside k h = omega arith
 
-agreeing : AgreeingStates original variables (cells 77) variables (cells 78)
+agreeing : AgreeingStates original (original .labels) variables (cells 77) variables (cells 78)
 unfolding opened original
 agreeing =
     record {
@@ -112,13 +112,13 @@ not-related h =
     omega arith
 
 -- "The same table" is no hardened table: the claim of demand 3 is false of it
-pub unhardened-differs : (t : Table) → readTable boundsCheck ≡ accepted t → ShowsTheSame t t → ⊥
-unhardened-differs t e h = refuted (subst (λ (p : Table). ShowsTheSame p p) same h)
+pub unhardened-differs : (t : Table) → readTable boundsCheck ≡ accepted t → ShowsTheSame (t .labels) t t → ⊥
+unhardened-differs t e h = refuted (subst (λ (p : Table). ShowsTheSame (p .labels) p p) same h)
   where
     same : t ≡ original
     same = cc reads
 
-    refuted : ShowsTheSame original original → ⊥
+    refuted : ShowsTheSame (original .labels) original original → ⊥
     refuted g =
         not-related
         (subst₂ OneBegins (shown-guessing .0) (shown-guessing .1)

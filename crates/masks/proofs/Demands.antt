@@ -78,14 +78,14 @@ module _ (t : Table) (w : WellFormed t) (small : length (t .nodes) ≤ 512) (fre
               below
               width));
           secure =
-              secure-by t d program below table′ (back .counts) (ap (mapNotes noNote) (back .root) ∙ numbered-without-notes program′) covers;
+              secure-by t d program below (t .labels) table′ (back .counts) (ap (mapNotes noNote) (back .root) ∙ numbered-without-notes program′) covers;
         }
 
   -- the demands hold for the decisions that the labels give
   pub demands-of-labels : Demands t (hardenedProgram t) (tableBytes (hardenedTable t))
   unfolding hardenedProgram hardenedTable annotated
   demands-of-labels =
-      demands-by (decide (annotated t)) (program-decided (rootOf t) false (t .labels)) (decide-large (annotated t)) (decide-covers (rootOf t) false (t .labels))
+      demands-by (decide (annotated t (t .labels))) (program-decided (rootOf t) false (t .labels)) (decide-large (annotated t (t .labels))) (decide-covers (rootOf t) false (t .labels))
 
 -- THE DEMANDS, over bytes: whatever bytes are accepted as a table of at most 512 nodes with a free variable number
 pub demands-met : (s : List ℕ) (t : Table) → Below 256 s → readTable s ≡ accepted t → length (t .nodes) ≤ 512 → t .variables < maxVariables

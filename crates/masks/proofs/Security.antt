@@ -8,6 +8,7 @@ use lib.ListN.{length, length-append}
 use Rattle.awhile.specs.Language.{Com, mapNotes}
 use Rattle.awhile.specs.Tables.{Table}
 use Rattle.awhile.specs.Trees.{rootOf}
+use Rattle.awhile.specs.declared.Labelling.{Labelling}
 use Rattle.labels.proofs.Order.{⊑-refl}
 use Rattle.machine.specs.Steps.{State}
 use Rattle.machine.specs.Runs.{Room, plain, guessing, run, started}
@@ -29,8 +30,8 @@ use Rattle.masks.proofs.Locked.{nothing, item, Flagged, stateOf, PlainR
 use Rattle.masks.proofs.LockedRuns.{runs-related}
 
 -- the start of a hardened program, from states that agree
-start-flagged : (t : Table) (vs cs ws ds : List ℕ) → AgreeingStates t vs cs ws ds → Flagged (t .variables) 0 (t .labels) (withFlag vs) (withFlag ws)
-start-flagged t vs cs ws ds a =
+start-flagged : (t : Table) (l : Labelling) (vs cs ws ds : List ℕ) → AgreeingStates t l vs cs ws ds → Flagged (t .variables) 0 l (withFlag vs) (withFlag ws)
+start-flagged t l vs cs ws ds a =
     record {
       agree = record { at = λ x e. get-withFlag vs x ∙ (a .onVariables .at x e ∙ sym (get-withFlag ws x)) };
       left = flag-zero (t .variables) vs (a .leftVariables);
@@ -47,7 +48,7 @@ module _ (t : Table) (d : Com Decision) (program : programFor d ≡ rootOf t) (b
       subst (λ (c : Com ℕ). SameRun (t .variables) itself (plainRun (t .counts) c vs cs) (plainRun (t .counts) (harden (t .variables) d) (withFlag vs) cs)) program
       (same-run-itself (t .variables) (t .counts) d vs cs below width)
 
-  module _ (vs cs ws ds : List ℕ) (a : AgreeingStates t vs cs ws ds)
+  module _ (l : Labelling) (vs cs ws ds : List ℕ) (a : AgreeingStates t l vs cs ws ds)
       (plainly : (n m : ℕ) → OneBegins (plainlyShown t vs cs n) (plainlyShown t ws ds m)) where
     abbrev startOf : List ℕ → List ℕ → State Origin
     startOf xs ys = stateOf (harden (t .variables) d ∷ []) (withFlag xs) ys false
@@ -63,15 +64,15 @@ module _ (t : Table) (d : Com Decision) (program : programFor d ≡ rootOf t) (b
               (beginnings-related (same-from vs cs (a .leftVariables) .begins n .holds) (same-from ws ds (a .rightVariables) .begins m .holds) (plainly _ _));
         }
 
-    start-locked : Covers d false (t .labels) → Locked (t .counts) (t .variables) (startOf vs cs) (startOf ws ds)
+    start-locked : Covers d false l → Locked (t .counts) (t .variables) (startOf vs cs) (startOf ws ds)
     start-locked covers =
-        steady false (t .labels) (harden (t .variables) d ∷ []) (withFlag vs) (withFlag ws) cs ds
-        (item d false (t .labels) (⊑-refl (t .labels)) covers below nothing)
-        (start-flagged t vs cs ws ds a)
+        steady false l (harden (t .variables) d ∷ []) (withFlag vs) (withFlag ws) cs ds
+        (item d false l (⊑-refl l) covers below nothing)
+        (start-flagged t l vs cs ws ds a)
         (straight (a .onArrays) (a .leftCells ∙ sym (a .rightCells)) start-related)
 
     -- guessing runs of the hardened program under one list, with any two budgets and rooms
-    pub hardened-related : Covers d false (t .labels) → (directives : List Directive) (n m : ℕ) (room other : Room)
+    pub hardened-related : Covers d false l → (directives : List Directive) (n m : ℕ) (room other : Room)
         → OneBegins (run (t .counts) room n (started (harden (t .variables) d) (withFlag vs) cs (guessing directives)) .machine .shown)
         (run (t .counts) other m (started (harden (t .variables) d) (withFlag ws) ds (guessing directives)) .machine .shown)
     unfolding started
@@ -82,14 +83,14 @@ module _ (t : Table) (d : Com Decision) (program : programFor d ≡ rootOf t) (b
         (runs-related (t .counts) (t .variables) n m (startOf vs cs) (startOf ws ds) directives (start-locked covers))
 
   -- DEMAND 3 for any table whose program is the hardened one, for all decisions that cover the labels
-  pub secure-by : (hardened : Table) → hardened .counts ≡ t .counts → mapNotes noNote (rootOf hardened) ≡ mapNotes noNote (harden (t .variables) d)
-      → Covers d false (t .labels) → ShowsTheSame t hardened
+  pub secure-by : (l : Labelling) (hardened : Table) → hardened .counts ≡ t .counts → mapNotes noNote (rootOf hardened) ≡ mapNotes noNote (harden (t .variables) d)
+      → Covers d false l → ShowsTheSame l t hardened
   unfolding guessingShown
-  secure-by hardened counts same covers =
+  secure-by l hardened counts same covers =
       record {
         related = λ vs cs ws ds a plainly directives n m room other.
             subst₂ OneBegins (sym (shown room n vs cs directives)) (sym (shown other m ws ds directives))
-            (hardened-related vs cs ws ds a plainly covers directives n m room other);
+            (hardened-related l vs cs ws ds a plainly covers directives n m room other);
       }
     where
       shown : (room : Room) (n : ℕ) (xs ys : List ℕ) (directives : List Directive)

@@ -28,4 +28,4 @@ pub record Demands (original : Table) (program : Com Origin) (out : List ℕ) : 
       (plainRun (original .counts) (rootOf original) vs cells)
       (plainRun (hardened .counts) (rootOf hardened) (vs ++ (0 ∷ [])) cells)
   -- Demand 3: the hardened table's program shows the same from two states, whatever the attacker picks.
-  pub secure : ShowsTheSame original hardened
+  pub secure : ShowsTheSame (original .labels) original hardened

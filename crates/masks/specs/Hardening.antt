@@ -58,7 +58,7 @@ harden f (write n a i e) = write (some (n .node)) a (maskedIndex f (n .maskIndex
 
 -- the hardened program of a table, by the decisions that the labels give
 unfoldable pub hardenedProgram : Table → Com Origin
-hardenedProgram t = harden (t .variables) (decide (annotated t))
+hardenedProgram t = harden (t .variables) (decide (annotated t (t .labels)))
 
 -- "the output declares V+1 variables, f public, and its own N; all else of the declarations is unchanged"
 unfoldable pub tableOfHardened : Table → Com Origin → Table
