@@ -1,250 +1,305 @@
 -- The analysis in code, by the kind of a node: what its parts require, and what it leaves.
-use Prim.Native.Nat.{ℕ, _+_, _*_, _≤_, _<_, max}
+use Prim.Native.Nat.{ℕ, _+_, _*_, _≤_, _<_}
 use mathlib.Core.Bool.{Bool, cond, _||_}
-use mathlib.Core.List.{List, [], _∷_}
+use mathlib.Core.List.{List, [], _∷_, flatMap, List·Memᴰ, List·Memᴰ·head, List·Memᴰ·tail}
 use mathlib.Core.Path.{_≡_, refl, sym, ap, ap₂, subst, _∙_}
 use native.Mathlib.Omega.{arith}
 use denote.Enum.Declared.{tagOf}
 use types.Run.{OneOf, miss}
 use lib.Dec.{eqb}
-use lib.ListN.{length, getD, set}
-use Rattle.reader.specs.Index.{numericIn, truthIn, commandIn}
+use lib.ListN.{length, set}
+use Rattle.bytes_le.proofs.Numbers.{Below}
+use Rattle.reader.specs.Index.{tableOf, nodesIn, nodeIn, numericIn, truthIn, commandIn, OfSort}
 use Rattle.awhile.specs.Language.{skip, assign, sequence, if, while, read, write}
-use Rattle.awhile.specs.Nodes.{sortOf}
+use Rattle.awhile.specs.Nodes.{form, sortOf}
+use Rattle.awhile.specs.WellFormed.{Declared}
 use Rattle.awhile.specs.declared.Labelling.{Labelling}
-use Rattle.awhile.specs.declared.Sort.the-variants.{Command}
+use Rattle.awhile.specs.declared.Sort.the-variants.{Numeric, Truth, Command}
 use Rattle.awhile.specs.declared.Node.{Node}
 use Rattle.awhile.specs.declared.Node.the-variants.{Skip, Assign, Sequence, If, While, Read, Write}
-use Rattle.reader.proofs.Index.{Child, Parts, child-of-sort}
+use Rattle.reader.proofs.Index.{Child, Parts, indexed-parts, indexed-note, indexed-well-formed, child-of-sort}
 use Rattle.awhile.proofs.Node.{the-type}
-use Rattle.labels.specs.Labellings.{variableMark, arrayMark, labelOfA, labelOfB, setLabel, join}
+use Rattle.labels.specs.Labellings.{variableMark, arrayMark, labelOf, labelOfA, labelOfB, setLabel, join}
 use Rattle.labels.specs.Analysis.{readLabel, writeLabel, analyse}
 use Rattle.labels.specs.Annotation.{entered, annotate}
-use Rattle.analysis.specs.Notes.{arrayNote}
+use Rattle.variables.specs.Named.{expressionOf, fieldExpressions, expressionsOf}
+use Rattle.variables.proofs.Naming.{numeric-label, truth-label}
+use Rattle.variables.proofs.Nodes.{command-kinds}
+use Rattle.analysis.specs.Notes.{noteIn, secondWord}
 use Rattle.analysis.specs.Warm.{standing, Distinct, InOrder}
-use Rattle.analysis.specs.Conditions.{Single, NoteRoom, Analysable, Analysed, PairAnalysable, PairAnalysed, Settleable, SettledLoop}
-use Rattle.analysis.specs.Conditions.{SequenceAnalysable, SequenceAnalysed, SidesAnalysable, SidesAnalysed}
+use Rattle.analysis.specs.Conditions.{labelAt, SingleFits, SingleAfter, NoteRoom, Analysable, Analysed, Settleable, SettledLoop}
 use Rattle.analysis.proofs.CommandNotes.{NotedAt, note-stored, distinct-part, alone-analysed}
-use Rattle.analysis.proofs.CommandNotes.{second-ready, pair-analysed, part-ready, sequence-analysed, if-analysed, loop-ready, while-analysed}
-use Rattle.analysis.proofs.Nodes.{command-kinds}
+use Rattle.analysis.proofs.CommandNotes.{first-in-order, second-in-order, sequence-analysed, if-analysed, loop-ready, while-analysed, while-remembered}
 
--- the kinds of nodes that a function over commands with parts does not name
+-- the kinds of nodes that `analyse` does not name
 abbrev pub unnamedCommand : List ℕ
 unnamedCommand = 0 ∷ 1 ∷ 2 ∷ 3 ∷ 4 ∷ 5 ∷ 6 ∷ 7 ∷ 8 ∷ 9 ∷ 10 ∷ 11 ∷ 12 ∷ 16 ∷ 17 ∷ []
 
--- the kinds of nodes that a function over commands without parts does not name
+-- the kinds of nodes that `after_single` does not name
 abbrev pub unnamedSingle : List ℕ
 unnamedSingle = 0 ∷ 1 ∷ 2 ∷ 3 ∷ 4 ∷ 5 ∷ 6 ∷ 7 ∷ 8 ∷ 9 ∷ 10 ∷ 11 ∷ 13 ∷ 14 ∷ 15 ∷ []
 
--- a node that is not named has no command parts
-pub unnamed-single : (m : Node) → OneOf unnamedCommand (tagOf the-type m) → Single m
-unnamed-single m o =
-    record {
-      noSequence = λ c d e. miss unnamedCommand 13 tt (subst (λ k. OneOf unnamedCommand (tagOf the-type k)) e o);
-      noIf = λ b c d e. miss unnamedCommand 14 tt (subst (λ k. OneOf unnamedCommand (tagOf the-type k)) e o);
-      noWhile = λ b c e. miss unnamedCommand 15 tt (subst (λ k. OneOf unnamedCommand (tagOf the-type k)) e o);
-    }
+-- the same room, in a slice as long
+pub same-room : {table ns ns′ : List ℕ} → NoteRoom table ns → length ns′ ≡ length ns → NoteRoom table ns′
+same-room r e = record { room = omega (arith, r .room) }
 
--- the same room, in slices as long and as fit
-pub same-room : {table vs arrs vs′ arrs′ : List ℕ} → NoteRoom table vs arrs → length vs′ ≡ length vs → length arrs′ ≡ length arrs
-    → ((p : ℕ) → getD arrs′ p 0 < 131072) → NoteRoom table vs′ arrs′
-same-room r e f fit = record { variables = omega (arith, r .variables); arrays = omega (arith, r .arrays); fit = fit }
+-- ---- a command that may be analysed
+module _ {table index named ns : List ℕ} {n : ℕ} {x : Bool} {l : Labelling} (bytes : Below 256 table) (pre : Analysable table index named ns n x l) where
+  -- there is room for its note
+  pub own-room : 2 * n + 1 < length ns
+  own-room = omega (arith, pre .node .inside, pre .notesFit .room)
 
--- what the code stores on entry is the command's note
-pub entry-noted : {table index vs arrs vs′ arrs′ : List ℕ} {n : ℕ} {x : Bool} {l : Labelling} → Analysable table index vs arrs n x l → l .arrays < 65536
-    → (vs′ ≡ set vs n (l .variables)) × (arrs′ ≡ set arrs n (arrayNote (entered n x l))) → NotedAt n x l vs arrs vs′ arrs′
-entry-noted {vs = vs} {arrs = arrs} {n = n} {x = x} {l = l} pre small e =
-    let inside = pre .node .inside in
-    note-stored n x l vs arrs (omega (arith, pre .room .variables)) (omega (arith, pre .room .arrays)) small e
+  -- and for that of a part
+  child-room : {k : ℕ} → Child table Command n k → 2 * k + 1 < length ns
+  child-room c = omega (arith, c .inside, pre .notesFit .room)
 
--- a command without parts that is not named is a skip
-pub unnamed-skip : (m : Node) → sortOf m ≡ Command → OneOf unnamedSingle (tagOf the-type m) → Single m → m ≡ Skip
-unnamed-skip =
-    command-kinds (λ m. OneOf unnamedSingle (tagOf the-type m) → Single m → m ≡ Skip)
-    (λ o s. refl)
-    (λ v e o s. absurd (miss unnamedSingle 12 tt o))
-    (λ c d o s. absurd (s .noSequence c d refl))
-    (λ b c d o s. absurd (s .noIf b c d refl))
-    (λ b c o s. absurd (s .noWhile b c refl))
-    (λ v a i o s. absurd (miss unnamedSingle 16 tt o))
-    (λ a i e o s. absurd (miss unnamedSingle 17 tt o))
+  -- what the code stores on entry is the command's note
+  pub entry-noted : {ns′ : List ℕ} → l .arrays < 65536 → ns′ ≡ set (set ns (2 * n) (l .variables)) (2 * n + 1) (secondWord (entered n x l)) → NotedAt n x l ns ns′
+  entry-noted small e = note-stored n x l ns own-room small e
 
--- ---- commands without parts: what their functions answer is what the analysis does
-module _ (table : List ℕ) (n : ℕ) (x : Bool) (l : Labelling) {r : Labelling} where
-  pub after-assign : (v e : ℕ) → Parts table n (Assign v e) → r ≡ setLabel l (variableMark v) (labelOfA l (numericIn table e) || x) → r ≡ analyse (commandIn table n) x l
-  unfolding analyse
-  after-assign v e p q = rw (p .2) q
+  pub parts-of : (m : Node) → nodeIn table n ≡ m → Parts table n m
+  parts-of m e = indexed-parts table index bytes (pre .node .indexed) n (pre .node .inside) m e
 
-  pub after-read : (v a i : ℕ) → Parts table n (Read v a i) → r ≡ setLabel l (variableMark v) (readLabel l x a (numericIn table i)) → r ≡ analyse (commandIn table n) x l
-  unfolding analyse
-  after-read v a i p q = rw (p .3) q
+  -- the labels of the expressions that it holds
+  module _ (k : Labelling) {m : Node} (is : nodeIn table n ≡ m) {e : ℕ} (held : List·Memᴰ e (expressionsOf m)) where
+    numeric-is : Child table Numeric n e → labelAt named k e ≡ labelOfA k (numericIn table e)
+    numeric-is c = numeric-label bytes (pre .names) (pre .node) k (rw is held) (child-of-sort (pre .node .indexed) c)
 
-  pub after-write : (a i e : ℕ) → Parts table n (Write a i e) → r ≡ setLabel l (arrayMark a) (writeLabel l x a (numericIn table i) (numericIn table e))
-      → r ≡ analyse (commandIn table n) x l
-  unfolding analyse
-  after-write a i e p q = rw (p .3) q
+    truth-is : Child table Truth n e → labelAt named k e ≡ labelOfB k (truthIn table e)
+    truth-is c = truth-label bytes (pre .names) (pre .node) k (rw is held) (child-of-sort (pre .node .indexed) c)
 
-  pub after-skip : Parts table n Skip → r ≡ l → r ≡ analyse (commandIn table n) x l
-  unfolding analyse
-  after-skip p q = rw p q
+  -- ---- without parts
+  declared : Declared (tableOf table .variables) (tableOf table .labels) (tableOf table .counts)
+  declared = indexed-well-formed table index bytes (pre .node .indexed) .declared
 
--- ---- two commands, analysed one after the other
-module _ {table index vs arrs : List ℕ} {c d : ℕ} {x : Bool} {l m : Labelling} (pre : PairAnalysable table index vs arrs c d x l m) where
-  -- what the first requires is there
-  pub pair-first : Analysable table index vs arrs c x l
-  pair-first =
-      record { node = pre .firstNode; distinct = record { once = λ p. omega (arith, pre .apart p) }; room = pre .room; inOrder = pre .firstInOrder }
+  child-named : {s : _} {k : ℕ} → Child table s n k → k < length named
+  child-named c = omega (arith, c .inside, pre .names .room)
 
-  module _ {us urrs : List ℕ} {r : Labelling} (f : Analysed (commandIn table c) x l vs arrs us urrs r) where
-    -- and what the second requires, after the first
-    pub pair-second : length us ≡ length vs → length urrs ≡ length arrs → Analysable table index us urrs d x m
-    pair-second g h =
-        record {
-          node = pre .secondNode;
-          distinct = record { once = λ p. omega (arith, pre .apart p) };
-          room = same-room (pre .room) g h (f .fit);
-          inOrder = second-ready (commandIn table c) (commandIn table d) (pre .apart) x m (f .outside) (pre .secondInOrder);
-        }
+  pub single-fits : (m : Node) → m ≡ nodeIn table n → SingleFits (length named) m
+  single-fits m e =
+      record {
+        assign = λ v i is. let p = parts-of (Assign v i) (sym e ∙ is) in (omega (arith, p .0, declared .variablesFit), child-named (p .1));
+        read = λ v a i is. let p = parts-of (Read v a i) (sym e ∙ is) in (omega (arith, p .0, declared .variablesFit), child-named (p .2));
+        write = λ a i v is. let p = parts-of (Write a i v) (sym e ∙ is) in (omega (arith, p .0, declared .arraysFit), child-named (p .1), child-named (p .2));
+      }
 
-    pub pair-both : {v3 a3 : List ℕ} {s : Labelling} → Analysed (commandIn table d) x m us urrs v3 a3 s → PairAnalysed (commandIn table c) (commandIn table d) x l m vs arrs v3 a3
-    pair-both g = pair-analysed (commandIn table c) (commandIn table d) (pre .apart) f g
+  -- its function answers what the analysis does
+  pub single-answers : (m : Node) → nodeIn table n ≡ m → sortOf m ≡ Command → OneOf unnamedCommand (tagOf the-type m) → {r : Labelling}
+      → SingleAfter named m x l r → r ≡ analyse (commandIn table n) x l
+  unfolding analyse readLabel writeLabel expressionsOf fieldExpressions expressionOf form flatMap
+  single-answers m is sort o {r} a =
+      command-kinds (λ m. nodeIn table n ≡ m → OneOf unnamedCommand (tagOf the-type m) → SingleAfter named m x l r → r ≡ analyse (commandIn table n) x l)
+      (λ is o a. rw (parts-of Skip is) (a .skip refl))
+      (λ v e is o a. let p = parts-of (Assign v e) is in
+      rw (p .2) (a .assign v e refl ∙ ap (λ b. setLabel l (variableMark v) (b || x)) (numeric-is l is (List·Memᴰ·head refl) (p .1))))
+      (λ c d is o a. absurd (miss unnamedCommand 13 tt o))
+      (λ b c d is o a. absurd (miss unnamedCommand 14 tt o))
+      (λ b c is o a. absurd (miss unnamedCommand 15 tt o))
+      (λ v y i is o a. let p = parts-of (Read v y i) is in
+      rw (p .3) (a .read v y i refl ∙ ap (λ b. setLabel l (variableMark v) (b || (labelOf l (arrayMark y) || x))) (numeric-is l is (List·Memᴰ·head refl) (p .2))))
+      (λ y i e is o a. let p = parts-of (Write y i e) is in
+      rw (p .3)
+      (a .write y i e refl
+      ∙ ap₂ (λ b c. setLabel l (arrayMark y) (labelOf l (arrayMark y) || (b || (c || x))))
+      (numeric-is l is (List·Memᴰ·head refl) (p .1)) (numeric-is l is (List·Memᴰ·tail (List·Memᴰ·head refl)) (p .2))))
+      m sort is o a
 
--- a sequence's second part is entered with what its first part leaves
-module _ {table index vs arrs : List ℕ} {c d : ℕ} {x : Bool} {l : Labelling} (pre : SequenceAnalysable table index vs arrs c d x l)
-    {us urrs : List ℕ} {r : Labelling} (f : Analysed (commandIn table c) x l vs arrs us urrs r) where
-  pub sequence-second : length us ≡ length vs → length urrs ≡ length arrs → Analysable table index us urrs d x r
-  sequence-second g h = subst (λ m. Analysable table index us urrs d x m) (sym (f .answers)) (pair-second pre f g h)
-
-  pub sequence-both : {v3 a3 : List ℕ} {s : Labelling} → Analysed (commandIn table d) x r us urrs v3 a3 s
-      → SequenceAnalysed (commandIn table c) (commandIn table d) x l vs arrs v3 a3 s
-  sequence-both {v3} {a3} {s} g =
-      let h = subst (λ m. Analysed (commandIn table d) x m us urrs v3 a3 s) (f .answers) g in
-      record { answers = h .answers; both = pair-both pre f h }
-
--- both sides of an if are entered with what enters it
-module _ {table index vs arrs : List ℕ} {b c d : ℕ} {x y : Bool} {l : Labelling} (e : y ≡ (labelOfB l (truthIn table b) || x))
-    (pre : SidesAnalysable table index vs arrs b c d x l) where
-  sides : PairAnalysable table index vs arrs c d y l l
-  sides = rw e (pre .both)
-
-  pub if-first : Analysable table index vs arrs c y l
-  if-first = pair-first sides
-
-  module _ {us urrs : List ℕ} {r : Labelling} (f : Analysed (commandIn table c) y l vs arrs us urrs r) where
-    pub if-second : length us ≡ length vs → length urrs ≡ length arrs → Analysable table index us urrs d y l
-    if-second g h = pair-second sides f g h
-
-    pub if-both : {v3 a3 : List ℕ} {s t : Labelling} → Analysed (commandIn table d) y l us urrs v3 a3 s → t ≡ join r s
-        → SidesAnalysed (truthIn table b) (commandIn table c) (commandIn table d) x l vs arrs v3 a3 t
-    if-both {v3} {a3} g j =
-        record {
-          answers = j ∙ ap₂ join (f .answers ∙ ap (λ z. analyse (commandIn table c) z l) e) (g .answers ∙ ap (λ z. analyse (commandIn table d) z l) e);
-          both = subst (λ z. PairAnalysed (commandIn table c) (commandIn table d) z l l vs arrs v3 a3) e (pair-both sides f g);
-        }
-
--- ---- a command that is noted before its parts are analysed
-module _ {table index vs arrs vs′ arrs′ : List ℕ} {n : ℕ} {x : Bool} {l : Labelling} (pre : Analysable table index vs arrs n x l)
-    (w : NotedAt n x l vs arrs vs′ arrs′) where
-  -- one without parts leaves its own note
-  pub single-analysed : (m : Node) → sortOf m ≡ Command → Single m → Parts table n m → (r : Labelling) → r ≡ analyse (commandIn table n) x l
-      → Analysed (commandIn table n) x l vs arrs vs′ arrs′ r
+  -- and it leaves its own note
+  pub single-analysed : {ns′ : List ℕ} → NotedAt n x l ns ns′ → (m : Node) → nodeIn table n ≡ m → sortOf m ≡ Command → OneOf unnamedCommand (tagOf the-type m)
+      → {r : Labelling} → r ≡ analyse (commandIn table n) x l → Analysed (commandIn table n) x l ns ns′ r
   unfolding annotate standing
-  single-analysed =
-      command-kinds (λ m. Single m → Parts table n m → (r : Labelling) → r ≡ analyse (commandIn table n) x l → Analysed (commandIn table n) x l vs arrs vs′ arrs′ r)
-      (λ s p r q. rw p (alone-analysed w (pre .room .fit) (skip n) (λ k. refl) (w .here) (rw p at q)))
-      (λ v e s p r q. rw (p .2) (alone-analysed w (pre .room .fit) (assign n v (numericIn table e)) (λ k. refl) (w .here) (rw (p .2) at q)))
-      (λ c d s p r q. absurd (s .noSequence c d refl))
-      (λ b c d s p r q. absurd (s .noIf b c d refl))
-      (λ b c s p r q. absurd (s .noWhile b c refl))
-      (λ v a i s p r q. rw (p .3) (alone-analysed w (pre .room .fit) (read n v a (numericIn table i)) (λ k. refl) (w .here) (rw (p .3) at q)))
-      (λ a i e s p r q. rw (p .3) (alone-analysed w (pre .room .fit) (write n a (numericIn table i) (numericIn table e)) (λ k. refl) (w .here) (rw (p .3) at q)))
+  single-analysed {ns′} w m is sort o {r} q =
+      command-kinds (λ m. nodeIn table n ≡ m → OneOf unnamedCommand (tagOf the-type m) → Analysed (commandIn table n) x l ns ns′ r)
+      (λ is o. let p = parts-of Skip is in rw p (alone-analysed w (skip n) (λ k. refl) (w .here) (rw p at q)))
+      (λ v e is o. let p = parts-of (Assign v e) is in rw (p .2) (alone-analysed w (assign n v (numericIn table e)) (λ k. refl) (w .here) (rw (p .2) at q)))
+      (λ c d is o. absurd (miss unnamedCommand 13 tt o))
+      (λ b c d is o. absurd (miss unnamedCommand 14 tt o))
+      (λ b c is o. absurd (miss unnamedCommand 15 tt o))
+      (λ v a i is o. let p = parts-of (Read v a i) is in rw (p .3) (alone-analysed w (read n v a (numericIn table i)) (λ k. refl) (w .here) (rw (p .3) at q)))
+      (λ a i e is o. let p = parts-of (Write a i e) is in
+      rw (p .3) (alone-analysed w (write n a (numericIn table i) (numericIn table e)) (λ k. refl) (w .here) (rw (p .3) at q)))
+      m sort is o
 
-  module _ (first : length vs′ ≡ length vs) (second : length arrs′ ≡ length arrs) where
-    entered-room : NoteRoom table vs′ arrs′
-    entered-room = same-room (pre .room) first second (w .fit (pre .room .fit))
+  -- ---- two parts, analysed one after the other
+  module _ {s1 : List ℕ} (w : NotedAt n x l ns s1) (long : length s1 ≡ length ns) (c d : ℕ)
+      (once : (k : ℕ) → cond (eqb k n) 1 0 + standing k (commandIn table c) + standing k (commandIn table d) ≤ 1)
+      (p : Child table Command n c) (q : Child table Command n d) where
+    first-ready : (y : Bool) (m : Labelling) → InOrder ns (commandIn table c) y m → Analysable table index named s1 c y m
+    first-ready y m h =
+        record {
+          node = child-of-sort (pre .node .indexed) p;
+          names = pre .names;
+          distinct = record { once = λ k. omega (arith, once k) };
+          notesFit = same-room (pre .notesFit) long;
+          inOrder = first-in-order w (commandIn table c) (commandIn table d) once y m h;
+        }
 
-    module _ (c d : ℕ) (once : (k : ℕ) → cond (eqb k n) 1 0 + standing k (commandIn table c) + standing k (commandIn table d) ≤ 1)
-        (p : Child table Command n c) (q : Child table Command n d) where
-      entered-pair : (y : Bool) (m k : Labelling) → InOrder vs arrs (commandIn table c) y m → InOrder vs arrs (commandIn table d) y k
-          → PairAnalysable table index vs′ arrs′ c d y m k
-      entered-pair y m k g h =
-          record {
-            firstNode = child-of-sort (pre .node .indexed) p;
-            secondNode = child-of-sort (pre .node .indexed) q;
-            apart = λ i. omega (arith, once i);
-            room = entered-room;
-            firstInOrder = part-ready w (commandIn table c) (λ i. omega (arith, once i)) y m g;
-            secondInOrder = part-ready w (commandIn table d) (λ i. omega (arith, once i)) y k h;
-          }
+    second-ready : {y : Bool} {m r : Labelling} {s2 : List ℕ} → Analysed (commandIn table c) y m s1 s2 r → length s2 ≡ length s1 → (z : Bool) (k : Labelling)
+        → InOrder ns (commandIn table d) z k → Analysable table index named s2 d z k
+    second-ready f e z k h =
+        record {
+          node = child-of-sort (pre .node .indexed) q;
+          names = pre .names;
+          distinct = record { once = λ k. omega (arith, once k) };
+          notesFit = same-room (pre .notesFit) (e ∙ long);
+          inOrder = second-in-order w (commandIn table c) (commandIn table d) once f z k h;
+        }
 
-    module _ (c d : ℕ) (p : Parts table n (Sequence c d)) where
-      sequence-distinct : Distinct (sequence n (commandIn table c) (commandIn table d))
-      sequence-distinct = rw (p .2) at (pre .distinct)
+  module _ {c d : ℕ} (is : nodeIn table n ≡ Sequence c d) where
+    sequence-parts : Parts table n (Sequence c d)
+    sequence-parts = parts-of (Sequence c d) is
 
-      sequence-once : (k : ℕ) → cond (eqb k n) 1 0 + standing k (commandIn table c) + standing k (commandIn table d) ≤ 1
-      unfolding standing
-      sequence-once k = sequence-distinct .once k
+    sequence-distinct : Distinct (sequence n (commandIn table c) (commandIn table d))
+    sequence-distinct = rw (sequence-parts .2) at (pre .distinct)
 
-      -- what a sequence's parts require is there
-      pub sequence-ready : SequenceAnalysable table index vs′ arrs′ c d x l
-      sequence-ready =
-          let o = subst (λ m. InOrder vs arrs m x l) (p .2) (pre .inOrder) in
-          entered-pair c d sequence-once (p .0) (p .1) x l (analyse (commandIn table c) x l) (o .0) (o .1)
+    sequence-once : (k : ℕ) → cond (eqb k n) 1 0 + standing k (commandIn table c) + standing k (commandIn table d) ≤ 1
+    unfolding standing
+    sequence-once k = sequence-distinct .once k
 
-      -- they leave what the sequence does
-      pub sequence-left : {v3 a3 : List ℕ} {s : Labelling} → SequenceAnalysed (commandIn table c) (commandIn table d) x l vs′ arrs′ v3 a3 s
-          → Analysed (commandIn table n) x l vs arrs v3 a3 s
-      sequence-left f = rw (p .2) (sequence-analysed w (commandIn table c) (commandIn table d) sequence-once f)
+    sequence-in-order : InOrder ns (sequence n (commandIn table c) (commandIn table d)) x l
+    sequence-in-order = subst (λ m. InOrder ns m x l) (sequence-parts .2) (pre .inOrder)
 
-    module _ (b c d : ℕ) (p : Parts table n (If b c d)) where
-      if-distinct : Distinct (if n (truthIn table b) (commandIn table c) (commandIn table d))
-      if-distinct = rw (p .3) at (pre .distinct)
+    module _ {s1 : List ℕ} (w : NotedAt n x l ns s1) (long : length s1 ≡ length ns) where
+      -- what a sequence's first part requires is there
+      pub sequence-first : Analysable table index named s1 c x l
+      sequence-first = first-ready w long c d sequence-once (sequence-parts .0) (sequence-parts .1) x l (sequence-in-order .0)
 
-      if-once : (k : ℕ) → cond (eqb k n) 1 0 + standing k (commandIn table c) + standing k (commandIn table d) ≤ 1
-      unfolding standing
-      if-once k = if-distinct .once k
+      module _ {s2 : List ℕ} {r : Labelling} (f : Analysed (commandIn table c) x l s1 s2 r) where
+        -- and what its second part requires, entered with what the first leaves
+        pub sequence-second : length s2 ≡ length s1 → Analysable table index named s2 d x r
+        sequence-second e =
+            second-ready w long c d sequence-once (sequence-parts .0) (sequence-parts .1) f e x r
+            (subst (InOrder ns (commandIn table d) x) (sym (f .answers)) (sequence-in-order .1))
 
-      -- what an if's sides require is there
-      pub if-ready : SidesAnalysable table index vs′ arrs′ b c d x l
-      if-ready =
-          let o = subst (λ m. InOrder vs arrs m x l) (p .3) (pre .inOrder) in
-          record {
-            test = child-of-sort (pre .node .indexed) (p .0);
-            both = entered-pair c d if-once (p .1) (p .2) (labelOfB l (truthIn table b) || x) l l (o .0) (o .1);
-          }
+        pub sequence-left : {s3 : List ℕ} {s : Labelling} → Analysed (commandIn table d) x r s2 s3 s → Analysed (commandIn table n) x l ns s3 s
+        sequence-left g = rw (sequence-parts .2) (sequence-analysed w (commandIn table c) (commandIn table d) sequence-once f g)
 
-      -- they leave what the if does
-      pub if-left : {v3 a3 : List ℕ} {s : Labelling} → SidesAnalysed (truthIn table b) (commandIn table c) (commandIn table d) x l vs′ arrs′ v3 a3 s
-          → Analysed (commandIn table n) x l vs arrs v3 a3 s
-      if-left f = rw (p .3) (if-analysed w (commandIn table c) (commandIn table d) if-once f)
+  module _ {b c d : ℕ} (is : nodeIn table n ≡ If b c d) where
+    if-parts : Parts table n (If b c d)
+    if-parts = parts-of (If b c d) is
 
-    module _ (b c : ℕ) (p : Parts table n (While b c)) where
-      loop-distinct : Distinct (while n (truthIn table b) (commandIn table c))
-      loop-distinct = rw (p .2) at (pre .distinct)
+    if-distinct : Distinct (if n (truthIn table b) (commandIn table c) (commandIn table d))
+    if-distinct = rw (if-parts .3) at (pre .distinct)
 
-      loop-once : (k : ℕ) → cond (eqb k n) 1 0 + standing k (commandIn table c) ≤ 1
-      unfolding standing
-      loop-once k = loop-distinct .once k
+    if-once : (k : ℕ) → cond (eqb k n) 1 0 + standing k (commandIn table c) + standing k (commandIn table d) ≤ 1
+    unfolding standing
+    if-once k = if-distinct .once k
 
+    if-in-order : InOrder ns (if n (truthIn table b) (commandIn table c) (commandIn table d)) x l
+    if-in-order = subst (λ m. InOrder ns m x l) (if-parts .3) (pre .inOrder)
+
+    pub if-named : b < length named
+    if-named = child-named (if-parts .0)
+
+    -- the context of its sides
+    module _ {y : Bool} (guard : y ≡ (labelAt named l b || x)) where
+      guard-is : y ≡ (labelOfB l (truthIn table b) || x)
+      unfolding expressionsOf fieldExpressions expressionOf form flatMap
+      guard-is = guard ∙ ap (λ z. z || x) (truth-is l is (List·Memᴰ·head refl) (if-parts .0))
+
+      module _ {s1 : List ℕ} (w : NotedAt n x l ns s1) (long : length s1 ≡ length ns) where
+        -- what an if's first side requires is there
+        pub if-first : Analysable table index named s1 c y l
+        if-first =
+            first-ready w long c d if-once (if-parts .1) (if-parts .2) y l (subst (λ z. InOrder ns (commandIn table c) z l) (sym guard-is) (if-in-order .0))
+
+        module _ {s2 : List ℕ} {r : Labelling} (f : Analysed (commandIn table c) y l s1 s2 r) where
+          -- and what its second side requires
+          pub if-second : length s2 ≡ length s1 → Analysable table index named s2 d y l
+          if-second e =
+              second-ready w long c d if-once (if-parts .1) (if-parts .2) f e y l (subst (λ z. InOrder ns (commandIn table d) z l) (sym guard-is) (if-in-order .1))
+
+          pub if-left : {s3 : List ℕ} {s t : Labelling} → Analysed (commandIn table d) y l s2 s3 s → t ≡ join r s → Analysed (commandIn table n) x l ns s3 t
+          if-left g j = rw (if-parts .3) (if-analysed w (truthIn table b) (commandIn table c) (commandIn table d) if-once guard-is f g j)
+
+  module _ {b c : ℕ} (is : nodeIn table n ≡ While b c) where
+    loop-parts : Parts table n (While b c)
+    loop-parts = parts-of (While b c) is
+
+    loop-distinct : Distinct (while n (truthIn table b) (commandIn table c))
+    loop-distinct = rw (loop-parts .2) at (pre .distinct)
+
+    loop-once : (k : ℕ) → cond (eqb k n) 1 0 + standing k (commandIn table c) ≤ 1
+    unfolding standing
+    loop-once k = loop-distinct .once k
+
+    loop-in-order : InOrder ns (while n (truthIn table b) (commandIn table c)) x l
+    loop-in-order = subst (λ m. InOrder ns m x l) (loop-parts .2) (pre .inOrder)
+
+    pub body-below : c < n
+    body-below = loop-parts .1 .below
+
+    pub body-room : 2 * c + 1 < length ns
+    body-room = child-room (loop-parts .1)
+
+    module _ {s1 : List ℕ} (w : NotedAt n x l ns s1) where
       -- what settling a loop requires is there
-      pub loop-settleable : Settleable table index vs′ arrs′ b c x l
-      unfolding standing
-      loop-settleable =
+      pub loop-settleable : length s1 ≡ length ns → Settleable table index named s1 b c x l
+      unfolding standing expressionsOf fieldExpressions expressionOf form flatMap
+      loop-settleable long =
+          let ready = loop-ready n (truthIn table b) (commandIn table c) loop-once w loop-in-order in
           record {
-            test = child-of-sort (pre .node .indexed) (p .0);
-            node = child-of-sort (pre .node .indexed) (p .1);
+            test = λ m. truth-is m is (List·Memᴰ·head refl) (loop-parts .0);
+            inside = child-named (loop-parts .0);
+            node = child-of-sort (pre .node .indexed) (loop-parts .1);
+            names = pre .names;
             distinct = distinct-part {c = while n (truthIn table b) (commandIn table c)} (λ k. omega arith) loop-distinct;
-            room = entered-room;
-            inOrder = loop-ready n (truthIn table b) (commandIn table c) loop-once w (subst (λ m. InOrder vs arrs m x l) (p .2) (pre .inOrder));
+            notesFit = same-room (pre .notesFit) long;
+            kept = ready .0;
+            inOrder = ready .1;
           }
 
       -- the settled loop leaves what the while does
-      pub loop-settled : {v2 a2 : List ℕ} {r : Labelling} → SettledLoop (truthIn table b) (commandIn table c) x l vs′ arrs′ v2 a2 r → Analysed (commandIn table n) x l vs arrs v2 a2 r
-      loop-settled f = rw (p .2) (while-analysed n (truthIn table b) (commandIn table c) loop-once w f)
+      pub loop-settled : {s2 : List ℕ} {r : Labelling} → SettledLoop (truthIn table b) (commandIn table c) x l s1 s2 r → Analysed (commandIn table n) x l ns s2 r
+      loop-settled f = rw (loop-parts .2) (while-analysed n (truthIn table b) (commandIn table c) loop-once w f)
 
--- ---- measures
-pub lower : (k n : ℕ) {t : ℕ} → 2 * n + 2 ≡ t → k < n → 2 * k + 3 < t
-lower k n e h = omega arith
+    -- a loop that is entered as it last was is analysed already
+    pub loop-remembered : noteIn ns n ≡ entered n x l → {r : Labelling} → r ≡ noteIn ns c .labelling → Analysed (commandIn table n) x l ns ns r
+    loop-remembered e q =
+        let own = indexed-note table index bytes (pre .node .indexed) c (loop-parts .1 .inside) (loop-parts .1 .isSort) in
+        rw (loop-parts .2)
+        (while-remembered n (truthIn table b) (commandIn table c) loop-once loop-in-order e (q ∙ ap (λ k. noteIn ns k .labelling) (sym own)))
 
-pub pair-lower : (j k n : ℕ) {t : ℕ} → 2 * n + 2 ≡ t → j < n → k < n → 2 * max j k + 3 < t
-pair-lower j k n e g h = omega arith
+-- ---- the answers of `after_single`, by the kind of its node
+module _ {named : List ℕ} {m : Node} {x : Bool} {l r : Labelling} where
+  pub assign-after : {v e : ℕ} → m ≡ Assign v e → r ≡ setLabel l (variableMark v) (labelAt named l e || x) → SingleAfter named m x l r
+  assign-after {v} {e} is q =
+      record {
+        skip = λ f. cc;
+        assign = λ w d f. let a : v ≡ w = cc in let b : e ≡ d = cc in rw (a, b) at q;
+        read = λ w y i f. cc;
+        write = λ y i d f. cc;
+      }
+
+  pub read-after : {v a i : ℕ} → m ≡ Read v a i → r ≡ setLabel l (variableMark v) (labelAt named l i || (labelOf l (arrayMark a) || x)) → SingleAfter named m x l r
+  read-after {v} {a} {i} is q =
+      record {
+        skip = λ f. cc;
+        assign = λ w d f. cc;
+        read = λ w y j f. let b : v ≡ w = cc in let c : a ≡ y = cc in let d : i ≡ j = cc in rw (b, c, d) at q;
+        write = λ y j d f. cc;
+      }
+
+  pub write-after : {a i e : ℕ} → m ≡ Write a i e
+      → r ≡ setLabel l (arrayMark a) (labelOf l (arrayMark a) || (labelAt named l i || (labelAt named l e || x))) → SingleAfter named m x l r
+  write-after {a} {i} {e} is q =
+      record {
+        skip = λ f. cc;
+        assign = λ w d f. cc;
+        read = λ w y j f. cc;
+        write = λ y j d f. let b : a ≡ y = cc in let c : i ≡ j = cc in let g : e ≡ d = cc in rw (b, c, g) at q;
+      }
+
+-- the answer of a command that `after_single` does not name
+module _ (m : Node) (o : OneOf unnamedSingle (tagOf the-type m)) where
+  other-kind : {k : Node} → m ≡ k → OneOf unnamedSingle (tagOf the-type k)
+  other-kind e = subst (λ k. OneOf unnamedSingle (tagOf the-type k)) e o
+
+  pub unnamed-after : (named : List ℕ) (x : Bool) (l : Labelling) → SingleAfter named m x l l
+  unnamed-after named x l =
+      record {
+        skip = λ e. refl;
+        assign = λ v i e. absurd (miss unnamedSingle 12 tt (other-kind e));
+        read = λ v a i e. absurd (miss unnamedSingle 16 tt (other-kind e));
+        write = λ a i v e. absurd (miss unnamedSingle 17 tt (other-kind e));
+      }

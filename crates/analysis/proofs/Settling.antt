@@ -7,7 +7,7 @@ use mathlib.Core.Path.{_≡_, refl, sym, ap, subst, _∙_}
 use native.Mathlib.Decide.{decLe}
 use native.Mathlib.Omega.{arith}
 use lib.Bits.{or-lt}
-use lib.ListN.{length, getD}
+use lib.ListN.{length}
 use Rattle.awhile.specs.Language.{BExp, Com, while, noteOf}
 use Rattle.awhile.specs.declared.Labelling.{Labelling}
 use Rattle.labels.specs.Labellings.{Mark, variableMark, arrayMark, labelOf, labelOfB, join, same, _⊑_}
@@ -57,60 +57,54 @@ fewer-public v a l m h k e = go (decLe (publicAmong (declaredMarks v a) l) (publ
 -- ---- the loop's invariant
 -- Between passes: the masks are between those at the start and what the loop settles at, the kept masks of the body are in order for the
 -- next pass, and notes outside of the body are as they were.
-pub record Passing (b : BExp) (c : Com ℕ) (x : Bool) (start : Labelling) (vs arrs : List ℕ) (m : Labelling) (vs′ arrs′ : List ℕ) : Type 0 where
+pub record Passing (b : BExp) (c : Com ℕ) (x : Bool) (start : Labelling) (ns : List ℕ) (m : Labelling) (ns′ : List ℕ) : Type 0 where
   pub above : start ⊑ m
   pub below : m ⊑ analyse (while (noteOf c) b c) x start
-  pub inOrder : InOrder vs′ arrs′ c (labelOfB m b || x) m
-  pub outside : Outside c vs arrs vs′ arrs′
-  pub fit : (p : ℕ) → getD arrs′ p 0 < 131072
+  pub inOrder : InOrder ns′ c (labelOfB m b || x) m
+  pub outside : Outside c ns ns′
   pub within : Within 64 16 m
-  pub variableLength : length vs′ ≡ length vs
-  pub arrayLength : length arrs′ ≡ length arrs
+  pub long : length ns′ ≡ length ns
 
 module _ (b : BExp) (c : Com ℕ) (x : Bool) where
-  module _ (l : Labelling) (vs arrs : List ℕ) (h : InOrder vs arrs (while (noteOf c) b c) x l) where
-    warm-below : join l (keptIn vs arrs c) ⊑ analyse (while (noteOf c) b c) x l
-    warm-below = join-least l (keptIn vs arrs c) (loop-settles (noteOf c) b c x l .above) (h .0)
+  module _ (l : Labelling) (ns : List ℕ) (kept : keptIn ns c ⊑ analyse (while (noteOf c) b c) x l) where
+    warm-below : join l (keptIn ns c) ⊑ analyse (while (noteOf c) b c) x l
+    warm-below = join-least l (keptIn ns c) (loop-settles (noteOf c) b c x l .above) kept
 
     -- from a warm start the loop settles where it does from the entering labelling
-    pub warm-answer : {start : Labelling} → start ≡ join l (keptIn vs arrs c) → analyse (while (noteOf c) b c) x start ≡ analyse (while (noteOf c) b c) x l
-    warm-answer e = rw e (warm-settles (noteOf c) b c x l (join l (keptIn vs arrs c)) (join-left l (keptIn vs arrs c)) warm-below)
+    pub warm-answer : {start : Labelling} → start ≡ join l (keptIn ns c) → analyse (while (noteOf c) b c) x start ≡ analyse (while (noteOf c) b c) x l
+    warm-answer e = rw e (warm-settles (noteOf c) b c x l (join l (keptIn ns c)) (join-left l (keptIn ns c)) warm-below)
 
     -- the invariant holds at the start
-    pub passing-starts : {start : Labelling} → start ≡ join l (keptIn vs arrs c) → Within 64 16 start → ((p : ℕ) → getD arrs p 0 < 131072)
-        → Passing b c x start vs arrs start vs arrs
-    passing-starts {start} e w f =
+    pub passing-starts : {start : Labelling} → start ≡ join l (keptIn ns c) → Within 64 16 start
+        → InOrder ns c (labelOfB (join l (keptIn ns c)) b || x) (join l (keptIn ns c)) → Passing b c x start ns start ns
+    passing-starts {start} e w h =
         record {
           above = ⊑-refl start;
           below = loop-settles (noteOf c) b c x start .above;
-          inOrder = rw e (h .1);
+          inOrder = rw e h;
           outside = record { same = λ p k. refl };
-          fit = f;
           within = w;
-          variableLength = refl;
-          arrayLength = refl;
+          long = refl;
         }
 
-  module _ {start m r k : Labelling} {y : Bool} {vs arrs vs′ arrs′ us urrs : List ℕ} (h : Passing b c x start vs arrs m vs′ arrs′)
-      (context : y ≡ (labelOfB m b || x)) (pass : Analysed c y m vs′ arrs′ us urrs r) (joined : k ≡ join m r) where
+  module _ {start m r k : Labelling} {y : Bool} {ns ns′ os : List ℕ} (h : Passing b c x start ns m ns′)
+      (context : y ≡ (labelOfB m b || x)) (pass : Analysed c y m ns′ os r) (joined : k ≡ join m r) where
     passed-once : r ≡ loopPass b c x m
     passed-once = pass .answers ∙ ap (λ z. analyse c z m) context
 
     -- and again after a pass
-    pub passing-next : Within 64 16 r → length us ≡ length vs′ → length urrs ≡ length arrs′ → Passing b c x start vs arrs k us urrs
-    passing-next w e f =
+    pub passing-next : Within 64 16 r → length os ≡ length ns′ → Passing b c x start ns k os
+    passing-next w e =
         let settled : Settled (loopPass b c x) start (analyse (while (noteOf c) b c) x start) = loop-settles (noteOf c) b c x start in
         let up : m ⊑ join m r = join-left m r in
         rw joined
         (record {
           above = ⊑-trans (h .above) up;
           below = rw passed-once (between-pass (loopPass b c x) (loopPass-mono (noteOf c) b c x) settled (h .above) (h .below));
-          inOrder = noted-in-order us urrs c (pass .notes) (rw context (or-mono (labelOfB-mono up b) (λ e. e))) up;
+          inOrder = noted-in-order os c (pass .notes) (rw context (or-mono (labelOfB-mono up b) (λ e. e))) up;
           outside = record { same = λ p s. pass .outside .same p s ∙ h .outside .same p s };
-          fit = pass .fit;
           within = join-within 64 16 m r (h .within) w;
-          variableLength = e ∙ h .variableLength;
-          arrayLength = f ∙ h .arrayLength;
+          long = e ∙ h .long;
         })
 
     -- a pass that adds a secret leaves fewer marks public
@@ -118,7 +112,7 @@ module _ (b : BExp) (c : Com ℕ) (x : Bool) where
     passing-falls w e = rw joined (fewer-public 64 16 m r (h .within) w (rw joined at e))
 
     -- where a pass adds no secret, its masks are the settled ones, and the body is noted with them
-    pub passing-ends : {l : Labelling} → analyse (while (noteOf c) b c) x start ≡ analyse (while (noteOf c) b c) x l → same k m ≡ true → SettledLoop b c x l vs arrs us urrs m
+    pub passing-ends : {l : Labelling} → analyse (while (noteOf c) b c) x start ≡ analyse (while (noteOf c) b c) x l → same k m ≡ true → SettledLoop b c x l ns os m
     passing-ends {l} answer e =
         let settled : Settled (loopPass b c x) start (analyse (while (noteOf c) b c) x start) = loop-settles (noteOf c) b c x start in
         let idle : join m r ≡ m = sym joined ∙ same-iff k m .0 e in
@@ -127,5 +121,4 @@ module _ (b : BExp) (c : Com ℕ) (x : Bool) where
           answers = between-settled (loopPass b c x) (loopPass-mono (noteOf c) b c x) settled (h .above) (h .below) closed ∙ answer;
           notes = rw context at (pass .notes);
           outside = record { same = λ p s. pass .outside .same p s ∙ h .outside .same p s };
-          fit = pass .fit;
         }

@@ -1,21 +1,21 @@
--- Warm starts give the results of the analysis: kept masks stay in order, and what one analysis leaves is in order for every larger one.
+-- Warm starts give the results of the analysis: notes stay in order, and what one analysis leaves is in order for every larger one.
 use Prim.Native.Nat.{ℕ, _+_, _≤_}
-use mathlib.Core.Bool.{Bool, true, le, true≢false, _||_}
+use mathlib.Core.Bool.{Bool, false, le, _||_}
 use mathlib.Core.List.{List}
 use mathlib.Core.Path.{_≡_, refl, sym, ap, subst, _∙_}
 use native.Mathlib.Omega.{arith}
 use borrow.Author.Tests.{eq-eqb}
 use Rattle.awhile.specs.Language.{BExp, Com, skip, assign, sequence, if, while, read, write, noteOf}
 use Rattle.awhile.specs.declared.Labelling.{Labelling}
-use Rattle.labels.specs.Labellings.{Mark, variableMark, arrayMark, labelOf, labelOfB, join, _⊑_}
+use Rattle.labels.specs.Labellings.{labelOfB, join, _⊑_}
 use Rattle.labels.specs.Analysis.{analyse}
 use Rattle.labels.specs.Annotation.{Entry, entered, annotate}
 use Rattle.analysis.specs.Notes.{noteIn, Noted}
-use Rattle.analysis.specs.Warm.{standing, Outside, keptIn, InOrder}
+use Rattle.analysis.specs.Warm.{standing, Outside, keptIn, Remembered, InOrder}
 use Rattle.labels.proofs.Booleans.{or-mono}
 use Rattle.labels.proofs.Order.{⊑-trans, ⊑-antisym, join-right, labelOfB-mono}
-use Rattle.labels.proofs.Masks.{bit-above}
 use Rattle.labels.proofs.Analysis.{analyse-mono, loop-settles}
+use Rattle.analysis.proofs.AllPublic.{nothing, public-least, nothing-in-B, nothing-secret}
 
 -- a command stands in itself
 pub stands : (c : Com ℕ) → 1 ≤ standing (noteOf c) c
@@ -29,50 +29,24 @@ stands (read n v a i) = rw (eq-eqb n n refl) (omega arith)
 stands (write n a i e) = rw (eq-eqb n n refl) (omega arith)
 
 -- the notes of a command's commands are the same before and after
-pub record SameOn (c : Com ℕ) (vs arrs vs′ arrs′ : List ℕ) : Type 0 where
-  pub same : (p : ℕ) → 1 ≤ standing p c → noteIn vs′ arrs′ p ≡ noteIn vs arrs p
+pub record SameOn (c : Com ℕ) (ns ns′ : List ℕ) : Type 0 where
+  pub same : (p : ℕ) → 1 ≤ standing p c → noteIn ns′ p ≡ noteIn ns p
 
-module _ {vs arrs vs′ arrs′ : List ℕ} where
+module _ {ns ns′ : List ℕ} where
   -- what is the same for a command is the same for its parts
-  same-part : {c d : Com ℕ} → ((p : ℕ) → standing p d ≤ standing p c) → SameOn c vs arrs vs′ arrs′ → SameOn d vs arrs vs′ arrs′
+  same-part : {c d : Com ℕ} → ((p : ℕ) → standing p d ≤ standing p c) → SameOn c ns ns′ → SameOn d ns ns′
   same-part h s = record { same = λ p k. s .same p (omega (arith, h p)) }
 
   -- what changed outside of a command left the notes of its commands
-  pub outside-same : {c d : Com ℕ} → ((p : ℕ) → standing p c + standing p d ≤ 1) → Outside d vs arrs vs′ arrs′ → SameOn c vs arrs vs′ arrs′
+  pub outside-same : {c d : Com ℕ} → ((p : ℕ) → standing p c + standing p d ≤ 1) → Outside d ns ns′ → SameOn c ns ns′
   outside-same h o = record { same = λ p k. o .same p (omega (arith, h p)) }
 
-  kept-same : (c : Com ℕ) → SameOn c vs arrs vs′ arrs′ → keptIn vs′ arrs′ c ≡ keptIn vs arrs c
+  kept-same : (c : Com ℕ) → SameOn c ns ns′ → keptIn ns′ c ≡ keptIn ns c
   unfolding keptIn
   kept-same c s = ap (λ (e : Entry). e .labelling) (s .same (noteOf c) (stands c))
 
-  -- the same for a loop, from its body
-  pub in-order-loop : (n : ℕ) (b : BExp) (c : Com ℕ) (x : Bool) (l : Labelling) → SameOn c vs arrs vs′ arrs′
-      → ((y : Bool) (m : Labelling) → InOrder vs arrs c y m → InOrder vs′ arrs′ c y m) → InOrder vs arrs (while n b c) x l → InOrder vs′ arrs′ (while n b c) x l
-  in-order-loop n b c x l s body h =
-      subst (λ (k : Labelling). (k ⊑ analyse (while n b c) x l) × InOrder vs′ arrs′ c (labelOfB (join l k) b || x) (join l k)) (sym (kept-same c s))
-      (h .0, body (labelOfB (join l (keptIn vs arrs c)) b || x) (join l (keptIn vs arrs c)) (h .1))
-
-  -- masks that are in order stay so while the notes of the command stay
-  pub in-order-same : (c : Com ℕ) (x : Bool) (l : Labelling) → SameOn c vs arrs vs′ arrs′ → InOrder vs arrs c x l → InOrder vs′ arrs′ c x l
-  unfolding standing
-  in-order-same (skip n) x l s h = tt
-  in-order-same (assign n v e) x l s h = tt
-  in-order-same (sequence n c d) x l s h = (
-    in-order-same c x l (same-part {c = sequence n c d} (λ p. omega arith) s) (h .0),
-    in-order-same d x (analyse c x l) (same-part {c = sequence n c d} (λ p. omega arith) s) (h .1),
-  )
-  in-order-same (if n b c d) x l s h = (
-    in-order-same c (labelOfB l b || x) l (same-part {c = if n b c d} (λ p. omega arith) s) (h .0),
-    in-order-same d (labelOfB l b || x) l (same-part {c = if n b c d} (λ p. omega arith) s) (h .1),
-  )
-  in-order-same (while n b c) x l s h =
-      let t : SameOn c vs arrs vs′ arrs′ = same-part {c = while n b c} (λ p. omega arith) s in
-      in-order-loop n b c x l t (λ y m. in-order-same c y m t) h
-  in-order-same (read n v a i) x l s h = tt
-  in-order-same (write n a i e) x l s h = tt
-
   -- notes stay right while they stay
-  pub noted-same : (c : Com ℕ) (x : Bool) (l : Labelling) → SameOn c vs arrs vs′ arrs′ → Noted vs arrs (annotate c x l) → Noted vs′ arrs′ (annotate c x l)
+  pub noted-same : (c : Com ℕ) (x : Bool) (l : Labelling) → SameOn c ns ns′ → Noted ns (annotate c x l) → Noted ns′ (annotate c x l)
   unfolding standing annotate noteOf
   noted-same (skip n) x l s h = s .same n (stands (skip n)) ∙ h
   noted-same (assign n v e) x l s h = s .same n (stands (assign n v e)) ∙ h
@@ -92,18 +66,45 @@ module _ {vs arrs vs′ arrs′ : List ℕ} where
   noted-same (read n v a i) x l s h = s .same n (stands (read n v a i)) ∙ h
   noted-same (write n a i e) x l s h = s .same n (stands (write n a i e)) ∙ h
 
--- a labelling with no secret is below every other
-pub public-least : (l : Labelling) → record { variables = 0; arrays = 0 } ⊑ l
-unfolding labelOf
-public-least l = record { at = λ k e. go k e }
-  where
-    go : (k : Mark) → labelOf (record { variables = 0; arrays = 0 }) k ≡ true → labelOf l k ≡ true
-    go (variableMark x) e = absurd (true≢false (sym e ∙ bit-above 0 0 x (omega arith) (omega arith)))
-    go (arrayMark a) e = absurd (true≢false (sym e ∙ bit-above 0 0 a (omega arith) (omega arith)))
+  -- what was last analysed stays remembered while the notes of the command stay
+  remembered-same : (c : Com ℕ) → SameOn c ns ns′ → Remembered ns c → Remembered ns′ c
+  unfolding Remembered
+  remembered-same c s h =
+      subst (λ (e : Entry). Noted ns′ (annotate c (e .context) (e .labelling))) (sym (s .same (noteOf c) (stands c)))
+      (noted-same c (noteIn ns (noteOf c) .context) (noteIn ns (noteOf c) .labelling) s h)
 
-module _ (vs arrs : List ℕ) where
+  -- what a loop keeps, and what is inside its body
+  pub body-in-order : (n : ℕ) (b : BExp) (c : Com ℕ) (x : Bool) (l : Labelling) → SameOn c ns ns′
+      → ((y : Bool) (m : Labelling) → InOrder ns c y m → InOrder ns′ c y m)
+      → keptIn ns c ⊑ analyse (while n b c) x l → InOrder ns c (labelOfB (join l (keptIn ns c)) b || x) (join l (keptIn ns c))
+      → (keptIn ns′ c ⊑ analyse (while n b c) x l) × InOrder ns′ c (labelOfB (join l (keptIn ns′ c)) b || x) (join l (keptIn ns′ c))
+  body-in-order n b c x l s body h k =
+      subst (λ (m : Labelling). (m ⊑ analyse (while n b c) x l) × InOrder ns′ c (labelOfB (join l m) b || x) (join l m)) (sym (kept-same c s))
+      (h, body (labelOfB (join l (keptIn ns c)) b || x) (join l (keptIn ns c)) k)
+
+  -- masks that are in order stay so while the notes of the command stay
+  pub in-order-same : (c : Com ℕ) (x : Bool) (l : Labelling) → SameOn c ns ns′ → InOrder ns c x l → InOrder ns′ c x l
+  unfolding standing
+  in-order-same (skip n) x l s h = tt
+  in-order-same (assign n v e) x l s h = tt
+  in-order-same (sequence n c d) x l s h = (
+    in-order-same c x l (same-part {c = sequence n c d} (λ p. omega arith) s) (h .0),
+    in-order-same d x (analyse c x l) (same-part {c = sequence n c d} (λ p. omega arith) s) (h .1),
+  )
+  in-order-same (if n b c d) x l s h = (
+    in-order-same c (labelOfB l b || x) l (same-part {c = if n b c d} (λ p. omega arith) s) (h .0),
+    in-order-same d (labelOfB l b || x) l (same-part {c = if n b c d} (λ p. omega arith) s) (h .1),
+  )
+  in-order-same (while n b c) x l s h =
+      let t : SameOn c ns ns′ = same-part {c = while n b c} (λ p. omega arith) s in
+      let k = body-in-order n b c x l t (λ y m. in-order-same c y m t) (h .0) (h .1) in
+      (k .0, k .1, remembered-same (while n b c) s (h .2))
+  in-order-same (read n v a i) x l s h = tt
+  in-order-same (write n a i e) x l s h = tt
+
+module _ (ns : List ℕ) where
   -- the note of a noted command
-  pub noted-note : (c : Com ℕ) (x : Bool) (l : Labelling) → Noted vs arrs (annotate c x l) → noteIn vs arrs (noteOf c) ≡ entered (noteOf c) x l
+  pub noted-note : (c : Com ℕ) (x : Bool) (l : Labelling) → Noted ns (annotate c x l) → noteIn ns (noteOf c) ≡ entered (noteOf c) x l
   unfolding annotate noteOf
   noted-note (skip n) x l h = h
   noted-note (assign n v e) x l h = h
@@ -113,12 +114,22 @@ module _ (vs arrs : List ℕ) where
   noted-note (read n v a i) x l h = h
   noted-note (write n a i e) x l h = h
 
-  kept-noted : (c : Com ℕ) (x : Bool) (l : Labelling) → Noted vs arrs (annotate c x l) → keptIn vs arrs c ≡ l
+  kept-noted : (c : Com ℕ) (x : Bool) (l : Labelling) → Noted ns (annotate c x l) → keptIn ns c ≡ l
   unfolding keptIn
   kept-noted c x l h = ap (λ (e : Entry). e .labelling) (noted-note c x l h)
 
+  -- what an analysis left is remembered
+  noted-remembered : (c : Com ℕ) (x : Bool) (l : Labelling) → Noted ns (annotate c x l) → Remembered ns c
+  unfolding Remembered
+  noted-remembered c x l h = rw (noted-note c x l h) h
+
+  -- a command that is remembered as entered so is noted so
+  pub remembered-noted : (c : Com ℕ) (x : Bool) (l : Labelling) → Remembered ns c → noteIn ns (noteOf c) ≡ entered (noteOf c) x l → Noted ns (annotate c x l)
+  unfolding Remembered
+  remembered-noted c x l h e = rw e at h
+
   -- what one analysis leaves is in order for every larger labelling and context
-  pub noted-in-order : (c : Com ℕ) {x y : Bool} {l m : Labelling} → Noted vs arrs (annotate c x l) → le x y → l ⊑ m → InOrder vs arrs c y m
+  pub noted-in-order : (c : Com ℕ) {x y : Bool} {l m : Labelling} → Noted ns (annotate c x l) → le x y → l ⊑ m → InOrder ns c y m
   unfolding annotate
   noted-in-order (skip n) h k p = tt
   noted-in-order (assign n v e) h k p = tt
@@ -128,25 +139,43 @@ module _ (vs arrs : List ℕ) where
       (noted-in-order c (h .1) q p, noted-in-order d (h .2) q p)
   noted-in-order (while n b c) {x} {y} {l} {m} h k p =
       let s : Labelling = analyse (while n b c) x l in
-      let e : keptIn vs arrs c ≡ s = kept-noted c (labelOfB s b || x) s (h .1) in
+      let e : keptIn ns c ≡ s = kept-noted c (labelOfB s b || x) s (h .1) in
       let q : s ⊑ join m s = join-right m s in
-      subst (λ (k : Labelling). (k ⊑ analyse (while n b c) y m) × InOrder vs arrs c (labelOfB (join m k) b || y) (join m k)) (sym e)
-      (analyse-mono (while n b c) k p, noted-in-order c (h .1) (or-mono (labelOfB-mono q b) k) q)
+      let body : (keptIn ns c ⊑ analyse (while n b c) y m) × InOrder ns c (labelOfB (join m (keptIn ns c)) b || y) (join m (keptIn ns c)) =
+      subst (λ (k : Labelling). (k ⊑ analyse (while n b c) y m) × InOrder ns c (labelOfB (join m k) b || y) (join m k)) (sym e)
+      (analyse-mono (while n b c) k p, noted-in-order c (h .1) (or-mono (labelOfB-mono q b) k) q) in
+      (body .0, body .1, noted-remembered (while n b c) x l h)
   noted-in-order (read n v a i) h k p = tt
   noted-in-order (write n a i e) h k p = tt
 
-  -- where nothing is kept, that is in order for every analysis
-  pub fresh-in-order : ((p : ℕ) → noteIn vs arrs p .labelling ≡ record { variables = 0; arrays = 0 }) → (c : Com ℕ) (x : Bool) (l : Labelling) → InOrder vs arrs c x l
-  unfolding keptIn
-  fresh-in-order h (skip n) x l = tt
-  fresh-in-order h (assign n v e) x l = tt
-  fresh-in-order h (sequence n c d) x l = (fresh-in-order h c x l, fresh-in-order h d x (analyse c x l))
-  fresh-in-order h (if n b c d) x l = (fresh-in-order h c (labelOfB l b || x) l, fresh-in-order h d (labelOfB l b || x) l)
-  fresh-in-order h (while n b c) x l =
-      let m : Labelling = join l (keptIn vs arrs c) in
-      (rw (h (noteOf c)) (public-least (analyse (while n b c) x l)), fresh-in-order h c (labelOfB m b || x) m)
-  fresh-in-order h (read n v a i) x l = tt
-  fresh-in-order h (write n a i e) x l = tt
+  -- notes that are all public and in a public context are those of an analysis that starts so
+  module _ (h : (p : ℕ) → noteIn ns p ≡ entered p false nothing) where
+    fresh-noted : (c : Com ℕ) → Noted ns (annotate c false nothing)
+    unfolding annotate
+    fresh-noted (skip n) = h n
+    fresh-noted (assign n v e) = h n
+    fresh-noted (sequence n c d) = (h n, fresh-noted c, rw (nothing-secret c) (fresh-noted d))
+    fresh-noted (if n b c d) = (h n, rw (nothing-in-B b) (fresh-noted c), rw (nothing-in-B b) (fresh-noted d))
+    fresh-noted (while n b c) = (h n, rw (nothing-secret (while n b c), nothing-in-B b) (fresh-noted c))
+    fresh-noted (read n v a i) = h n
+    fresh-noted (write n a i e) = h n
+
+    fresh-remembered : (c : Com ℕ) → Remembered ns c
+    unfolding Remembered
+    fresh-remembered c = rw (h (noteOf c)) (fresh-noted c)
+
+    -- and in order for every analysis
+    pub fresh-in-order : (c : Com ℕ) (x : Bool) (l : Labelling) → InOrder ns c x l
+    unfolding keptIn
+    fresh-in-order (skip n) x l = tt
+    fresh-in-order (assign n v e) x l = tt
+    fresh-in-order (sequence n c d) x l = (fresh-in-order c x l, fresh-in-order d x (analyse c x l))
+    fresh-in-order (if n b c d) x l = (fresh-in-order c (labelOfB l b || x) l, fresh-in-order d (labelOfB l b || x) l)
+    fresh-in-order (while n b c) x l =
+        let m : Labelling = join l (keptIn ns c) in
+        (rw (keptIn, h (noteOf c)) (public-least (analyse (while n b c) x l)), fresh-in-order c (labelOfB m b || x) m, fresh-remembered (while n b c))
+    fresh-in-order (read n v a i) x l = tt
+    fresh-in-order (write n a i e) x l = tt
 
 -- a loop settles at the same labelling from wherever between the entering labelling and that it starts
 pub warm-settles : (n : ℕ) (b : BExp) (c : Com ℕ) (x : Bool) (l m : Labelling) → l ⊑ m → m ⊑ analyse (while n b c) x l → analyse (while n b c) x m ≡ analyse (while n b c) x l

@@ -1,5 +1,5 @@
--- The analysis of a whole program: what it requires is there where the notes are all zero, and what it leaves is what the sheet is written from.
-use Prim.Native.Nat.{ℕ, zero, suc, _-_, _≤_}
+-- The analysis of a whole program: what it requires is there where the notes are all zero, and it leaves the notes of the annotated program.
+use Prim.Native.Nat.{ℕ, zero, suc, _+_, _*_, _-_, _≤_}
 use mathlib.Core.Bool.{false}
 use mathlib.Core.List.{List}
 use mathlib.Core.Path.{_≡_, refl, sym, ap, _∙_}
@@ -12,48 +12,45 @@ use Rattle.awhile.specs.declared.Labelling.{Labelling}
 use Rattle.reader.proofs.Index.{indexed-well-formed, indexed-some, indexed-root, indexed-root-sort}
 use Rattle.labels.specs.Analysis.{analyse}
 use Rattle.analysis.specs.Notes.{noteIn}
-use Rattle.labels.specs.Sheet.{annotated}
-use Rattle.analysis.specs.Conditions.{NoteRoom, Analysable, Analysed, Fresh, Sheetable, finalLabels}
+use Rattle.labels.specs.Annotation.{entered}
+use Rattle.labels.specs.Sheet.{annotated, finalLabels}
+use Rattle.variables.specs.Named.{Named}
+use Rattle.analysis.specs.Conditions.{Analysable, Analysed, Fresh, Labelled}
+use Rattle.analysis.proofs.AllPublic.{nothing}
 use Rattle.analysis.proofs.CommandCases.{same-room}
 use Rattle.analysis.proofs.Standing.{root-distinct}
 use Rattle.analysis.proofs.Warm.{fresh-in-order}
 
-module _ {table index vs arrs : List ℕ} (bytes : Below 256 table) (h : Fresh table index vs arrs) where
-  -- nothing is kept in notes that are all zero
-  fresh-notes : (p : ℕ) → noteIn vs arrs p .labelling ≡ record { variables = 0; arrays = 0 }
+module _ {table index named ns : List ℕ} (bytes : Below 256 table) (h : Fresh table index named ns) where
+  -- notes that are all zero say: entered with nothing secret, in a public context
+  fresh-notes : (p : ℕ) → noteIn ns p ≡ entered p false nothing
   unfolding noteIn
-  fresh-notes p = rw (h .noVariables p, h .noArrays p)
-
-  fresh-room : NoteRoom table vs arrs
-  fresh-room = record { variables = h .variables; arrays = h .arrays; fit = λ p. omega (arith, h .noArrays p) }
+  fresh-notes p = rw (h .zeros (2 * p), h .zeros (2 * p + 1))
 
   -- the root can be analysed
-  pub root-analysable : (l : Labelling) → Analysable table index vs arrs (nodesIn table - 1) false l
+  pub root-analysable : (l : Labelling) → Analysable table index named ns (nodesIn table - 1) false l
   root-analysable l =
       let some = indexed-some table index bytes (h .indexed) in
       let root : rootOf (tableOf table) ≡ commandIn table (nodesIn table - 1) = indexed-root table index bytes (h .indexed) in
       record {
         node = record { indexed = h .indexed; inside = omega arith; isSort = indexed-root-sort table index bytes (h .indexed) };
+        names = h .names;
         distinct = rw root at (root-distinct (tableOf table) (indexed-well-formed table index bytes (h .indexed)));
-        room = fresh-room;
-        inOrder = fresh-in-order vs arrs fresh-notes (commandIn table (nodesIn table - 1)) false l;
+        notesFit = h .notesFit;
+        inOrder = fresh-in-order ns fresh-notes (commandIn table (nodesIn table - 1)) false l;
       }
 
-  module _ {vs′ arrs′ : List ℕ} {l r : Labelling} (e : l ≡ tableOf table .labels) (a : Analysed (commandIn table (nodesIn table - 1)) false l vs arrs vs′ arrs′ r) where
+  module _ {ns′ : List ℕ} {l r : Labelling} (a : Analysed (commandIn table (nodesIn table - 1)) false l ns ns′ r) where
     -- its analysis answers the labelling after the program
-    pub root-answer : r ≡ finalLabels (tableOf table)
+    pub root-answer : r ≡ finalLabels (tableOf table) l
     unfolding finalLabels
-    root-answer = a .answers ∙ ap (analyse (commandIn table (nodesIn table - 1)) false) e ∙ ap (λ c. analyse c false (tableOf table .labels)) (sym (indexed-root table index bytes (h .indexed)))
+    root-answer = a .answers ∙ ap (λ c. analyse c false l) (sym (indexed-root table index bytes (h .indexed)))
 
-    -- and leaves what the sheet is written from
-    pub root-sheetable : length vs′ ≡ length vs → length arrs′ ≡ length arrs → Sheetable table index vs′ arrs′
+    -- and leaves the notes of its commands
+    pub root-labelled : length ns′ ≡ length ns → Labelled table ns′ l
     unfolding annotated
-    root-sheetable f g =
-        record {
-          indexed = h .indexed;
-          room = same-room fresh-room f g (a .fit);
-          notes = rw (indexed-root table index bytes (h .indexed), ← e) (a .notes);
-        }
+    root-labelled e =
+        record { notesFit = same-room (h .notesFit) e; notes = rw (indexed-root table index bytes (h .indexed)) (a .notes) }
 
 -- every element of zeros is zero
 zero-at : (room p : ℕ) → getD {A = ℕ} (replicate room 0) p 0 ≡ 0
@@ -62,12 +59,11 @@ zero-at (suc room) zero = refl
 zero-at (suc room) (suc p) = zero-at room p
 
 -- notes that were just made are all zero
-pub fresh-zeros : {table index : List ℕ} (room : ℕ) → Indexed table index → nodesIn table ≤ room → Fresh table index (replicate room 0) (replicate room 0)
-fresh-zeros room i h =
+pub fresh-zeros : {table index named : List ℕ} (room : ℕ) → Indexed table index → Named table named → 2 * nodesIn table ≤ room → Fresh table index named (replicate room 0)
+fresh-zeros room i n h =
     record {
       indexed = i;
-      variables = rw (length-replicate {A = ℕ} room 0) h;
-      arrays = rw (length-replicate {A = ℕ} room 0) h;
-      noVariables = zero-at room;
-      noArrays = zero-at room;
+      names = n;
+      notesFit = record { room = rw (length-replicate {A = ℕ} room 0) h };
+      zeros = zero-at room;
     }

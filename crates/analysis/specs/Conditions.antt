@@ -1,123 +1,89 @@
--- What the functions of src/ require of a table, its index and the notes, and what the analysis leaves.
-use Prim.Native.Nat.{ℕ, _+_, _<_, _≤_}
-use mathlib.Core.Bool.{Bool, false, _||_}
+-- What the functions of src/ require of a table, its index, the variables named for its expressions and the notes, and what the analysis leaves.
+use Prim.Native.Nat.{ℕ, _*_, _<_, _≤_}
+use mathlib.Core.Bool.{Bool, _||_}
 use mathlib.Core.List.{List}
 use mathlib.Core.Path.{_≡_}
 use lib.ListN.{length, getD}
-use Rattle.reader.specs.Index.{Indexed, tableOf, nodesIn, nodeIn, truthIn, commandIn, OfSort}
+use Rattle.reader.specs.Index.{Indexed, tableOf, nodesIn, truthIn, commandIn, OfSort}
 use Rattle.awhile.specs.Language.{BExp, Com, while, noteOf}
-use Rattle.awhile.specs.Tables.{Table}
-use Rattle.awhile.specs.Trees.{rootOf}
 use Rattle.awhile.specs.declared.Labelling.{Labelling}
 use Rattle.awhile.specs.declared.Node.{Node}
-use Rattle.awhile.specs.declared.Node.the-variants.{Sequence, If, While}
+use Rattle.awhile.specs.declared.Node.the-variants.{Skip, Assign, Read, Write}
 use Rattle.awhile.specs.declared.Sort.the-variants.{Truth, Command}
-use Rattle.labels.specs.Labellings.{labelOfB, join}
+use Rattle.labels.specs.Labellings.{variableMark, arrayMark, labelOf, setLabel, labelOfB, join, _⊑_}
 use Rattle.labels.specs.Analysis.{analyse}
 use Rattle.labels.specs.Annotation.{annotate}
-use Rattle.analysis.specs.Notes.{noteIn, Noted}
 use Rattle.labels.specs.Sheet.{annotated}
-use Rattle.analysis.specs.Warm.{standing, Distinct, Outside, InOrder}
+use Rattle.variables.specs.Variables.{meet}
+use Rattle.variables.specs.Named.{Named}
+use Rattle.analysis.specs.Notes.{noteIn, Noted}
+use Rattle.analysis.specs.Warm.{Distinct, Outside, keptIn, InOrder}
 
--- the two slices of notes have room for all nodes, and every array note fits a doubled mask
-pub record NoteRoom (table vs arrs : List ℕ) : Type 0 where
-  pub variables : nodesIn table ≤ length vs
-  pub arrays : nodesIn table ≤ length arrs
-  pub fit : (p : ℕ) → getD arrs p 0 < 131072
+-- ---- commands without parts, by what is named for their expressions
+-- the label of the expression at a node
+abbrev pub labelAt : (named : List ℕ) → Labelling → (node : ℕ) → Bool
+labelAt named l e = meet (l .variables) (getD named e 0)
 
--- what the analysis of a command requires: its commands have numbers of their own, and the kept masks are in order
-pub record Analysable (table index vs arrs : List ℕ) (n : ℕ) (x : Bool) (l : Labelling) : Type 0 where
+-- the fields of such a command are in bounds
+pub record SingleFits (room : ℕ) (node : Node) : Type 0 where
+  pub assign : (x e : ℕ) → node ≡ Assign x e → (x < 64) × (e < room)
+  pub read : (x a i : ℕ) → node ≡ Read x a i → (x < 64) × (i < room)
+  pub write : (a i e : ℕ) → node ≡ Write a i e → (a < 16) × (i < room) × (e < room)
+
+-- the labelling after it
+pub record SingleAfter (named : List ℕ) (node : Node) (x : Bool) (l result : Labelling) : Type 0 where
+  pub skip : node ≡ Skip → result ≡ l
+  pub assign : (v e : ℕ) → node ≡ Assign v e → result ≡ setLabel l (variableMark v) (labelAt named l e || x)
+  pub read : (v a i : ℕ) → node ≡ Read v a i → result ≡ setLabel l (variableMark v) (labelAt named l i || (labelOf l (arrayMark a) || x))
+  pub write : (a i e : ℕ) → node ≡ Write a i e
+      → result ≡ setLabel l (arrayMark a) (labelOf l (arrayMark a) || (labelAt named l i || (labelAt named l e || x)))
+
+-- ---- commands
+-- there is room for the notes of all nodes
+pub record NoteRoom (table notes : List ℕ) : Type 0 where
+  pub room : 2 * nodesIn table ≤ length notes
+
+-- what the analysis of a command requires: its expressions are named, its commands have numbers of their own, and the notes are in order
+pub record Analysable (table index named notes : List ℕ) (n : ℕ) (x : Bool) (l : Labelling) : Type 0 where
   pub node : OfSort table index Command n
+  pub names : Named table named
   pub distinct : Distinct (commandIn table n)
-  pub room : NoteRoom table vs arrs
-  pub inOrder : InOrder vs arrs (commandIn table n) x l
+  pub notesFit : NoteRoom table notes
+  pub inOrder : InOrder notes (commandIn table n) x l
 
--- what the analysis of a command leaves: the labelling after it, the notes of its commands, and all other notes as they were
-pub record Analysed (c : Com ℕ) (x : Bool) (l : Labelling) (vs arrs vs′ arrs′ : List ℕ) (result : Labelling) : Type 0 where
+-- what it leaves: the labelling after it, the notes of its commands, and all other notes as they were
+pub record Analysed (c : Com ℕ) (x : Bool) (l : Labelling) (ns ns′ : List ℕ) (result : Labelling) : Type 0 where
   pub answers : result ≡ analyse c x l
-  pub notes : Noted vs′ arrs′ (annotate c x l)
-  pub outside : Outside c vs arrs vs′ arrs′
-  pub fit : (p : ℕ) → getD arrs′ p 0 < 131072
+  pub notes : Noted ns′ (annotate c x l)
+  pub outside : Outside c ns ns′
 
--- a node that is no command with command parts
-pub record Single (node : Node) : Type 0 where
-  pub noSequence : (c d : ℕ) → node ≡ Sequence c d → ⊥
-  pub noIf : (b c d : ℕ) → node ≡ If b c d → ⊥
-  pub noWhile : (b c : ℕ) → node ≡ While b c → ⊥
-
--- such a node, in a table that was read and indexed
-pub record SingleIn (table index : List ℕ) (node : Node) : Type 0 where
-  pub at : ℕ
-  pub command : OfSort table index Command at
-  pub isNode : node ≡ nodeIn table at
-  pub single : Single node
-
--- the labelling after it, wherever it stands
-pub record SingleAnalysed (table : List ℕ) (node : Node) (x : Bool) (l result : Labelling) : Type 0 where
-  pub answers : (n : ℕ) → n < nodesIn table → node ≡ nodeIn table n → result ≡ analyse (commandIn table n) x l
-
--- what the analysis of two commands one after the other requires, each entered with a labelling of its own
-pub record PairAnalysable (table index vs arrs : List ℕ) (first second : ℕ) (x : Bool) (l m : Labelling) : Type 0 where
-  pub firstNode : OfSort table index Command first
-  pub secondNode : OfSort table index Command second
-  pub apart : (p : ℕ) → standing p (commandIn table first) + standing p (commandIn table second) ≤ 1
-  pub room : NoteRoom table vs arrs
-  pub firstInOrder : InOrder vs arrs (commandIn table first) x l
-  pub secondInOrder : InOrder vs arrs (commandIn table second) x m
-
--- and what it leaves: the notes of both, and all other notes as they were
-pub record PairAnalysed (c d : Com ℕ) (x : Bool) (l m : Labelling) (vs arrs vs′ arrs′ : List ℕ) : Type 0 where
-  pub firstNotes : Noted vs′ arrs′ (annotate c x l)
-  pub secondNotes : Noted vs′ arrs′ (annotate d x m)
-  pub outside : (p : ℕ) → standing p c + standing p d ≡ 0 → noteIn vs′ arrs′ p ≡ noteIn vs arrs p
-  pub fit : (p : ℕ) → getD arrs′ p 0 < 131072
-
--- the parts of a sequence: the second is entered with what the first leaves
-abbrev pub SequenceAnalysable : (table index vs arrs : List ℕ) → (first second : ℕ) → Bool → Labelling → Type 0
-SequenceAnalysable table index vs arrs c d x l = PairAnalysable table index vs arrs c d x l (analyse (commandIn table c) x l)
-
-pub record SequenceAnalysed (c d : Com ℕ) (x : Bool) (l : Labelling) (vs arrs vs′ arrs′ : List ℕ) (result : Labelling) : Type 0 where
-  pub answers : result ≡ analyse d x (analyse c x l)
-  pub both : PairAnalysed c d x l (analyse c x l) vs arrs vs′ arrs′
-
--- the sides of an if: both are entered with what enters it, in the context of its condition
-pub record SidesAnalysable (table index vs arrs : List ℕ) (condition first second : ℕ) (x : Bool) (l : Labelling) : Type 0 where
-  pub test : OfSort table index Truth condition
-  pub both : PairAnalysable table index vs arrs first second (labelOfB l (truthIn table condition) || x) l l
-
-pub record SidesAnalysed (b : BExp) (c d : Com ℕ) (x : Bool) (l : Labelling) (vs arrs vs′ arrs′ : List ℕ) (result : Labelling) : Type 0 where
-  pub answers : result ≡ join (analyse c (labelOfB l b || x) l) (analyse d (labelOfB l b || x) l)
-  pub both : PairAnalysed c d (labelOfB l b || x) l l vs arrs vs′ arrs′
-
--- what settling a loop requires, from its condition and its body
-pub record Settleable (table index vs arrs : List ℕ) (condition body : ℕ) (x : Bool) (l : Labelling) : Type 0 where
-  pub test : OfSort table index Truth condition
+-- what settling a loop requires, from its condition and its body: the variables named for the condition are its own
+pub record Settleable (table index named notes : List ℕ) (condition body : ℕ) (x : Bool) (l : Labelling) : Type 0 where
+  pub test : (m : Labelling) → labelAt named m condition ≡ labelOfB m (truthIn table condition)
+  pub inside : condition < length named
   pub node : OfSort table index Command body
+  pub names : Named table named
   pub distinct : Distinct (commandIn table body)
-  pub room : NoteRoom table vs arrs
-  pub inOrder : InOrder vs arrs (while (noteOf (commandIn table body)) (truthIn table condition) (commandIn table body)) x l
+  pub notesFit : NoteRoom table notes
+  pub kept : keptIn notes (commandIn table body) ⊑ analyse (while (noteOf (commandIn table body)) (truthIn table condition) (commandIn table body)) x l
+  pub inOrder : InOrder notes (commandIn table body)
+      (labelOfB (join l (keptIn notes (commandIn table body))) (truthIn table condition) || x) (join l (keptIn notes (commandIn table body)))
 
 -- what settling a loop leaves: the settled labelling, the notes of its body as entered with it, and all other notes as they were
-pub record SettledLoop (b : BExp) (c : Com ℕ) (x : Bool) (l : Labelling) (vs arrs vs′ arrs′ : List ℕ) (result : Labelling) : Type 0 where
+pub record SettledLoop (b : BExp) (c : Com ℕ) (x : Bool) (l : Labelling) (ns ns′ : List ℕ) (result : Labelling) : Type 0 where
   pub answers : result ≡ analyse (while (noteOf c) b c) x l
-  pub notes : Noted vs′ arrs′ (annotate c (labelOfB result b || x) result)
-  pub outside : Outside c vs arrs vs′ arrs′
-  pub fit : (p : ℕ) → getD arrs′ p 0 < 131072
+  pub notes : Noted ns′ (annotate c (labelOfB result b || x) result)
+  pub outside : Outside c ns ns′
 
--- the labelling after a table's program
-unfoldable pub finalLabels : Table → Labelling
-finalLabels t = analyse (rootOf t) false (t .labels)
-
--- what writing the sheet requires: a table that was read and indexed, and the notes of its analysis
-pub record Sheetable (table index vs arrs : List ℕ) : Type 0 where
+-- ---- whole programs
+-- what the analysis of a whole program requires: its expressions are named, and the notes are all zero
+pub record Fresh (table index named notes : List ℕ) : Type 0 where
   pub indexed : Indexed table index
-  pub room : NoteRoom table vs arrs
-  pub notes : Noted vs arrs (annotated (tableOf table))
+  pub names : Named table named
+  pub notesFit : NoteRoom table notes
+  pub zeros : (p : ℕ) → getD notes p 0 ≡ 0
 
--- what the analysis of a whole program requires: room for the notes, which are all zero
-pub record Fresh (table index vs arrs : List ℕ) : Type 0 where
-  pub indexed : Indexed table index
-  pub variables : nodesIn table ≤ length vs
-  pub arrays : nodesIn table ≤ length arrs
-  pub noVariables : (p : ℕ) → getD vs p 0 ≡ 0
-  pub noArrays : (p : ℕ) → getD arrs p 0 ≡ 0
+-- what it leaves: the notes of the program's commands, as they are entered when the analysis starts from this labelling
+pub record Labelled (table ns : List ℕ) (l : Labelling) : Type 0 where
+  pub notesFit : NoteRoom table ns
+  pub notes : Noted ns (annotated (tableOf table) l)

@@ -1,7 +1,5 @@
-// Follows secret and public labels through a table, and writes the label sheet.
+// Follows secret and public labels through a table.
 pub mod commands;
-pub mod expressions;
 pub mod labelling;
 pub mod noting;
 pub mod program;
-pub mod sheet;

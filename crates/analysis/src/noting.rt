@@ -1,46 +1,62 @@
-// The notes of commands, kept by node number in two lent slices: the variable mask, and the array mask doubled with the context as the
-// lowest digit.
+// The notes of commands, kept by node number in a lent slice, two words each: the variable mask, and the array mask doubled with the context as
+// the lowest digit.
 use awhile::Labelling;
-ghost use Prim.Native.Nat.{_<_, _%_};
-ghost use mathlib.Core.Bool.{cond};
-ghost use lib.Dec.{eqb};
+ghost use Prim.Native.Nat.{_+_, _*_, _<_};
+ghost use mathlib.Core.Bool.{cond, true};
 ghost use mathlib.Core.Path.{_≡_};
-ghost use lib.ListN.{length, getD, set};
+ghost use lib.ListN.{length, set};
 ghost use Rattle.labels.specs.Annotation.{entered};
-ghost use Rattle.analysis.specs.Notes.{noteIn, arrayNote};
+ghost use Rattle.analysis.specs.Notes.{noteIn, secondWord};
 
-// The digit of a context.
-fn context_digit(context: bool) -> u32
-    ensures { λ r. ⌜ r ≡ cond context 1 0 ⌝ }
+// The second word of a note.
+fn second_word(context: bool, arrays: u16) -> u64
+    ensures { λ r. ⌜ r ≡ 2 * arrays + cond context 1 0 ⌝ }
 {
-    if context { 1 } else { 0 }
+    if context {
+        2 * (arrays as u64) + 1
+    } else {
+        2 * (arrays as u64)
+    }
 }
 
 // Notes what enters the command of node n.
-pub fn note(variables: &mut [u64], arrays: &mut [u32], n: usize, context: bool, labels: Labelling)
-    requires { ⌜ (n < length (now variables)) × (n < length (now arrays)) ⌝ }
-    ensures { λ _. ⌜ (now (variables .exit) ≡ set (now (variables .entry)) n (labels .variables))
-        × (now (arrays .exit) ≡ set (now (arrays .entry)) n (arrayNote (entered n context labels))) ⌝ }
+pub fn note(notes: &mut [u64], n: usize, context: bool, labels: Labelling)
+    requires { ⌜ 2 * n + 1 < length (now notes) ⌝ }
+    ensures { λ _. ⌜ now (notes .exit) ≡ set (set (now (notes .entry)) (2 * n) (labels .variables)) (2 * n + 1) (secondWord (entered n context labels)) ⌝ }
 {
-    variables[n] = labels.variables;
-    arrays[n] = 2 * (labels.arrays as u32) + context_digit(context);
+    let at = 2 * n;
+    notes[at] = labels.variables;
+    notes[at + 1] = second_word(context, labels.arrays);
 }
 
 // The labelling noted for node n.
-pub fn noted_labelling(variables: &[u64], arrays: &[u32], n: usize) -> Labelling
-    requires { ⌜ (n < length (now variables)) × (n < length (now arrays)) × (getD (now arrays) n 0 < 131072) ⌝ }
-    ensures { λ r. ⌜ r ≡ noteIn (now (variables .entry)) (now (arrays .entry)) n .labelling ⌝ }
+pub fn noted_labelling(notes: &[u64], n: usize) -> Labelling
+    requires { ⌜ 2 * n + 1 < length (now notes) ⌝ }
+    ensures { λ r. ⌜ r ≡ noteIn (now (notes .entry)) n .labelling ⌝ }
 {
+    let at = 2 * n;
     Labelling {
-        variables: variables[n],
-        arrays: (arrays[n] / 2) as u16,
+        variables: notes[at],
+        arrays: (notes[at + 1] / 2 % 65536) as u16,
     }
 }
 
 // The context noted for node n.
-pub fn noted_context(arrays: &[u32], n: usize) -> bool
-    requires { ⌜ n < length (now arrays) ⌝ }
-    ensures { λ r. ⌜ r ≡ eqb (getD (now (arrays .entry)) n 0 % 2) 1 ⌝ }
+pub fn noted_context(notes: &[u64], n: usize) -> bool
+    requires { ⌜ 2 * n + 1 < length (now notes) ⌝ }
+    ensures { λ r. ⌜ r ≡ noteIn (now (notes .entry)) n .context ⌝ }
 {
-    arrays[n] % 2 == 1
+    notes[2 * n + 1] % 2 == 1
+}
+
+// Whether the note of node n says this context and this labelling.
+pub fn noted_as(notes: &[u64], n: usize, context: bool, labels: Labelling) -> bool
+    requires { ⌜ 2 * n + 1 < length (now notes) ⌝ }
+    ensures { λ r. ⌜ (r ≡ true → noteIn (now (notes .entry)) n ≡ entered n context labels) ⌝ }
+{
+    let at = 2 * n;
+    if notes[at] == labels.variables {
+        return notes[at + 1] == second_word(context, labels.arrays);
+    }
+    false
 }

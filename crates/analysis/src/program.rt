@@ -2,27 +2,27 @@
 use crate::commands::analyse;
 use awhile::Labelling;
 ghost use mathlib.Core.Path.{_≡_};
+ghost use Rattle.labels.specs.Sheet.{finalLabels};
 ghost use Rattle.reader.specs.Index.{tableOf, nodesIn};
-ghost use Rattle.analysis.specs.Conditions.{Fresh, Sheetable, finalLabels};
+ghost use Rattle.analysis.specs.Conditions.{Fresh, Labelled};
 
-// The labelling after a table's program, from the labels record. The notes, all zero before, are those of the program's commands after.
+// The labelling after a table's program, where it starts from this one. The notes, all zero before, are those of the program's commands after.
 pub fn label_program(
     table: &[u8],
     index: &[u16],
-    variables: &mut [u64],
-    arrays: &mut [u32],
+    named: &[u64],
+    notes: &mut [u64],
     count: usize,
     labels: Labelling,
 ) -> Labelling
-    requires { ⌜ Fresh (now table) (now index) (now variables) (now arrays) × (count ≡ nodesIn (now table)) × (labels ≡ tableOf (now table) .labels) ⌝ }
-    ensures { λ r. ⌜ (r ≡ finalLabels (tableOf (now (table .entry))))
-        × Sheetable (now (table .entry)) (now (index .entry)) (now (variables .exit)) (now (arrays .exit)) ⌝ }
+    requires { ⌜ Fresh (now table) (now index) (now named) (now notes) × (count ≡ nodesIn (now table)) ⌝ }
+    ensures { λ r. ⌜ (r ≡ finalLabels (tableOf (now (table .entry))) labels) × Labelled (now (table .entry)) (now (notes .exit)) labels ⌝ }
 {
     analyse(
         table,
         index,
-        &mut *variables,
-        &mut *arrays,
+        named,
+        &mut *notes,
         count - 1,
         false,
         labels,

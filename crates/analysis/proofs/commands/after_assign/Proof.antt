@@ -1,4 +1,4 @@
--- `after_assign` labels the variable with the join of expression and context.
+-- `after_assign` labels the variable.
 use borrow.Author.Needs.{needs}
 use Rattle.analysis.proofs.commands.after_assign.Statement.{statement}
 use Rattle.analysis.proofs.commands.after_assign.Tie as tie
@@ -10,4 +10,4 @@ after-assign-spec =
     (λ c κs. search needs)
     (λ c κs. search needs)
     (λ c κs. search needs)
-    (λ c. rw (c .label-variable .ensures, c .before .either .ensures, c .before .before .numeric-label .ensures)))
+    (λ c. rw (c .label-variable .ensures, c .before .either .ensures, c .before .before .named-label .ensures)))

@@ -1,4 +1,4 @@
--- `after_write` labels the array.
+-- `after_write` labels the array: its label, index, value and context are joined.
 use borrow.Author.Needs.{needs}
 use Rattle.analysis.proofs.commands.after_write.Statement.{statement}
 use Rattle.analysis.proofs.commands.after_write.Tie as tie
@@ -9,4 +9,9 @@ after-write-spec =
     (tie.spec
     (λ c κs. search needs)
     (λ c κs. search needs)
-    (λ c. rw (c .label-array .ensures, c .before .write-label .ensures)))
+    (λ c κs. search needs)
+    (λ c κs. search needs)
+    (λ c κs. search needs)
+    (λ c κs. search needs)
+    (λ c κs. search needs)
+    (λ c. rw (c .label-array .ensures, c .before .either3 .ensures, c .before .before .array-label .ensures, c .before .before .before .either2 .ensures, c .before .before .before .before .named-label2 .ensures, c .before .before .before .before .before .either .ensures, c .before .before .before .before .before .before .named-label .ensures)))

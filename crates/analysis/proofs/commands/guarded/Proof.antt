@@ -1,4 +1,4 @@
--- `guarded` joins the condition to the context.
+-- `guarded` joins the condition's label to the context.
 use borrow.Author.Needs.{needs}
 use Rattle.analysis.proofs.commands.guarded.Statement.{statement}
 use Rattle.analysis.proofs.commands.guarded.Tie as tie
@@ -9,4 +9,4 @@ guarded-spec =
     (tie.spec
     (λ c κs. search needs)
     (λ c κs. search needs)
-    (λ c. rw (c .either .ensures, c .before .truth-label .ensures)))
+    (λ c. rw (c .either .ensures, c .before .named-label .ensures)))

@@ -1,12 +1,7 @@
 -- `read_label` joins index, array and context.
-use Rattle.labels.specs.Analysis.{readLabel}
 use borrow.Author.Needs.{needs}
 use Rattle.analysis.proofs.commands.read_label.Statement.{statement}
 use Rattle.analysis.proofs.commands.read_label.Tie as tie
-
-returns : tie.Need-returns
-unfolding readLabel
-returns c = rw (c .either2 .ensures, c .before .numeric-label .ensures, c .before .before .either .ensures, c .before .before .before .array-label .ensures)
 
 pub read-label-spec : {M : Type 1} → statement M
 read-label-spec =
@@ -16,4 +11,4 @@ read-label-spec =
     (λ c κs. search needs)
     (λ c κs. search needs)
     (λ c κs. search needs)
-    returns)
+    (λ c. rw (c .either2 .ensures, c .before .named-label .ensures, c .before .before .either .ensures, c .before .before .before .array-label .ensures)))

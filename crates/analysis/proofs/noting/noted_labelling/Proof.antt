@@ -1,6 +1,6 @@
 -- `noted_labelling` reads the two masks.
-use Rattle.analysis.specs.Notes.{noteIn}
 use mathlib.Core.Path.{refl}
+use Rattle.analysis.specs.Notes.{noteIn}
 use borrow.Author.Needs.{needs}
 use Rattle.analysis.proofs.noting.noted_labelling.Statement.{statement}
 use Rattle.analysis.proofs.noting.noted_labelling.Tie as tie
@@ -10,6 +10,8 @@ unfolding noteIn
 noted-labelling-spec =
     tie.close
     (tie.spec
+    (λ c. search needs)
+    (λ c. search needs)
     (λ c. search needs)
     (λ c. search needs)
     (λ c. search needs)

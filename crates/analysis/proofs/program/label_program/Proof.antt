@@ -3,30 +3,28 @@ use native.Mathlib.Omega.{arith}
 use denote.Ref.{now}
 use Rattle.bytes_le.proofs.Numbers.{slice-bytes}
 use Rattle.reader.proofs.Index.{indexed-some}
-use Rattle.analysis.proofs.WholeProgram.{root-analysable, root-answer, root-sheetable}
+use Rattle.analysis.proofs.WholeProgram.{root-analysable, root-answer, root-labelled}
 use borrow.Author.Needs.{needs}
 use Rattle.analysis.proofs.program.label_program.Statement.{statement}
 use Rattle.analysis.proofs.program.label_program.Tie as tie
 
 sub-analyse : tie.Need-sub-analyse
 sub-analyse c =
-    let start = c .before .before .before .before .before .before in
+    let start = c .before .before .before .before .before in
     let table = now (start .args .table) in
-    omega (arith, indexed-some table (now (start .args .index)) (slice-bytes table (c .before .before .before .before .before .shared-slice-known .given)) (start .pre .0 .indexed), start .pre .1)
+    omega (arith, indexed-some table (now (start .args .index)) (slice-bytes table (c .before .before .before .before .shared-slice-known .given)) (start .pre .0 .indexed), start .pre .1)
 
 analyse-requires : tie.Need-analyse-requires
 analyse-requires c κs =
-    let start = c .before .before .before .before .before .before in
-    rw (start .pre .1) (root-analysable (slice-bytes (now (start .args .table)) (c .before .before .before .before .before .shared-slice-known .given)) (start .pre .0) (start .args .labels))
+    let start = c .before .before .before .before .before in
+    rw (start .pre .1) (root-analysable (slice-bytes (now (start .args .table)) (c .before .before .before .before .shared-slice-known .given)) (start .pre .0) (start .args .labels))
 
 returns : tie.Need-returns
 returns c =
-    let start = c .before .before .before .before .before .before .before .before .before .before .before in
-    let bytes = slice-bytes (now (start .args .table)) (c .before .before .before .before .before .before .before .before .before .before .shared-slice-known .given) in
-    let left = rw (start .pre .1) at (c .before .before .before .before .analyse .ensures) in (
-      root-answer bytes (start .pre .0) (start .pre .2) left,
-      root-sheetable bytes (start .pre .0) (start .pre .2) left (c .before .before .before .before .analyse .kept .1 .1 .0) (c .before .before .before .before .analyse .kept .1 .1 .1 .0),
-    )
+    let start = c .before .before .before .before .before .before .before .before in
+    let bytes = slice-bytes (now (start .args .table)) (c .before .before .before .before .before .before .before .shared-slice-known .given) in
+    let left = rw (start .pre .1) at (c .before .before .analyse .ensures) in
+    (root-answer bytes (start .pre .0) left, root-labelled bytes (start .pre .0) left (c .before .before .analyse .kept .1 .1 .1 .0))
 
 pub label-program-spec : {M : Type 1} → statement M
 label-program-spec =
@@ -34,6 +32,5 @@ label-program-spec =
     (tie.spec
     sub-analyse
     analyse-requires
-    (λ c. search needs)
     (λ c. search needs)
     returns)
