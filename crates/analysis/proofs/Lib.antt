@@ -6,3 +6,4 @@ pub mod CommandNotes
 pub mod CommandCases
 pub mod Standing
 pub mod WholeProgram
+pub mod NotedPrograms

@@ -46,7 +46,13 @@ fn after_assign(
 }
 
 // The label that the read of an array gives to its variable.
-pub fn read_label(named: &[u64], array: usize, cell: usize, context: bool, labels: Labelling) -> bool
+pub fn read_label(
+    named: &[u64],
+    array: usize,
+    cell: usize,
+    context: bool,
+    labels: Labelling,
+) -> bool
     requires { ⌜ cell < length (now named) ⌝ }
     ensures { λ r. ⌜ r ≡ (labelAt (now (named .entry)) labels cell || (labelOf labels (arrayMark array) || context)) ⌝ }
 {
@@ -189,15 +195,7 @@ fn analyse_sequence(
 {
     note(&mut *notes, n, context, labels);
     let between = analyse(table, index, named, &mut *notes, first, context, labels);
-    analyse(
-        table,
-        index,
-        named,
-        &mut *notes,
-        second,
-        context,
-        between,
-    )
+    analyse(table, index, named, &mut *notes, second, context, between)
 }
 
 // An if: both sides are entered with what enters it, in the context of its condition.

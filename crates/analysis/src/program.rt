@@ -18,13 +18,5 @@ pub fn label_program(
     requires { ⌜ Fresh (now table) (now index) (now named) (now notes) × (count ≡ nodesIn (now table)) ⌝ }
     ensures { λ r. ⌜ (r ≡ finalLabels (tableOf (now (table .entry))) labels) × Labelled (now (table .entry)) (now (notes .exit)) labels ⌝ }
 {
-    analyse(
-        table,
-        index,
-        named,
-        &mut *notes,
-        count - 1,
-        false,
-        labels,
-    )
+    analyse(table, index, named, &mut *notes, count - 1, false, labels)
 }

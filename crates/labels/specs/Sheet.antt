@@ -1,7 +1,7 @@
 -- The label sheet's bytes: kind 128, then by node number the records of sequences, ifs, whiles, reads and writes.
-use Prim.Native.Nat.{ℕ, zero, suc}
+use Prim.Native.Nat.{ℕ, zero, suc, _+_}
 use mathlib.Core.Bool.{Bool, false, cond}
-use mathlib.Core.List.{List, [], _++_, flatMap}
+use mathlib.Core.List.{List, [], _∷_, _++_, flatMap}
 use lib.ListN.{length}
 use lib.Dec.{eqb}
 use Rattle.bytes_le.specs.Numbers.{le}
@@ -13,48 +13,69 @@ use Rattle.labels.specs.Labellings.{labelOfA, labelOfB}
 use Rattle.labels.specs.Analysis.{analyse, readLabel}
 use Rattle.labels.specs.Annotation.{Entry, annotate, parts}
 
-unfoldable pub masksBytes : Labelling → List ℕ
-masksBytes l = le 4 (l .variables) ++ le 2 (l .arrays)
+-- what a field of a record holds: a number in 2 bytes, a label, or the two masks of a labelling
+pub data SheetField : Type 0 where
+  number : ℕ → SheetField
+  label : Bool → SheetField
+  masks : Labelling → SheetField
+
+-- a record of the sheet: its kind and its fields
+pub record SheetRecord : Type 0 where
+  pub kind : ℕ
+  pub fields : List SheetField
+
+abbrev pub recordOf : ℕ → List SheetField → SheetRecord
+recordOf k fs = record { kind = k; fields = fs }
 
 -- "Label 1 is secret."
-unfoldable pub labelBytes : Bool → List ℕ
-labelBytes b = le 2 (cond b 1 0)
+unfoldable pub fieldBytes : SheetField → List ℕ
+fieldBytes (number n) = le 2 n
+fieldBytes (label b) = le 2 (cond b 1 0)
+fieldBytes (masks l) = le 4 (l .variables) ++ le 2 (l .arrays)
+
+unfoldable pub fieldsBytes : List SheetField → List ℕ
+fieldsBytes fs = flatMap fieldBytes fs
+
+-- "A record is a 2-byte length (of the whole record), a 2-byte kind, then fields"
+unfoldable pub recordBytes : SheetRecord → List ℕ
+recordBytes r = le 2 (4 + length (fieldsBytes (r .fields))) ++ (le 2 (r .kind) ++ fieldsBytes (r .fields))
 
 -- the labelling on entry to a command
 unfoldable pub entryOf : Com Entry → Labelling
 entryOf c = noteOf c .labelling
 
--- the record of one command. A sequence's masks after its first part are its second part's entry; a loop's settled masks are its
+-- the record of one command, if it has one. A sequence's masks after its first part are its second part's entry; a loop's settled masks are its
 -- body's entry, and its condition is labelled by them. "Condition and index labels leave the context out; 132's variable label is the one
 -- the read gives."
-unfoldable pub sheetRecord : Com Entry → List ℕ
-sheetRecord (skip e) = []
-sheetRecord (assign e v a) = []
-sheetRecord (sequence e c d) = le 2 12 ++ (le 2 129 ++ (le 2 (e .node) ++ masksBytes (entryOf d)))
-sheetRecord (if e b c d) = le 2 8 ++ (le 2 130 ++ (le 2 (e .node) ++ labelBytes (labelOfB (e .labelling) b)))
-sheetRecord (while e b c) = le 2 14 ++ (le 2 131 ++ (le 2 (e .node) ++ (labelBytes (labelOfB (entryOf c) b) ++ masksBytes (entryOf c))))
-sheetRecord (read e v a i) =
-    le 2 10 ++ (le 2 132 ++ (le 2 (e .node) ++ (labelBytes (readLabel (e .labelling) (e .context) a i) ++ labelBytes (labelOfA (e .labelling) i))))
-sheetRecord (write e a i v) = le 2 8 ++ (le 2 133 ++ (le 2 (e .node) ++ labelBytes (labelOfA (e .labelling) i)))
-
--- how many bytes a command's record has
-unfoldable pub recordLength : {Note : Type 0} → Com Note → ℕ
-recordLength (skip n) = 0
-recordLength (assign n v e) = 0
-recordLength (sequence n c d) = 12
-recordLength (if n b c d) = 8
-recordLength (while n b c) = 14
-recordLength (read n v a i) = 10
-recordLength (write n a i e) = 8
+unfoldable pub commandRecords : Com Entry → List SheetRecord
+commandRecords (skip e) = []
+commandRecords (assign e v a) = []
+commandRecords (sequence e c d) = recordOf 129 (number (e .node) ∷ masks (entryOf d) ∷ []) ∷ []
+commandRecords (if e b c d) = recordOf 130 (number (e .node) ∷ label (labelOfB (e .labelling) b) ∷ []) ∷ []
+commandRecords (while e b c) = recordOf 131 (number (e .node) ∷ label (labelOfB (entryOf c) b) ∷ masks (entryOf c) ∷ []) ∷ []
+commandRecords (read e v a i) =
+    recordOf 132 (number (e .node) ∷ label (readLabel (e .labelling) (e .context) a i) ∷ label (labelOfA (e .labelling) i) ∷ []) ∷ []
+commandRecords (write e a i v) = recordOf 133 (number (e .node) ∷ label (labelOfA (e .labelling) i) ∷ []) ∷ []
 
 -- the record of the command with this number, if there is one
-unfoldable pub recordOf : Com Entry → (node : ℕ) → List ℕ
-recordOf c n = flatMap (λ (p : Com Entry). cond (eqb (noteOf p .node) n) (sheetRecord p) []) (parts c)
+unfoldable pub recordsAt : Com Entry → (node : ℕ) → List SheetRecord
+recordsAt c n = flatMap (λ (p : Com Entry). cond (eqb (noteOf p .node) n) (commandRecords p) []) (parts c)
 
 -- the records of the nodes below a number, by node number
-unfoldable pub recordsBelow : Com Entry → ℕ → List ℕ
+unfoldable pub recordsBelow : Com Entry → ℕ → List SheetRecord
 recordsBelow c zero = []
-recordsBelow c (suc n) = recordsBelow c n ++ recordOf c n
+recordsBelow c (suc n) = recordsBelow c n ++ recordsAt c n
+
+-- the first record: version 1, the number of nodes, and the masks after the program
+unfoldable pub headRecord : (nodes : ℕ) → (final : Labelling) → SheetRecord
+headRecord n final = recordOf 128 (number 1 ∷ number n ∷ masks final ∷ [])
+
+-- the sheet of an annotated program with so many nodes and this labelling after it: its records, and their bytes
+unfoldable pub sheetRecords : (nodes : ℕ) → Com Entry → (final : Labelling) → List SheetRecord
+sheetRecords n a final = headRecord n final ∷ recordsBelow a n
+
+unfoldable pub sheetOf : (nodes : ℕ) → Com Entry → (final : Labelling) → List ℕ
+sheetOf n a final = flatMap recordBytes (sheetRecords n a final)
 
 -- the program of a table with its labels: "a labelling and a context, public at the root". Which labelling it starts from is given.
 unfoldable pub annotated : Table → Labelling → Com Entry
@@ -63,10 +84,6 @@ annotated t l = annotate (rootOf t) false l
 -- the labelling after it
 unfoldable pub finalLabels : Table → Labelling → Labelling
 finalLabels t l = analyse (rootOf t) false l
-
--- the sheet of an annotated program with so many nodes and this labelling after it
-unfoldable pub sheetOf : (nodes : ℕ) → Com Entry → (final : Labelling) → List ℕ
-sheetOf n a final = le 2 14 ++ (le 2 128 ++ (le 2 1 ++ (le 2 n ++ (masksBytes final ++ recordsBelow a n))))
 
 -- the sheet of a table whose analysis starts from a labelling
 unfoldable pub sheetBytes : Table → Labelling → List ℕ

@@ -1,68 +1,93 @@
 -- The sheet as its first record and the records of the nodes, and how long they are.
-use Prim.Native.Nat.{ℕ, zero, suc, _+_, _≤_}
+use Prim.Native.Nat.{ℕ, zero, suc, _+_, _*_, _≤_, _<_}
+use native.Mathlib.Decide.{ℕ-discrete}
 use native.Mathlib.Numerals.{add-one}
 use native.Mathlib.Omega.{arith}
-use native.Mathlib.Decide.{ℕ-discrete}
 use mathlib.Core.Path.{_≡_, refl, sym, ap, _∙_}
-use mathlib.Core.List.{List, [], _∷_, _++_}
+use mathlib.Core.List.{List, [], _∷_, _++_, append-nil, flatMap}
 use lib.ListN.{length, length-append}
 use lib.Seq.{sets}
 use Rattle.bytes_le.specs.Numbers.{le}
 use Rattle.awhile.specs.Language.{Com}
-use Rattle.awhile.specs.Tables.{Table}
+use Rattle.awhile.specs.declared.Labelling.{Labelling}
+use Rattle.awhile.proofs.Lists.{flatMap-append}
+use Rattle.reader.specs.Index.{nodesIn}
 use Rattle.labels.specs.Annotation.{Entry}
-use Rattle.analysis.specs.Conditions.{finalLabels}
-use Rattle.labels.specs.Sheet.{masksBytes, recordOf, recordsBelow, annotated, sheetOf, sheetBytes}
-use Rattle.analysis.proofs.Stored.{stored-then}
+use Rattle.labels.specs.Sheet.{SheetRecord, fieldBytes, fieldsBytes, recordBytes, recordsAt, recordsBelow, headRecord, sheetRecords, sheetOf}
+use Rattle.analysis.specs.Notes.{notedProgram}
+use Rattle.sheet.specs.Rows.{rowRecords, rowBytes, rowSize, recordsIn, sheetIn}
+use Rattle.sheet.specs.declared.rows.Row.{Row}
+use Rattle.sheet.specs.declared.rows.Row.the-variants.{Nothing, Masks, Label, Labels, LabelMasks}
+use Rattle.sheet.proofs.Stored.{stored-then}
 
--- the sheet's first record
-unfoldable pub finalRecord : Table → List ℕ
-finalRecord t = le 2 14 ++ (le 2 128 ++ (le 2 1 ++ (le 2 (length (t .nodes)) ++ masksBytes (finalLabels t))))
+-- ---- one record
+pub row-length : (r : Row) (n : ℕ) → length (rowBytes r n) ≡ rowSize r
+unfolding rowBytes rowRecords rowSize recordBytes fieldsBytes fieldBytes flatMap le
+row-length Nothing n = refl
+row-length (Masks k l) n = refl
+row-length (Label k b) n = refl
+row-length (Labels k a b) n = refl
+row-length (LabelMasks k b l) n = refl
 
--- the sheet is that record and the nodes' records
-pub sheet-split : (t : Table) → finalRecord t ++ recordsBelow (annotated t) (length (t .nodes)) ≡ sheetBytes t
-unfolding finalRecord finalLabels sheetBytes sheetOf masksBytes le
-sheet-split t = refl
+-- no record has more than 14 bytes
+pub row-short : (r : Row) → rowSize r ≤ 14
+unfolding rowSize
+row-short Nothing = omega arith
+row-short (Masks k l) = omega arith
+row-short (Label k b) = omega arith
+row-short (Labels k a b) = omega arith
+row-short (LabelMasks k b l) = omega arith
 
--- it has 14 bytes
-pub final-length : (t : Table) → length (finalRecord t) ≡ 14
-unfolding finalRecord masksBytes le
-final-length t = refl
+-- the first has 14
+pub head-length : (n : ℕ) (final : Labelling) → length (recordBytes (headRecord n final)) ≡ 14
+unfolding recordBytes headRecord fieldsBytes fieldBytes flatMap le
+head-length n final = refl
 
--- how long the sheet is
-pub sheet-length : (t : Table) → length (sheetBytes t) ≡ 14 + length (recordsBelow (annotated t) (length (t .nodes)))
-sheet-length t = ap length (sym (sheet-split t)) ∙ length-append (finalRecord t) (recordsBelow (annotated t) (length (t .nodes))) ∙ ap (λ k. k + length (recordsBelow (annotated t) (length (t .nodes)))) (final-length t)
+-- ---- the records below a node
+abbrev pub bytesBelow : Com Entry → ℕ → List ℕ
+bytesBelow a n = flatMap recordBytes (recordsBelow a n)
 
-module _ (a : Com Entry) where
-  -- the records below the next number
-  pub records-next : (n : ℕ) → recordsBelow a (n + 1) ≡ recordsBelow a n ++ recordOf a n
-  unfolding recordsBelow
-  records-next n = rw add-one
+-- with those of the next node
+below-next : (a : Com Entry) (n : ℕ) → bytesBelow a (n + 1) ≡ bytesBelow a n ++ flatMap recordBytes (recordsAt a n)
+unfolding recordsBelow
+below-next a n = rw (add-one, flatMap-append)
 
-  -- and how long they are
-  pub length-next : (n : ℕ) → length (recordsBelow a (n + 1)) ≡ length (recordsBelow a n) + length (recordOf a n)
-  length-next n = ap length (records-next n) ∙ length-append (recordsBelow a n) (recordOf a n)
+module _ (a : Com Entry) (n : ℕ) (r : Row) (is : rowRecords r n ≡ recordsAt a n) where
+  pub bytes-next : bytesBelow a (n + 1) ≡ bytesBelow a n ++ rowBytes r n
+  unfolding rowBytes
+  bytes-next = below-next a n ∙ ap (λ rs. bytesBelow a n ++ flatMap recordBytes rs) (sym is)
 
-  -- more numbers have no fewer bytes
-  pub records-grow : (n m : ℕ) → n ≤ m → length (recordsBelow a n) ≤ length (recordsBelow a m)
-  records-grow n zero h = let e : n ≡ 0 = omega arith in rw e (omega arith)
-  records-grow n (suc m) h = go (ℕ-discrete n (suc m)) (records-grow n m)
-    where
-      go : Dec (n ≡ suc m) → (n ≤ m → length (recordsBelow a n) ≤ length (recordsBelow a m)) → length (recordsBelow a n) ≤ length (recordsBelow a (suc m))
-      go (yes e) r = rw e (omega arith)
-      go (no e) r = omega (arith, r (omega arith), rw add-one at (length-next m))
+  pub length-next : length (bytesBelow a (n + 1)) ≡ length (bytesBelow a n) + rowSize r
+  length-next = ap length bytes-next ∙ length-append (bytesBelow a n) (rowBytes r n) ∙ ap (λ k. length (bytesBelow a n) + k) (row-length r n)
 
--- the nodes' records stored behind the first one are the sheet stored
-pub sheet-stored : (t : Table) (l : List ℕ) {m n : List ℕ} → m ≡ sets l 0 (finalRecord t) → n ≡ sets m 14 (recordsBelow (annotated t) (length (t .nodes)))
-    → n ≡ sets l 0 (sheetBytes t)
-sheet-stored t l p q =
-    stored-then (finalRecord t) (recordsBelow (annotated t) (length (t .nodes))) l 0 14 (omega (arith, final-length t)) p q ∙ ap (sets l 0) (sheet-split t)
+-- more records are more bytes
+pub bytes-grow : (a : Com Entry) (n m : ℕ) → n ≤ m → length (bytesBelow a n) ≤ length (bytesBelow a m)
+bytes-grow a n zero h = let e : n ≡ 0 = omega arith in rw e (omega arith)
+bytes-grow a n (suc m) h = go (ℕ-discrete n (suc m)) (bytes-grow a n m)
+  where
+    longer : length (bytesBelow a m) ≤ length (bytesBelow a (suc m))
+    longer = omega (arith, rw add-one at (ap length (below-next a m) ∙ length-append (bytesBelow a m) (flatMap recordBytes (recordsAt a m))))
 
--- bytes stored for a record that they are
-pub record-stored : (l : List ℕ) (at : ℕ) {m bytes whole : List ℕ} {r : ℕ} → whole ≡ bytes → (m ≡ sets l at bytes) × (r ≡ length bytes) → (m ≡ sets l at whole) × (r ≡ length whole)
-record-stored l at e h = rw e h
+    go : Dec (n ≡ suc m) → (n ≤ m → length (bytesBelow a n) ≤ length (bytesBelow a m)) → length (bytesBelow a n) ≤ length (bytesBelow a (suc m))
+    go (yes e) r = rw e (omega arith)
+    go (no e) r = omega (arith, r (omega arith), longer)
 
--- a record without bytes is stored already
-pub nothing-stored : (l whole : List ℕ) (at : ℕ) → 0 ≡ length whole → (l ≡ sets l at whole) × (0 ≡ length whole)
-nothing-stored l [] at e = (refl, refl)
-nothing-stored l (b ∷ bs) at e = absurd (omega arith)
+-- ---- the whole sheet
+module _ (table ns : List ℕ) (final : Labelling) where
+  sheet-split : recordBytes (headRecord (nodesIn table) final) ++ bytesBelow (notedProgram table ns) (nodesIn table) ≡ sheetIn table ns final
+  unfolding sheetIn sheetOf sheetRecords flatMap
+  sheet-split = refl
+
+  pub sheet-length : length (sheetIn table ns final) ≡ 14 + length (bytesBelow (notedProgram table ns) (nodesIn table))
+  sheet-length =
+      ap length (sym sheet-split)
+      ∙ length-append (recordBytes (headRecord (nodesIn table) final)) (bytesBelow (notedProgram table ns) (nodesIn table))
+      ∙ ap (λ k. k + length (bytesBelow (notedProgram table ns) (nodesIn table))) (head-length (nodesIn table) final)
+
+  -- the first record stored, and the others behind it
+  pub sheet-stored : (l : List ℕ) {m n : List ℕ} → m ≡ sets l 0 (recordBytes (headRecord (nodesIn table) final))
+      → n ≡ sets m 14 (bytesBelow (notedProgram table ns) (nodesIn table)) → n ≡ sets l 0 (sheetIn table ns final)
+  sheet-stored l p q =
+      stored-then (recordBytes (headRecord (nodesIn table) final)) (bytesBelow (notedProgram table ns) (nodesIn table)) l 0 14
+      (omega (arith, head-length (nodesIn table) final)) p q
+      ∙ ap (sets l 0) sheet-split

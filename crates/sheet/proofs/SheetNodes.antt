@@ -1,17 +1,15 @@
--- The record of each node of a table that was read, by the node's kind.
-use Prim.Native.Nat.{ℕ, zero, suc, _*_, _-_, _<_}
-use native.Mathlib.Nat.{one-mul}
+-- The record of each node of a labelled table, by the node's kind.
+use Prim.Native.Nat.{ℕ, zero, suc, _+_, _*_, _-_, _<_}
 use native.Mathlib.Omega.{arith}
-use mathlib.Core.Bool.{false, cond, true≢false}
-use mathlib.Core.Path.{_≡_, refl, sym, ap, subst, _∙_}
-use mathlib.Core.List.{List, [], _∷_, _++_, append-nil}
+use mathlib.Core.Bool.{Bool, true, cond, true≢false, _||_}
+use mathlib.Core.Path.{_≡_, refl, sym, ap, ap₂, subst, _∙_}
+use mathlib.Core.List.{List, [], _∷_, flatMap, append-nil, List·Memᴰ, List·Memᴰ·head}
 use denote.Enum.Declared.{tagOf}
 use types.Run.{OneOf, miss}
 use lib.ListN.{length}
 use borrow.Author.Tests.{lt-ltb}
-use Rattle.bytes_le.specs.Numbers.{le}
 use Rattle.bytes_le.proofs.Numbers.{Below}
-use Rattle.reader.specs.Index.{Indexed, tableOf, nodesIn, nodeIn, numericIn, truthIn, commandIn}
+use Rattle.reader.specs.Index.{Indexed, tableOf, nodesIn, nodeIn, numericIn, truthIn, commandIn, OfSort}
 use Rattle.awhile.specs.Language.{Com, mapNotes}
 use Rattle.awhile.specs.Nodes.{form, sortOf, sameSort}
 use Rattle.awhile.specs.Trees.{asCommand, rootOf}
@@ -20,20 +18,26 @@ use Rattle.awhile.specs.declared.Sort.{Sort}
 use Rattle.awhile.specs.declared.Sort.the-variants.{Numeric, Truth, Command}
 use Rattle.awhile.specs.declared.Node.{Node}
 use Rattle.awhile.specs.declared.Node.the-variants.{Sequence, If, While, Read, Write}
-use Rattle.reader.proofs.Index.{Child, Parts, indexed-well-formed, indexed-parts, indexed-note, indexed-numeric, indexed-truth, indexed-some, indexed-root, indexed-root-sort}
+use Rattle.reader.proofs.Index.{Child, Parts, indexed-well-formed, indexed-parts, indexed-note, indexed-numeric, indexed-truth, indexed-some, indexed-root, indexed-root-sort, child-of-sort}
 use Rattle.awhile.proofs.Node.{the-type}
-use Rattle.labels.specs.Labellings.{labelOfA, labelOfB}
+use Rattle.awhile.proofs.Notes.{note-mapped}
+use Rattle.labels.specs.Labellings.{arrayMark, labelOf, labelOfA, labelOfB}
 use Rattle.labels.specs.Analysis.{readLabel}
 use Rattle.labels.specs.Annotation.{Entry}
-use Rattle.analysis.specs.Notes.{noteIn, Noted}
-use Rattle.labels.specs.Sheet.{sheetRecord, recordLength, recordOf, entryOf, masksBytes, labelBytes, annotated}
+use Rattle.labels.specs.Sheet.{SheetRecord, commandRecords, recordsAt, entryOf}
+use Rattle.variables.specs.Variables.{meet}
+use Rattle.variables.specs.Named.{expressionOf, fieldExpressions, expressionsOf}
+use Rattle.variables.proofs.Naming.{numeric-label, truth-label}
+use Rattle.variables.proofs.Nodes.{command-kinds}
+use Rattle.analysis.specs.Notes.{noteIn, notedProgram}
+use Rattle.analysis.specs.Conditions.{labelAt}
 use Rattle.analysis.specs.Warm.{standing}
-use Rattle.analysis.proofs.Nodes.{command-kinds}
-use Rattle.awhile.proofs.Notes.{note-mapped}
 use Rattle.analysis.proofs.Standing.{root-standing}
-use Rattle.analysis.proofs.SheetRecords.{copies, Located, annotated-by-notes, recordAt, records-copied, lengths-copied}
+use Rattle.sheet.specs.Rows.{rowRecords, recordsIn, Sheetable}
+use Rattle.sheet.specs.declared.rows.Row.the-variants.{Nothing, Masks, Label, Labels, LabelMasks}
+use Rattle.sheet.proofs.SheetRecords.{copies, Located, records-copied}
 
--- the kinds of nodes that `command_size` and `put_command` do not name
+-- the kinds of nodes that `command_row` does not name
 abbrev pub unnamedRecord : List ℕ
 unnamedRecord = 0 ∷ 1 ∷ 2 ∷ 3 ∷ 4 ∷ 5 ∷ 6 ∷ 7 ∷ 8 ∷ 9 ∷ 10 ∷ 11 ∷ 12 ∷ []
 
@@ -76,107 +80,95 @@ module _ (table index : List ℕ) (bytes : Below 256 table) (indexed : Indexed t
   unfolding sameSort
   stands-command n inside s = stands-once n inside ∙ ap (λ r. cond (sameSort r Command) 1 0) s
 
-  -- the number of bytes of a node's record
-  pub record-length : (n : ℕ) → n < nodesIn table → length (recordOf (annotated (tableOf table)) n) ≡ recordLength (commandIn table n)
-  unfolding annotated sameSort recordLength asCommand
-  record-length n inside =
-      lengths-copied table n (rootOf (tableOf table)) false (tableOf table .labels) root-located
-      ∙ ap (λ k. k * recordLength (commandIn table n)) (stands-once n inside)
+  -- a node that is no command has no record
+  pub no-command : (ns : List ℕ) (n : ℕ) → n < nodesIn table → (s : Sort) → sortOf (nodeIn table n) ≡ s → (sameSort s Command ≡ true → ⊥) → recordsIn table ns n ≡ []
+  unfolding recordsIn commandRecords mapNotes asCommand sameSort
+  no-command ns n inside Numeric e f = rw (indexed-numeric table index bytes indexed n inside e)
+  no-command ns n inside Truth e f = rw (indexed-truth table index bytes indexed n inside e)
+  no-command ns n inside Command e f = absurd (f refl)
+
+  -- the records of a node in the noted program
+  pub records-at : (ns : List ℕ) (n : ℕ) → n < nodesIn table → recordsAt (notedProgram table ns) n ≡ recordsIn table ns n
+  unfolding notedProgram copies sameSort
+  records-at ns n inside =
+      records-copied table ns n (rootOf (tableOf table)) root-located
+      ∙ ap (λ k. copies k (recordsIn table ns n)) (stands-once n inside)
       ∙ go (sortOf (nodeIn table n)) refl
     where
-      go : (s : Sort) → sortOf (nodeIn table n) ≡ s → cond (sameSort s Command) 1 0 * recordLength (commandIn table n) ≡ recordLength (commandIn table n)
-      go Numeric e = rw (indexed-numeric table index bytes indexed n inside e)
-      go Truth e = rw (indexed-truth table index bytes indexed n inside e)
-      go Command e = one-mul (recordLength (commandIn table n))
+      go : (s : Sort) → sortOf (nodeIn table n) ≡ s → copies (cond (sameSort s Command) 1 0) (recordsIn table ns n) ≡ recordsIn table ns n
+      go Numeric e = sym (no-command ns n inside Numeric e (λ h. true≢false (sym h)))
+      go Truth e = sym (no-command ns n inside Truth e (λ h. true≢false (sym h)))
+      go Command e = append-nil (recordsIn table ns n)
 
-  -- ---- nodes without a record
-  pub no-command : (n : ℕ) → n < nodesIn table → (s : Sort) → sortOf (nodeIn table n) ≡ s → sameSort s Command ≡ false → 0 ≡ recordLength (commandIn table n)
-  unfolding sameSort recordLength asCommand
-  no-command n inside Numeric e f = rw (indexed-numeric table index bytes indexed n inside e)
-  no-command n inside Truth e f = rw (indexed-truth table index bytes indexed n inside e)
-  no-command n inside Command e f = absurd (true≢false f)
+-- ---- a command's record, by its kind
+module _ {table index named ns : List ℕ} (bytes : Below 256 table) {n : ℕ} (command : OfSort table index Command n) (ready : Sheetable table index named ns) where
+  abbrev noted : ℕ → Labelling
+  noted k = noteIn ns k .labelling
 
-  -- a node that is not named has no record
-  pub unrecorded : (n : ℕ) → n < nodesIn table → OneOf unnamedRecord (tagOf the-type (nodeIn table n)) → 0 ≡ recordLength (commandIn table n)
-  unfolding sameSort recordLength
-  unrecorded n inside o = go (sortOf (nodeIn table n)) refl
-    where
-      go : (s : Sort) → sortOf (nodeIn table n) ≡ s → 0 ≡ recordLength (commandIn table n)
-      go Numeric e = no-command n inside Numeric e refl
-      go Truth e = no-command n inside Truth e refl
-      go Command e =
-          command-kinds (λ m. OneOf unnamedRecord (tagOf the-type m) → Parts table n m → 0 ≡ recordLength (commandIn table n))
-          (λ o p. rw p)
-          (λ v d o p. rw (p .2))
-          (λ c d o p. absurd (miss unnamedRecord 13 tt o))
-          (λ b c d o p. absurd (miss unnamedRecord 14 tt o))
-          (λ b c o p. absurd (miss unnamedRecord 15 tt o))
-          (λ v a i o p. absurd (miss unnamedRecord 16 tt o))
-          (λ a i d o p. absurd (miss unnamedRecord 17 tt o))
-          (nodeIn table n) e o (indexed-parts table index bytes indexed n inside (nodeIn table n) refl)
+  pub parts-of : (m : Node) → nodeIn table n ≡ m → Parts table n m
+  parts-of m e = indexed-parts table index bytes (command .indexed) n (command .inside) m e
 
-  module _ (vs arrs : List ℕ) (notes : Noted vs arrs (annotated (tableOf table))) where
-    records : (n : ℕ) → recordOf (annotated (tableOf table)) n ≡ copies (standing n (rootOf (tableOf table))) (recordAt table vs arrs n)
-    unfolding annotated
-    records n =
-        ap (λ a. recordOf a n) (annotated-by-notes vs arrs (rootOf (tableOf table)) false (tableOf table .labels) notes)
-        ∙ records-copied table vs arrs n (rootOf (tableOf table)) root-located
+  -- what enters a child
+  child-entry : {k : ℕ} → Child table Command n k → entryOf (mapNotes (noteIn ns) (commandIn table k)) ≡ noted k
+  unfolding entryOf
+  child-entry {k} h =
+      ap (λ (e : Entry). e .labelling)
+      (note-mapped (noteIn ns) (commandIn table k) ∙ ap (noteIn ns) (indexed-note table index bytes (command .indexed) k (h .inside) (h .isSort)))
 
-    -- the record of a command node
-    pub command-record : (n : ℕ) → n < nodesIn table → sortOf (nodeIn table n) ≡ Command → recordOf (annotated (tableOf table)) n ≡ recordAt table vs arrs n
-    unfolding copies
-    command-record n inside s =
-        records n ∙ ap (λ k. copies k (recordAt table vs arrs n)) (stands-command n inside s) ∙ append-nil (recordAt table vs arrs n)
+  -- notes and names are there
+  pub own-note : 2 * n + 1 < length ns
+  own-note = omega (arith, command .inside, ready .notesFit .room)
 
-    abbrev noted : ℕ → Labelling
-    noted k = noteIn vs arrs k .labelling
+  pub child-note : {k : ℕ} → Child table Command n k → 2 * k + 1 < length ns
+  child-note c = omega (arith, c .inside, ready .notesFit .room)
 
-    -- what enters a child
-    child-entry : (n k : ℕ) → Child table Command n k → entryOf (mapNotes (noteIn vs arrs) (commandIn table k)) ≡ noted k
-    unfolding entryOf
-    child-entry n k h =
-        ap (λ (e : Entry). e .labelling)
-        (note-mapped (noteIn vs arrs) (commandIn table k) ∙ ap (noteIn vs arrs) (indexed-note table index bytes indexed k (h .inside) (h .isSort)))
+  pub child-named : {s : Sort} {k : ℕ} → Child table s n k → k < length named
+  child-named c = omega (arith, c .inside, ready .names .room)
 
-    module _ (n : ℕ) (inside : n < nodesIn table) where
-      parts-of : (m : Node) → nodeIn table n ≡ m → Parts table n m
-      parts-of m e = indexed-parts table index bytes indexed n inside m e
+  module _ (k : Labelling) {m : Node} (is : nodeIn table n ≡ m) {e : ℕ} (held : List·Memᴰ e (expressionsOf m)) where
+    numeric-is : Child table Numeric n e → labelAt named k e ≡ labelOfA k (numericIn table e)
+    numeric-is c = numeric-label bytes (ready .names) command k (rw is held) (child-of-sort (command .indexed) c)
 
-      record-is : {m : Com ℕ} → sortOf (nodeIn table n) ≡ Command → commandIn table n ≡ m → recordOf (annotated (tableOf table)) n ≡ sheetRecord (mapNotes (noteIn vs arrs) m)
-      unfolding recordAt
-      record-is s e = command-record n inside s ∙ ap (λ m. sheetRecord (mapNotes (noteIn vs arrs) m)) e
+    truth-is : Child table Truth n e → labelAt named k e ≡ labelOfB k (truthIn table e)
+    truth-is c = truth-label bytes (ready .names) command k (rw is held) (child-of-sort (command .indexed) c)
 
-      -- 129: the masks after a sequence's first part are what enters its second
-      pub sequence-record : {c d : ℕ} → nodeIn table n ≡ Sequence c d
-          → recordOf (annotated (tableOf table)) n ≡ le 2 12 ++ (le 2 129 ++ (le 2 n ++ masksBytes (noted d)))
-      unfolding sortOf form sheetRecord mapNotes noteIn
-      sequence-record {c} {d} e =
-          let p = parts-of (Sequence c d) e in
-          record-is (ap sortOf e) (p .2) ∙ ap (λ m. le 2 12 ++ (le 2 129 ++ (le 2 n ++ masksBytes m))) (child-entry n d (p .1))
+  -- 129: the masks after a sequence's first part are what enters its second
+  pub sequence-row : {c d : ℕ} → nodeIn table n ≡ Sequence c d → {l : Labelling} → l ≡ noted d → rowRecords (Masks 129 l) n ≡ recordsIn table ns n
+  unfolding recordsIn commandRecords rowRecords mapNotes noteIn
+  sequence-row {c} {d} e q = let p = parts-of (Sequence c d) e in rw (p .2, child-entry (p .1), q)
 
-      -- 130: the label of an if's condition
-      pub if-record : {b c d : ℕ} → nodeIn table n ≡ If b c d
-          → recordOf (annotated (tableOf table)) n ≡ le 2 8 ++ (le 2 130 ++ (le 2 n ++ labelBytes (labelOfB (noted n) (truthIn table b))))
-      unfolding sortOf form sheetRecord mapNotes noteIn
-      if-record {b} {c} {d} e = record-is (ap sortOf e) (parts-of (If b c d) e .3)
+  -- 130: the label of an if's condition
+  pub if-row : {b c d : ℕ} → nodeIn table n ≡ If b c d → {l : Labelling} {x : Bool} → l ≡ noted n → x ≡ labelAt named l b → rowRecords (Label 130 x) n ≡ recordsIn table ns n
+  unfolding recordsIn commandRecords rowRecords mapNotes noteIn expressionsOf fieldExpressions expressionOf form flatMap
+  if-row {b} {c} {d} e {l} q s = let p = parts-of (If b c d) e in rw (p .3, s, truth-is l e (List·Memᴰ·head refl) (p .0), q)
 
-      -- 131: the settled masks of a while are what enters its body, and label its condition
-      pub while-record : {b c : ℕ} → nodeIn table n ≡ While b c
-          → recordOf (annotated (tableOf table)) n ≡ le 2 14 ++ (le 2 131 ++ (le 2 n ++ (labelBytes (labelOfB (noted c) (truthIn table b)) ++ masksBytes (noted c))))
-      unfolding sortOf form sheetRecord mapNotes noteIn
-      while-record {b} {c} e =
-          let p = parts-of (While b c) e in
-          record-is (ap sortOf e) (p .2) ∙ ap (λ m. le 2 14 ++ (le 2 131 ++ (le 2 n ++ (labelBytes (labelOfB m (truthIn table b)) ++ masksBytes m)))) (child-entry n c (p .1))
+  -- 131: the settled masks of a while are what enters its body, and label its condition
+  pub while-row : {b c : ℕ} → nodeIn table n ≡ While b c → {l : Labelling} {x : Bool} → l ≡ noted c → x ≡ labelAt named l b
+      → rowRecords (LabelMasks 131 x l) n ≡ recordsIn table ns n
+  unfolding recordsIn commandRecords rowRecords mapNotes noteIn expressionsOf fieldExpressions expressionOf form flatMap
+  while-row {b} {c} e {l} q s = let p = parts-of (While b c) e in rw (p .2, child-entry (p .1), s, truth-is l e (List·Memᴰ·head refl) (p .0), q)
 
-      -- 132: the labels of a read's variable and index
-      pub read-record : {v a i : ℕ} → nodeIn table n ≡ Read v a i
-          → recordOf (annotated (tableOf table)) n
-          ≡ le 2 10 ++ (le 2 132 ++ (le 2 n ++ (labelBytes (readLabel (noted n) (noteIn vs arrs n .context) a (numericIn table i)) ++ labelBytes (labelOfA (noted n) (numericIn table i)))))
-      unfolding sortOf form sheetRecord mapNotes noteIn
-      read-record {v} {a} {i} e = record-is (ap sortOf e) (parts-of (Read v a i) e .3)
+  -- 132: the labels of a read's variable and index
+  pub read-row : {v a i : ℕ} → nodeIn table n ≡ Read v a i → {l : Labelling} {x y z : Bool} → l ≡ noted n → x ≡ noteIn ns n .context
+      → y ≡ (labelAt named l i || (labelOf l (arrayMark a) || x)) → z ≡ labelAt named l i → rowRecords (Labels 132 y z) n ≡ recordsIn table ns n
+  unfolding recordsIn commandRecords rowRecords mapNotes noteIn readLabel expressionsOf fieldExpressions expressionOf form flatMap
+  read-row {v} {a} {i} e {l} q f s t = let p = parts-of (Read v a i) e in rw (p .3, s, t, numeric-is l e (List·Memᴰ·head refl) (p .2), f, q)
 
-      -- 133: the label of a write's index
-      pub write-record : {a i v : ℕ} → nodeIn table n ≡ Write a i v
-          → recordOf (annotated (tableOf table)) n ≡ le 2 8 ++ (le 2 133 ++ (le 2 n ++ labelBytes (labelOfA (noted n) (numericIn table i))))
-      unfolding sortOf form sheetRecord mapNotes noteIn
-      write-record {a} {i} {v} e = record-is (ap sortOf e) (parts-of (Write a i v) e .3)
+  -- 133: the label of a write's index
+  pub write-row : {a i v : ℕ} → nodeIn table n ≡ Write a i v → {l : Labelling} {x : Bool} → l ≡ noted n → x ≡ labelAt named l i → rowRecords (Label 133 x) n ≡ recordsIn table ns n
+  unfolding recordsIn commandRecords rowRecords mapNotes noteIn expressionsOf fieldExpressions expressionOf form flatMap
+  write-row {a} {i} {v} e {l} q s = let p = parts-of (Write a i v) e in rw (p .3, s, numeric-is l e (List·Memᴰ·head refl) (p .1), q)
+
+  -- no other command has one
+  pub no-row : OneOf unnamedRecord (tagOf the-type (nodeIn table n)) → rowRecords Nothing n ≡ recordsIn table ns n
+  unfolding recordsIn commandRecords rowRecords mapNotes
+  no-row =
+      command-kinds (λ m. nodeIn table n ≡ m → OneOf unnamedRecord (tagOf the-type m) → [] ≡ recordsIn table ns n)
+      (λ is o. rw (parts-of _ is))
+      (λ v e is o. rw (parts-of _ is .2))
+      (λ c d is o. absurd (miss unnamedRecord 13 tt o))
+      (λ b c d is o. absurd (miss unnamedRecord 14 tt o))
+      (λ b c is o. absurd (miss unnamedRecord 15 tt o))
+      (λ v a i is o. absurd (miss unnamedRecord 16 tt o))
+      (λ a i v is o. absurd (miss unnamedRecord 17 tt o))
+      (nodeIn table n) (command .isSort) refl

@@ -1,111 +1,103 @@
 -- `write_sheet` stores the first record, then the nodes' records by number.
-use mathlib.Core.Path.{_≡_, refl, sym, ap, ap₂, _∙_}
-use mathlib.Core.List.{_++_}
-use native.Mathlib.Omega.{arith}
 use Prim.Native.Nat.{ℕ, _+_, _-_, _≤_, _<_}
+use native.Mathlib.Omega.{arith}
+use mathlib.Core.List.{flatMap}
+use mathlib.Core.Path.{_≡_, refl, sym, ap, _∙_}
 use denote.Ref.{now}
-use lib.Seq.{sets, length-sets}
 use lib.ListN.{length}
-use Rattle.bytes_le.specs.Numbers.{le}
-use Rattle.reader.specs.Index.{tableOf, nodesIn}
-use Rattle.labels.specs.Sheet.{masksBytes, recordOf, recordsBelow, annotated}
-use Rattle.analysis.proofs.Stored.{stored-then}
-use Rattle.analysis.proofs.SheetLengths.{finalRecord, sheet-length, sheet-stored, length-next, records-next, records-grow}
-use Rattle.analysis.proofs.sheet.write_sheet.Statement.{statement}
-use Rattle.analysis.proofs.sheet.write_sheet.Tie as tie
+use lib.Seq.{sets, length-sets}
+use Rattle.bytes_le.proofs.Numbers.{slice-bytes}
+use Rattle.reader.specs.Index.{nodesIn}
+use Rattle.awhile.specs.Language.{Com}
+use Rattle.labels.specs.Annotation.{Entry}
+use Rattle.labels.specs.Sheet.{recordBytes, recordsAt, recordsBelow, headRecord}
+use Rattle.analysis.specs.Notes.{notedProgram}
+use Rattle.sheet.specs.Rows.{rowRecords, rowBytes, rowSize}
+use Rattle.sheet.proofs.Stored.{stored-then}
+use Rattle.sheet.proofs.SheetNodes.{records-at}
+use Rattle.sheet.proofs.SheetLengths.{bytesBelow, row-length, bytes-next, length-next, bytes-grow, sheet-length, sheet-stored}
+use borrow.Author.Needs.{needs}
+use Rattle.sheet.proofs.sheet.write_sheet.Statement.{statement}
+use Rattle.sheet.proofs.sheet.write_sheet.Tie as tie
 
 abbrev Inv-loop : tie.InvT-loop
-Inv-loop table index variables arrays count out₀ at₀ n₀ out at n =
-    (n ≤ count) × (at ≡ 14 + length (recordsBelow (annotated (tableOf table)) n)) × (out ≡ sets out₀ 14 (recordsBelow (annotated (tableOf table)) n))
+Inv-loop table index named notes count out₀ at₀ n₀ out at n =
+    (n ≤ count) × (at ≡ 14 + length (bytesBelow (notedProgram table notes) n)) × (out ≡ sets out₀ 14 (bytesBelow (notedProgram table notes) n))
 
 abbrev μ-loop : tie.MeasureT-loop
-μ-loop table index variables arrays count out₀ at₀ n₀ out at n =
-    count - n
+μ-loop table index named notes count out₀ at₀ n₀ out at n = count - n
 
--- the records up to a node fit the buffer
-room-enough : (d : tie.After-slice-known2 Inv-loop μ-loop) (n : ℕ) → n < length (tableOf (now (d .before .before .before .before .before .before .before .before .before .args .table)) .nodes)
-    → 14 + length (recordsBelow (annotated (tableOf (now (d .before .before .before .before .before .before .before .before .before .args .table)))) n) + length (recordOf (annotated (tableOf (now (d .before .before .before .before .before .before .before .before .before .args .table)))) n) ≤ length (d .before .before .put-final .last .0)
-room-enough d n inside =
-    let start = d .before .before .before .before .before .before .before .before .before in
-    let table = tableOf (now (start .args .table)) in
-    omega (arith, start .pre .3, sheet-length table, records-grow (annotated table) (n + 1) (length (table .nodes)) (omega arith), length-next (annotated table) n, d .before .before .put-final .kept .0)
+-- what is known of the record of the next node: it is that of the noted program, and it fits
+module _ (d : tie.After-row-at Inv-loop μ-loop) where
+  abbrev start : tie.Start Inv-loop μ-loop
+  start = d .before .before .before .before .before .before .before .before .before .before .before .before
 
--- the buffer keeps its length
-kept : (d : tie.At-loop Inv-loop μ-loop) → length (d .loop .out) ≡ length (d .before .before .before .put-final .last .0)
-kept d = ap length (d .loop .inv .2) ∙ length-sets _ 14 (recordsBelow (annotated (tableOf (now (d .before .before .before .before .before .before .before .before .before .before .args .table)))) (d .loop .n))
+  abbrev program : Com Entry
+  program = notedProgram (now (start .args .table)) (now (start .args .notes))
 
-put-final-requires : tie.Need-put-final-requires Inv-loop μ-loop
-put-final-requires c κs =
-    omega (arith, c .before .before .before .before .before .before .pre .3, sheet-length (tableOf (now (c .before .before .before .before .before .before .args .table))))
+  inside : d .before .before .loop .n < nodesIn (now (start .args .table))
+  inside = omega (arith, start .pre .1)
 
-loop-holds : tie.Need-loop-holds Inv-loop μ-loop
-unfolding recordsBelow
-loop-holds c =
-    (omega arith, refl, refl)
+  own : rowRecords (d .row-at .result) (d .before .before .loop .n) ≡ recordsAt program (d .before .before .loop .n)
+  own =
+      let table = now (start .args .table) in
+      d .row-at .ensures ∙ sym (records-at table (now (start .args .index)) (slice-bytes table (d .before .before .before .before .before .before .before .before .before .before .before .shared-slice-known .given)) (start .pre .0 .indexed) (now (start .args .notes)) (d .before .before .loop .n) inside)
 
-put-record-requires : tie.Need-put-record-requires Inv-loop μ-loop
-unfolding nodesIn
-put-record-requires c κs =
-    let start = c .before .before .before .before .before .before .before .before .before .before .before .before in
-    let table = tableOf (now (start .args .table)) in
-    let n = c .before .before .loop .n in
-    let inside : n < length (table .nodes) = omega (arith, start .pre .1) in
-    let fits = room-enough (c .before .before .before) n inside in
-    (start .pre .0, inside, omega (arith, fits, c .before .before .loop .inv .1, kept (c .before .before)))
+  -- the buffer keeps its length
+  kept : length (d .before .before .loop .out) ≡ length (now (start .args .out))
+  kept = ap length (d .before .before .loop .inv .2) ∙ length-sets _ 14 (bytesBelow program (d .before .before .loop .n)) ∙ d .before .before .before .before .before .put-final .kept .0
 
-add-at : tie.Need-add-at Inv-loop μ-loop
-unfolding nodesIn
-add-at c =
-    let fits = room-enough (c .before .before .before .before .before .before) (c .before .before .before .before .before .loop .n) (omega (arith, c .before .before .before .before .before .before .before .before .before .before .before .before .before .before .before .pre .1)) in
-    omega (arith, fits, c .before .before .before .before .before .loop .inv .1, c .before .before .put-record .ensures .1, c .before .before .before .before .before .before .before .before .before .before .before .before .before .before .before .good)
-
-add-n : tie.Need-add-n Inv-loop μ-loop
-add-n c =
-    omega (arith, c .before .before .before .before .before .before .before .before .before .before .before .before .before .before .before .fits .count)
-
-loop-less : tie.Need-loop-less Inv-loop μ-loop
-loop-less c =
-    omega arith
+  fits : d .before .before .loop .at + rowSize (d .row-at .result) ≤ length (now (start .args .out))
+  fits =
+      omega (
+        arith,
+        start .pre .2,
+        sheet-length (now (start .args .table)) (now (start .args .notes)) (start .args .masks),
+        bytes-grow program (d .before .before .loop .n + 1) (nodesIn (now (start .args .table))) (omega (arith, inside)),
+        length-next program (d .before .before .loop .n) (d .row-at .result) own,
+        d .before .before .loop .inv .1,
+      )
 
 loop-again : tie.Need-loop-again Inv-loop μ-loop
 loop-again c =
-    let start = c .before .before .before .before .before .before .before .before .before .before .before .before .before .before .before in
-    let a = annotated (tableOf (now (start .args .table))) in
-    let n = c .before .before .before .before .before .loop .n in
-    let inv = c .before .before .before .before .before .loop .inv in (
+    let d = c .before .before .before .before .before in
+    let n = c .before .before .before .before .before .before .before .loop .n in
+    let a = program d in
+    let row = d .row-at .result in
+    let inv = c .before .before .before .before .before .before .before .loop .inv in (
       omega arith,
-      omega (arith, inv .1, c .before .before .put-record .ensures .1, length-next a n),
-      stored-then (recordsBelow a n) (recordOf a n) (c .before .before .before .before .before .before .before .before .put-final .last .0) 14 (c .before .before .before .before .before .loop .at) (sym (inv .1)) (inv .2) (c .before .before .put-record .ensures .0) ∙ ap (sets (c .before .before .before .before .before .before .before .before .put-final .last .0) 14) (sym (records-next a n)),
+      omega (arith, inv .1, c .row-size .ensures, length-next a n row (own d)),
+      stored-then (bytesBelow a n) (rowBytes row n) (c .before .before .before .before .before .before .before .before .before .before .put-final .last .0) 14 (c .before .before .before .before .before .before .before .loop .at) (sym (inv .1)) (inv .2) (c .before .before .before .put-row .ensures)
+          ∙ ap (sets (c .before .before .before .before .before .before .before .before .before .before .put-final .last .0) 14) (sym (bytes-next a n row (own d))),
     )
 
-same-length : tie.Need-same-length Inv-loop μ-loop
-same-length c =
-    kept (c .before) ∙ c .before .before .before .before .put-final .kept .0
-
 returns : tie.Need-returns Inv-loop μ-loop
-unfolding nodesIn finalRecord
 returns c =
     let start = c .before .before .before .before .before .before .before .before .before .before .before in
-    let table = tableOf (now (start .args .table)) in
-    let a = annotated table in
-    let all : c .before .loop .n ≡ length (table .nodes) = omega (arith, start .pre .1) in (
-      sheet-stored table (now (start .args .out)) (c .before .before .before .before .put-final .ensures ∙ ap₂ (λ n m. sets (now (start .args .out)) 0 (le 2 14 ++ (le 2 128 ++ (le 2 1 ++ (le 2 n ++ masksBytes m))))) (start .pre .1) (start .pre .2))
-          (c .before .loop .inv .2 ∙ ap (λ k. sets (c .before .before .before .before .put-final .last .0) 14 (recordsBelow a k)) all),
-      c .before .loop .inv .1 ∙ ap (λ k. 14 + length (recordsBelow a k)) all ∙ sym (sheet-length table),
+    let table = now (start .args .table) in
+    let ns = now (start .args .notes) in
+    let all : c .before .loop .n ≡ nodesIn table = omega (arith, start .pre .1) in
+    let a = notedProgram table ns in (
+      sheet-stored table ns (start .args .masks) (now (start .args .out)) (c .before .before .before .before .put-final .ensures ∙ ap (λ k. sets (now (start .args .out)) 0 (recordBytes (headRecord k (start .args .masks)))) (start .pre .1))
+          (c .before .loop .inv .2 ∙ ap (λ k. sets (c .before .before .before .before .put-final .last .0) 14 (bytesBelow a k)) all),
+      c .before .loop .inv .1 ∙ ap (λ k. 14 + length (bytesBelow a k)) all ∙ sym (sheet-length table ns (start .args .masks)),
     )
 
 pub write-sheet-spec : {M : Type 1} → statement M
+unfolding recordsBelow flatMap
 write-sheet-spec =
     tie.close
     (tie.spec
     Inv-loop
     μ-loop
-    put-final-requires
-    loop-holds
-    put-record-requires
-    add-at
-    add-n
-    loop-less
+    (λ c κs. omega (arith, c .before .before .before .before .before .before .pre .2, sheet-length (now (c .before .before .before .before .before .before .args .table)) (now (c .before .before .before .before .before .before .args .notes)) (c .before .before .before .before .before .before .args .masks)))
+    (λ c. (omega arith, refl, refl))
+    (λ c κs. (omega (arith, c .before .before .before .before .before .before .before .before .before .before .before .pre .1), c .before .before .before .before .before .before .before .before .before .before .before .pre .0))
+    (λ c κs. omega (arith, fits (c .before), kept (c .before)))
+    (λ c κs. tt)
+    (λ c. omega (arith, fits (c .before .before .before .before .before), c .row-size .ensures, c .before .before .before .before .before .before .before .before .before .before .before .before .before .before .before .before .before .good))
+    (λ c. omega (arith, c .before .before .before .before .before .before .before .before .before .before .before .before .before .before .before .before .before .fits .count))
+    (λ c. omega arith)
     loop-again
-    same-length
+    (λ c. ap length (c .before .loop .inv .2) ∙ length-sets _ 14 (bytesBelow (notedProgram (now (c .before .before .before .before .before .before .before .before .before .before .before .args .table)) (now (c .before .before .before .before .before .before .before .before .before .before .before .args .notes))) (c .before .loop .n)) ∙ c .before .before .before .before .put-final .kept .0)
     returns)

@@ -4,14 +4,14 @@ use Prim.Native.Nat.{_+_}
 use denote.Ref.{now}
 use lib.Seq.{sets}
 use Rattle.bytes_le.specs.Numbers.{le}
-use Rattle.labels.specs.Sheet.{masksBytes}
-use Rattle.analysis.proofs.Stored.{stored-then, le-four}
+use Rattle.labels.specs.Sheet.{fieldBytes}
+use Rattle.sheet.proofs.Stored.{stored-then, le-four}
 use borrow.Author.Needs.{needs}
-use Rattle.analysis.proofs.sheet.put_masks.Statement.{statement}
-use Rattle.analysis.proofs.sheet.put_masks.Tie as tie
+use Rattle.sheet.proofs.fields.put_masks.Statement.{statement}
+use Rattle.sheet.proofs.fields.put_masks.Tie as tie
 
 returns : tie.Need-returns
-unfolding masksBytes le
+unfolding fieldBytes le
 returns c =
     let args = c .before .before .before .before .before .before .before .before .before .before .before .args in
     stored-then (le 4 (args .labels .variables)) (le 2 (args .labels .arrays)) (now (args .out)) (args .at) (args .at + 4) refl

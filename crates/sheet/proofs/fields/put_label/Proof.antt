@@ -5,13 +5,13 @@ use mathlib.Core.Path.{sym, ap, _∙_}
 use denote.Ref.{now}
 use lib.Seq.{sets}
 use Rattle.bytes_le.specs.Numbers.{le}
-use Rattle.labels.specs.Sheet.{labelBytes}
+use Rattle.labels.specs.Sheet.{fieldBytes}
 use borrow.Author.Needs.{needs}
-use Rattle.analysis.proofs.sheet.put_label.Statement.{statement}
-use Rattle.analysis.proofs.sheet.put_label.Tie as tie
+use Rattle.sheet.proofs.fields.put_label.Statement.{statement}
+use Rattle.sheet.proofs.fields.put_label.Tie as tie
 
 returns : tie.Need-returns
-unfolding labelBytes
+unfolding fieldBytes
 returns c =
     let args = c .before .before .before .before .before .before .args in
     c .before .before .put16 .ensures

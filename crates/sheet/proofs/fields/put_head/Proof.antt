@@ -4,19 +4,19 @@ use mathlib.Core.List.{_++_}
 use Prim.Native.Nat.{_+_}
 use denote.Ref.{now}
 use Rattle.bytes_le.specs.Numbers.{le}
-use Rattle.analysis.proofs.Stored.{stored-then}
+use Rattle.sheet.proofs.Stored.{stored-then}
 use native.Mathlib.Omega.{arith}
 use borrow.Author.Needs.{needs}
-use Rattle.analysis.proofs.sheet.put_head.Statement.{statement}
-use Rattle.analysis.proofs.sheet.put_head.Tie as tie
+use Rattle.sheet.proofs.fields.put_head.Statement.{statement}
+use Rattle.sheet.proofs.fields.put_head.Tie as tie
 
 returns : tie.Need-returns
 unfolding le
 returns c =
     let args = c .before .before .before .before .before .before .before .before .before .before .before .before .before .args in
     let first = c .before .before .before .before .before .before .before .before .before .before .put16 .last .0 in
-    stored-then (le 2 (args .size)) (le 2 (args .kind) ++ le 2 (args .field)) (now (args .out)) (args .at) (args .at + 2) refl (c .before .before .before .before .before .before .before .before .before .before .put16 .ensures)
-    (stored-then (le 2 (args .kind)) (le 2 (args .field)) first (args .at + 2) (args .at + 4) (omega arith) (c .before .before .before .before .before .before .put162 .ensures) (c .before .before .put163 .ensures))
+    stored-then (le 2 (args .size)) (le 2 (args .kind) ++ le 2 (args .number)) (now (args .out)) (args .at) (args .at + 2) refl (c .before .before .before .before .before .before .before .before .before .before .put16 .ensures)
+    (stored-then (le 2 (args .kind)) (le 2 (args .number)) first (args .at + 2) (args .at + 4) (omega arith) (c .before .before .before .before .before .before .put162 .ensures) (c .before .before .put163 .ensures))
 
 pub put-head-spec : {M : Type 1} → statement M
 put-head-spec =
