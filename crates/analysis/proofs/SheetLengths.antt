@@ -12,7 +12,7 @@ use Rattle.awhile.specs.Language.{Com}
 use Rattle.awhile.specs.Tables.{Table}
 use Rattle.labels.specs.Annotation.{Entry}
 use Rattle.analysis.specs.Conditions.{finalLabels}
-use Rattle.labels.specs.Sheet.{masksBytes, recordOf, recordsBelow, annotated, sheetBytes}
+use Rattle.labels.specs.Sheet.{masksBytes, recordOf, recordsBelow, annotated, sheetOf, sheetBytes}
 use Rattle.analysis.proofs.Stored.{stored-then}
 
 -- the sheet's first record
@@ -21,7 +21,7 @@ finalRecord t = le 2 14 ++ (le 2 128 ++ (le 2 1 ++ (le 2 (length (t .nodes)) ++ 
 
 -- the sheet is that record and the nodes' records
 pub sheet-split : (t : Table) → finalRecord t ++ recordsBelow (annotated t) (length (t .nodes)) ≡ sheetBytes t
-unfolding finalRecord finalLabels sheetBytes masksBytes le
+unfolding finalRecord finalLabels sheetBytes sheetOf masksBytes le
 sheet-split t = refl
 
 -- it has 14 bytes

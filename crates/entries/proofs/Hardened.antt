@@ -1,39 +1,26 @@
 -- Every accepted table of at most 512 nodes with a free variable number hardens, given room; and where the entry answers 0, the demands hold.
 use Prim.Native.Nat.{ℕ, _+_, _*_, _≤_, _<_}
 use native.Mathlib.Omega.{arith}
-use mathlib.Core.Bool.{Bool, true, false}
 use mathlib.Core.Path.{_≡_, refl, sym, ap, subst, _∙_}
 use mathlib.Core.List.{List}
-use lib.ListN.{length, take, drop}
-use lib.Seq.{take-at}
+use lib.ListN.{length}
 use lib.Dec.{leb, ltb}
 use borrow.Author.Tests.{ltb-true, leb-true, lt-ltb, le-leb}
 use Rattle.bytes_le.proofs.Numbers.{Below}
-use Rattle.awhile.specs.Refusals.{Answer, refused, got, check, andThen}
-use Rattle.awhile.specs.Tables.{Table, Reading, rejected, notATree, accepted, readTable, maxVariables, nodesStart}
+use Rattle.awhile.specs.Refusals.{got, check, andThen}
+use Rattle.awhile.specs.Tables.{Table, accepted, readTable, maxVariables, nodesStart}
 use Rattle.awhile.specs.Encoding.{tableBytes}
-use Rattle.awhile.specs.declared.Refusal.{Refusal}
-use Rattle.awhile.specs.declared.Refusal.the-variants.{NotATree, TooManyNodes, NoFreeVariable, ShortBuffer}
-use Rattle.machine.specs.Memory.{writtenOver}
+use Rattle.awhile.specs.declared.Refusal.the-variants.{TooManyNodes, NoFreeVariable}
 use Rattle.masks.specs.Hardening.{hardenedProgram, hardenedTable, maxHardened}
 use Rattle.masks.specs.Demands.{Demands}
 use Rattle.masks.proofs.Demands.{demands-met}
 use Rattle.entries.specs.Answers.{tableIn}
-use Rattle.entries.specs.Writing.{notWritten, writtenAll, writing, hardenedIn, hardenEntry}
+use Rattle.entries.specs.Writing.{writtenAll, writing, hardenedIn, hardenEntry}
 use Rattle.entries.specs.Security.{CallsShowTheSame}
-use Rattle.entries.specs.Promises.{HardenedInto}
-use Rattle.entries.proofs.Accepted.{refusal-not-zero, check-got}
+use Rattle.entries.specs.Promises.{WritesAs, HardenedInto, Hardens}
+use Rattle.entries.proofs.Accepted.{check-got}
+use Rattle.entries.proofs.Written.{table-in, front, writing-zero, table-got, exit-is}
 use Rattle.entries.proofs.Security.{calls-related}
-
--- an accepted table is the one that an entry is asked about
-pub table-in : (place : ℕ) (s : List ℕ) (t : Table) → readTable s ≡ accepted t → tableIn s place ≡ got t
-unfolding tableIn
-table-in place s t e = rw (e, tableIn)
-
--- bytes that are written stand at the front of the buffer
-front : (bytes buffer answer : List ℕ) → take (length bytes) (writtenAll bytes buffer answer .buffer) ≡ bytes
-unfolding writtenAll writtenOver
-front bytes buffer answer = take-at bytes (drop (length bytes) buffer) (length bytes) refl
 
 module _ (place : ℕ) (s : List ℕ) (t : Table) (reads : readTable s ≡ accepted t) where
   module _ (small : length (t .nodes) ≤ maxHardened) (free : t .variables < maxVariables) where
@@ -54,34 +41,6 @@ pub hardens-in-room : (place : ℕ) (s : List ℕ) (t : Table) → Below 256 s �
 hardens-in-room place s t bytes reads small free buffer answer room =
     hardens place s t reads small free buffer answer (omega (arith, demands-met s t bytes reads small free .room))
 
--- ---- where an entry answers 0
--- its bytes were got and written
-writing-zero : (Q : Type 0) (a : Answer (List ℕ)) (buffer answer : List ℕ) → writing a buffer answer .result ≡ 0
-    → ((out : List ℕ) → a ≡ got out → writing a buffer answer ≡ writtenAll out buffer answer → Q) → Q
-unfolding writing notWritten
-writing-zero Q (refused r) buffer answer zero next = absurd (refusal-not-zero r zero)
-writing-zero Q (got out) buffer answer zero next = go (leb (length out) (length buffer)) refl
-  where
-    go : (b : Bool) → leb (length out) (length buffer) ≡ b → Q
-    go true e = next out refl (rw e)
-    go false e = absurd (refusal-not-zero ShortBuffer (rw e at zero))
-
--- its table was accepted
-pub table-got : {A : Type 0} (Q : Type 0) (place : ℕ) (s : List ℕ) (f : Table → Answer A) (x : A) → andThen (tableIn s place) f ≡ got x
-    → ((t : Table) → readTable s ≡ accepted t → f t ≡ got x → Q) → Q
-unfolding tableIn andThen
-table-got {A} Q place s f x e next = go (readTable s) refl
-  where
-    never : (r : Refusal) → tableIn s place ≡ refused r → Q
-    never r refuses =
-        let z : _≡_ {A = Answer A} (refused r) (got x) = sym (ap (λ a. andThen a f) refuses) ∙ e in
-        absurd (let one : _≡_ {A = ℕ} 0 1 = cc in omega arith)
-
-    go : (r : Reading) → readTable s ≡ r → Q
-    go (rejected r) eq = never r (rw (eq, tableIn))
-    go (notATree t) eq = never (NotATree place) (rw (eq, tableIn))
-    go (accepted t) eq = next t eq (sym (ap (λ a. andThen a f) (table-in place s t eq)) ∙ e)
-
 -- the hardened table in the buffer
 written-into : (s : List ℕ) (t : Table) → Below 256 s → readTable s ≡ accepted t → length (t .nodes) ≤ maxHardened → t .variables < maxVariables
     → (buffer answer : List ℕ) → HardenedInto s answer (writtenAll (tableBytes (hardenedTable t)) buffer answer)
@@ -101,7 +60,7 @@ written-into s t bytes reads small free buffer answer =
           (calls-related t (demands .hardened) out (back .accepts) (back .variables) (back .counts) (demands .secure));
     }
 
--- THE PROMISE of the hardening entry: where it answers 0, the table was accepted and the demands hold of what it wrote
+-- where the entry answers 0, the table was accepted and the demands hold of what it wrote
 pub hardened-into : (place : ℕ) (s buffer answer : List ℕ) → Below 256 s → hardenEntry place s buffer answer .result ≡ 0
     → HardenedInto s answer (hardenEntry place s buffer answer)
 unfolding hardenEntry hardenedIn
@@ -116,3 +75,11 @@ hardened-into place s buffer answer bytes zero =
     let same : tableBytes (hardenedTable t) ≡ out = cc (free .1) in
     subst (HardenedInto s answer) (ap (λ bs. writtenAll bs buffer answer) same ∙ sym wrote)
     (written-into s t bytes reads (leb-true (length (t .nodes)) maxHardened (small .0)) (ltb-true (t .variables) maxVariables (free .0)) buffer answer)))
+
+-- THE PROMISE of the hardening entry: an entry that writes as it is defined to meets the demands where it answers 0
+pub entry-hardens : {s out answer out′ answer′ : List ℕ} {k : ℕ} → Below 256 s → WritesAs hardenEntry s out answer k out′ answer′ → Hardens s out answer k out′ answer′
+entry-hardens {s} {out} {answer} bytes w =
+    record {
+      writes = w;
+      demands = λ e. subst (HardenedInto s answer) (exit-is w) (hardened-into (w .place) s out answer bytes (sym (w .results) ∙ e));
+    }

@@ -1,5 +1,7 @@
 -- Laws and computed theorems of this crate.
 pub mod Open
 pub mod Accepted
+pub mod Written
+pub mod Sheet
 pub mod Security
 pub mod Hardened

@@ -1,7 +1,7 @@
--- What a call of the hardening entry answers: the two refusals of its own, the bytes with room for them, and the demands where it answers 0.
+-- What a call of the hardening entry answers: the two refusals of its own, and the bytes with room for them.
 use Prim.Native.Nat.{ℕ, _-_, _≤_, _<_}
 use native.Mathlib.Omega.{arith}
-use mathlib.Core.Path.{_≡_, refl, sym, subst, _∙_}
+use mathlib.Core.Path.{_≡_, refl}
 use mathlib.Core.List.{List}
 use lib.ListN.{length}
 use borrow.Author.Tests.{le-leb, lt-leb, le-ltb, lt-ltb}
@@ -22,11 +22,8 @@ use Rattle.hardener.specs.Output.{Measurable, Measured, Writable}
 use Rattle.copier.specs.declared.Size.{Size}
 use Rattle.entries.specs.Answers.{answered, refusalNumbers}
 use Rattle.flow.specs.Writes.{HardenReady, HasHardened}
-use Rattle.entries.specs.Promises.{HardenedInto, Hardens}
 use Rattle.flow.specs.Writes.{Writes}
-use Rattle.entries.specs.Promises.{WritesAs}
-use Rattle.entries.specs.Writing.{notWritten, writing, hardenedIn, hardenEntry}
-use Rattle.entries.proofs.Hardened.{hardened-into}
+use Rattle.entries.specs.Writing.{notWritten, writing, hardenedIn}
 
 -- ---- the table that was read
 -- where the reader answers an accepted table, it is ready
@@ -96,15 +93,3 @@ pub hardened-writes : {s : List ℕ} → HasHardened s → (out answer : List �
 unfolding hardenedIn check nodesIn
 hardened-writes {s} has out answer h =
     rw (le-leb (length (tableOf s .nodes)) maxHardened (has .few), lt-ltb (tableOf s .variables) maxVariables (has .free)) h
-
--- ---- the promise
--- an entry that writes as it is defined to meets the demands where it answers 0
-pub entry-hardens : {s out answer out′ answer′ : List ℕ} {k : ℕ} → Below 256 s → WritesAs hardenEntry s out answer k out′ answer′ → Hardens s out answer k out′ answer′
-entry-hardens {s} {out} {answer} {out′} {answer′} {k} bytes w =
-    record {
-      writes = w;
-      demands = λ e.
-          let exit : hardenEntry (w .place) s out answer ≡ record { result = k; buffer = out′; answer = answer′ } =
-          λ i. record { result = sym (w .results) i; buffer = sym (w .buffers) i; answer = sym (w .answers) i } in
-          subst (HardenedInto s answer) exit (hardened-into (w .place) s out answer bytes (sym (w .results) ∙ e));
-    }

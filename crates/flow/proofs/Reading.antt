@@ -20,7 +20,7 @@ use Rattle.entries.specs.Answers.{answered, refusalNumbers, tableIn}
 use Rattle.entries.specs.Writing.{Written, notWritten, writtenAll, writing}
 use Rattle.entries.specs.Promises.{Placed, WritesAs}
 use Rattle.flow.specs.Writes.{Writes}
-use Rattle.entries.proofs.Hardened.{table-in}
+use Rattle.entries.proofs.Written.{table-in}
 
 -- ---- a buffer and what is to be written
 -- bytes stored at the front are written over what was there

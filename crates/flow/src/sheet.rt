@@ -16,10 +16,10 @@ ghost use lib.Seq.{sets};
 ghost use Rattle.reader.specs.Index.{Indexed, tableOf, nodesIn};
 ghost use Rattle.labels.specs.Sheet.{sheetBytes};
 ghost use Rattle.analysis.specs.Conditions.{Fresh};
-ghost use Rattle.entries.specs.Promises.{WritesAs};
+ghost use Rattle.entries.specs.Promises.{Sheets};
 ghost use Rattle.flow.specs.Writes.{Writes};
 ghost use Rattle.awhile.specs.Refusals.{got};
-ghost use Rattle.entries.specs.Writing.{writing, sheetEntry};
+ghost use Rattle.entries.specs.Writing.{writing};
 
 // A table with no more nodes is small.
 const FEW_NODES: usize = 512;
@@ -125,7 +125,7 @@ fn answer_sheet(
 // Writes the label sheet of a table into a lent buffer.
 #[no_mangle]
 pub extern "C" fn flow_sheet(table: &[u8], sheet: &mut [u8], answer: &mut [u8]) -> u64
-    ensures { λ r. ⌜ WritesAs sheetEntry (now (table .entry)) (now (sheet .entry)) (now (answer .entry)) r (now (sheet .exit)) (now (answer .exit)) ⌝ }
+    ensures { λ r. ⌜ Sheets (now (table .entry)) (now (sheet .entry)) (now (answer .entry)) r (now (sheet .exit)) (now (answer .exit)) ⌝ }
 {
     let mut index = [0u16; MAX_NODES];
     let found = read(table, &mut index);

@@ -7,5 +7,5 @@ pub mod Order
 pub mod Values
 pub mod Passes
 pub mod Analysis
-pub mod Rules
 pub mod Notes
+pub mod Rules

@@ -1,17 +1,22 @@
 -- The analysis satisfies the rules for labels, and every annotation that does is above it at every command.
 use Prim.Native.Nat.{ℕ}
 use mathlib.Core.Bool.{Bool, le, _||_}
-use mathlib.Core.Path.{_≡_, refl, ap, ap₂, subst}
+use mathlib.Core.List.{[], _∷_, _++_, List·Memᴰ·not-nil, List·Memᴰ·cases-cons, List·Memᴰ·append-cases}
+use mathlib.Core.Logic.{⊎-elim}
+use mathlib.Core.Path.{_≡_, refl, sym, ap, ap₂, fun-ext, subst, _∙_}
+use native.Mathlib.Omega.{arith}
 use Rattle.awhile.specs.Language.{BExp, Com, skip, assign, sequence, if, while, read, write, noteOf, mapNotes}
 use Rattle.awhile.specs.declared.Labelling.{Labelling}
 use Rattle.labels.specs.Labellings.{variableMark, arrayMark, _⊑_, labelOfB}
 use Rattle.labels.specs.Analysis.{analyse}
-use Rattle.labels.specs.Annotation.{Entry, entered, annotate}
+use Rattle.labels.specs.Annotation.{Entry, entered, annotate, parts}
 use Rattle.labels.specs.Rules.{Settled, loopPass, programOf, Enters, Satisfies, skip-rule, assign-rule, sequence-rule, if-rule, while-rule, read-rule, write-rule}
 use Rattle.labels.specs.Rules.{Annotates, EntryAbove, Above, skip-above, assign-above, sequence-above, if-above, while-above, read-above, write-above}
+use Rattle.labels.specs.Rules.{LoopsSettle, LeastAnnotation}
 use Rattle.labels.proofs.Booleans.{or-mono}
 use Rattle.labels.proofs.Order.{⊑-refl, ⊑-trans, join-left, join-right, join-least, set-mono, labelOfA-mono, labelOfB-mono}
 use Rattle.labels.proofs.Analysis.{readLabel-mono, writeLabel-mono, loop-settles}
+use Rattle.labels.proofs.Notes.{analyse-notes}
 
 -- what satisfies the rules still does with a larger labelling after it
 pub satisfies-weaker : {a : Com Entry} {m n : Labelling} → Satisfies a m → m ⊑ n → Satisfies a n
@@ -124,3 +129,67 @@ pub analysis-least : (c : Com ℕ) (x : Bool) (l : Labelling) {a : Com Entry} {a
     → Above a (annotate c x l) × (analyse c x l ⊑ after)
 analysis-least c x l {a} {after} h =
     subst (λ (d : Com ℕ). Above a (annotate d x l) × (analyse d x l ⊑ after)) (h .program) (least (h .satisfies) x l (h .enters))
+
+-- ---- the loops of the analysis
+-- the analysis of an annotated command is that of the command
+analyse-annotated : (c : Com ℕ) (x : Bool) (l : Labelling) (y : Bool) (m : Labelling) → analyse (annotate c x l) y m ≡ analyse c y m
+analyse-annotated c x l y m =
+    sym (analyse-notes (λ (e : Entry). e .node) (annotate c x l) y m) ∙ ap (λ (d : Com ℕ). analyse d y m) (program-annotate c x l)
+
+-- a loop's body is entered with the labelling at which passes over it settle
+body-settles : (n : ℕ) (b : BExp) (c : Com ℕ) (x : Bool) (l : Labelling) (a : Com Entry) (s : Labelling) → analyse (while n b c) x l ≡ s
+    → ((y : Bool) (m : Labelling) → analyse a y m ≡ analyse c y m) → noteOf a .labelling ≡ s → Settled (loopPass b a x) l (noteOf a .labelling)
+body-settles n b c x l a s is same entry =
+    let settled : Settled (loopPass b c x) l s = rw is at (loop-settles n b c x l) in
+    rw entry (subst (λ (pass : Labelling → Labelling). Settled pass l s) (fun-ext (λ m. sym (same (labelOfB m b || x) m))) settled)
+
+-- no loop is this command
+abbrev NoLoop : Com Entry → Type 0
+NoLoop a = (e : Entry) (b : BExp) (c : Com Entry) → while e b c ≡ a → _≡_ {A = ℕ} 0 1
+
+-- a command without parts has no loop in it, and one of two parts has the loops of its parts
+no-loops : (a : Com Entry) → NoLoop a → parts a ≡ a ∷ [] → LoopsSettle a
+no-loops a other is =
+    record { settles = λ e b c m. absurd (⊎-elim (λ same. let z = other e b c same in omega arith) List·Memᴰ·not-nil (List·Memᴰ·cases-cons (rw is at m))) }
+
+loops-of-two : (a c d : Com Entry) → NoLoop a → parts a ≡ a ∷ (parts c ++ parts d) → LoopsSettle c → LoopsSettle d → LoopsSettle a
+loops-of-two a c d other is first second =
+    record {
+      settles = λ e b body m.
+          ⊎-elim (λ same. let z = other e b body same in absurd (omega arith))
+          (λ rest. ⊎-elim (first .settles e b body) (second .settles e b body) (List·Memᴰ·append-cases (parts c) rest))
+          (List·Memᴰ·cases-cons (rw is at m));
+    }
+
+-- a loop that settles, with the loops of its body
+loops-of-loop : (e : Entry) (b : BExp) (a : Com Entry) → Settled (loopPass b a (e .context)) (e .labelling) (noteOf a .labelling) → LoopsSettle a
+    → LoopsSettle (while e b a)
+unfolding parts
+loops-of-loop e b a settled body = record { settles = λ f d c m. ⊎-elim (this f d c) (body .settles f d c) (List·Memᴰ·cases-cons m) }
+  where
+    this : (f : Entry) (d : BExp) (c : Com Entry) → while f d c ≡ while e b a → Settled (loopPass d c (f .context)) (f .labelling) (noteOf c .labelling)
+    this f d c same =
+        let entry : f ≡ e = cc in
+        let test : d ≡ b = cc in
+        let inside : c ≡ a = cc in
+        rw (entry, test, inside) settled
+
+loops-settle : (c : Com ℕ) (x : Bool) (l : Labelling) → LoopsSettle (annotate c x l)
+unfolding annotate parts
+loops-settle (skip n) x l = no-loops _ (λ e b c same. cc) refl
+loops-settle (assign n v e) x l = no-loops _ (λ e b c same. cc) refl
+loops-settle (sequence n c d) x l = loops-of-two _ _ _ (λ e b c same. cc) refl (loops-settle c x l) (loops-settle d x (analyse c x l))
+loops-settle (if n b c d) x l = loops-of-two _ _ _ (λ e b c same. cc) refl (loops-settle c (labelOfB l b || x) l) (loops-settle d (labelOfB l b || x) l)
+loops-settle (while n b c) x l =
+    let s : Labelling = analyse (while n b c) x l in
+    let y : Bool = labelOfB s b || x in
+    loops-of-loop (entered n x l) b (annotate c y s)
+    (body-settles n b c x l (annotate c y s) s refl (analyse-annotated c y s) (ap (λ (e : Entry). e .labelling) (note-annotate c y s)))
+    (loops-settle c y s)
+loops-settle (read n v a i) x l = no-loops _ (λ e b c same. cc) refl
+loops-settle (write n a i e) x l = no-loops _ (λ e b c same. cc) refl
+
+-- THE ANALYSIS gives the least annotation
+pub analysis-is-least : (c : Com ℕ) (x : Bool) (l : Labelling) → LeastAnnotation c x l (annotate c x l) (analyse c x l)
+analysis-is-least c x l =
+    record { annotates = analysis-satisfies c x l; least = λ b m. analysis-least c x l; loops = loops-settle c x l }

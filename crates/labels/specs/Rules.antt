@@ -8,7 +8,7 @@ use Rattle.awhile.specs.Language.{AExp, BExp, Com, skip, assign, sequence, if, 
 use Rattle.awhile.specs.declared.Labelling.{Labelling}
 use Rattle.labels.specs.Labellings.{Mark, variableMark, arrayMark, labelOf, setLabel, labelOfA, labelOfB, join, _⊑_}
 use Rattle.labels.specs.Analysis.{readLabel, writeLabel, targets, analyse}
-use Rattle.labels.specs.Annotation.{Entry}
+use Rattle.labels.specs.Annotation.{Entry, parts}
 
 -- the two lists of values agree on every variable that is public in the labelling
 pub record AgreeOn (l : Labelling) (vs ws : List ℕ) : Type 0 where
@@ -114,3 +114,16 @@ pub data Above : Com Entry → Com Entry → Type 0 where
   while-above : {e f : Entry} {b : BExp} {c c′ : Com Entry} → EntryAbove e f → Above c c′ → Above (while e b c) (while f b c′)
   read-above : {e f : Entry} {v a : ℕ} {i : AExp} → EntryAbove e f → Above (read e v a i) (read f v a i)
   write-above : {e f : Entry} {a : ℕ} {i v : AExp} → EntryAbove e f → Above (write e a i v) (write f a i v)
+
+-- every loop of an annotation, those inside loops included: the labelling that enters its body is the settled one of the passes over this body,
+-- from the labelling and in the context that enter the loop
+pub record LoopsSettle (a : Com Entry) : Type 0 where
+  pub settles : (e : Entry) (b : BExp) (c : Com Entry) → List·Memᴰ (while e b c) (parts a)
+      → Settled (loopPass b c (e .context)) (e .labelling) (noteOf c .labelling)
+
+-- "Loop labels are the least that satisfy the rules": an annotation of this program that satisfies the rules, that is below every other one that
+-- does, at every command and after the program, and in which every loop settles
+pub record LeastAnnotation (c : Com ℕ) (x : Bool) (l : Labelling) (a : Com Entry) (after : Labelling) : Type 0 where
+  pub annotates : Annotates c x l a after
+  pub least : (b : Com Entry) (m : Labelling) → Annotates c x l b m → Above b a × (after ⊑ m)
+  pub loops : LoopsSettle a

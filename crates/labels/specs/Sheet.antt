@@ -60,7 +60,9 @@ recordsBelow c (suc n) = recordsBelow c n ++ recordOf c n
 unfoldable pub annotated : Table → Com Entry
 annotated t = annotate (rootOf t) false (t .labels)
 
+-- the sheet of an annotated program with so many nodes and this labelling after it
+unfoldable pub sheetOf : (nodes : ℕ) → Com Entry → (final : Labelling) → List ℕ
+sheetOf n a final = le 2 14 ++ (le 2 128 ++ (le 2 1 ++ (le 2 n ++ (masksBytes final ++ recordsBelow a n))))
+
 unfoldable pub sheetBytes : Table → List ℕ
-sheetBytes t =
-    let final : Labelling = analyse (rootOf t) false (t .labels) in
-    le 2 14 ++ (le 2 128 ++ (le 2 1 ++ (le 2 (length (t .nodes)) ++ (masksBytes final ++ recordsBelow (annotated t) (length (t .nodes))))))
+sheetBytes t = sheetOf (length (t .nodes)) (annotated t) (analyse (rootOf t) false (t .labels))

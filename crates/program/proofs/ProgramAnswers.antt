@@ -23,7 +23,7 @@ use Rattle.entries.specs.Promises.{WritesAs}
 use Rattle.entries.specs.Writing.{Written, notWritten, writtenAll, writing, hardenedIn, hardenEntry}
 use Rattle.program.specs.Program.{refusalBytes, refusalRecord, hardenedInput, AnswersRead}
 use Rattle.entries.proofs.Accepted.{refusal-not-zero, check-got}
-use Rattle.entries.proofs.Hardened.{table-got}
+use Rattle.entries.proofs.Written.{table-got}
 use Rattle.program.proofs.Program.{answers-read}
 use Rattle.flow.proofs.Reading.{written-front}
 

@@ -7,7 +7,8 @@ use Rattle.awhile.specs.declared.Labelling.{Labelling}
 use Rattle.reader.specs.declared.Read.the-variants.{Accepted}
 use Rattle.flow.specs.Writes.{HardenReady}
 use Rattle.entries.specs.Writing.{hardenedIn, hardenEntry}
-use Rattle.flow.proofs.HardenedCalls.{reader-ready, entry-hardens}
+use Rattle.entries.proofs.Hardened.{entry-hardens}
+use Rattle.flow.proofs.HardenedCalls.{reader-ready}
 use Rattle.flow.proofs.Reading.{read-refused, read-accepted}
 use borrow.Author.Needs.{needs}
 use Rattle.flow.proofs.harden.flow_harden.Statement.{statement}

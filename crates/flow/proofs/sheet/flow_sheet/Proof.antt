@@ -1,4 +1,4 @@
--- `flow_sheet` answers what the reader refuses, and else writes the sheet.
+-- `flow_sheet` answers what the reader refuses, and else writes the sheet, of the least labels.
 use Prim.Native.Nat.{ℕ}
 use Rattle.awhile.specs.declared.Labelling.{Labelling}
 use Rattle.reader.specs.declared.Read.the-variants.{Accepted}
@@ -7,6 +7,7 @@ use mathlib.Core.Path.{_≡_}
 use Rattle.awhile.specs.Refusals.{got}
 use Rattle.labels.specs.Sheet.{sheetBytes}
 use Rattle.entries.specs.Writing.{sheetEntry}
+use Rattle.entries.proofs.Sheet.{entry-sheets}
 use Rattle.flow.proofs.Reading.{Accepts, read-refused, read-accepted, reader-accepts}
 use borrow.Author.Needs.{needs}
 use Rattle.flow.proofs.sheet.flow_sheet.Statement.{statement}
@@ -27,15 +28,15 @@ returns : tie.Need-returns
 unfolding sheetEntry
 returns c =
     let start = c .before .before .before .before .before .before .before .before .before .before .before .before .before in
-    read-refused (λ t. got (sheetBytes t)) (now (start .args .table)) (now (start .args .sheet)) (now (start .args .answer)) (c .before .before .before .before .before .before .before .before .read .last .1 .0) (c .before .before .before .before .before .before .before .before .read .result) _ (c .before .before .before .before .before .before .before .before .read .ensures) (c .before .before .before .before .before .found .given .1)
-    (c .before .before .answer-refusal .ensures .0) (c .before .before .answer-refusal .ensures .1)
+    entry-sheets (read-refused (λ t. got (sheetBytes t)) (now (start .args .table)) (now (start .args .sheet)) (now (start .args .answer)) (c .before .before .before .before .before .before .before .before .read .last .1 .0) (c .before .before .before .before .before .before .before .before .read .result) _ (c .before .before .before .before .before .before .before .before .read .ensures) (c .before .before .before .before .before .found .given .1)
+    (c .before .before .answer-refusal .ensures .0) (c .before .before .answer-refusal .ensures .1))
 
 returns-2 : tie.Need-returns-2
 unfolding sheetEntry
 returns-2 c =
     let start = c .before .before .before .before .before .before .before .before .before .before .before .before .before .before .before .before .before in
     let a = accepts (c .before .before .before .before .before .before .before .before .before .before .before .before) _ _ _ _ _ _ (c .before .before .before .before .before .before .before .before .before .found2 .given .1) in
-    read-accepted (λ t. got (sheetBytes t)) (now (start .args .table)) (now (start .args .sheet)) (now (start .args .answer)) (c .before .before .before .before .before .before .before .before .before .before .before .before .read .last .1 .0) (a .indexed) (c .before .before .before .before .answer-sheet .ensures)
+    entry-sheets (read-accepted (λ t. got (sheetBytes t)) (now (start .args .table)) (now (start .args .sheet)) (now (start .args .answer)) (c .before .before .before .before .before .before .before .before .before .before .before .before .read .last .1 .0) (a .indexed) (c .before .before .before .before .answer-sheet .ensures))
 
 pub flow-sheet-spec : {M : Type 1} → statement M
 flow-sheet-spec =

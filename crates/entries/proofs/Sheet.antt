@@ -1,0 +1,51 @@
+-- Where the sheet entry answers 0, what stands in the buffer is the sheet of the least labels.
+use Prim.Native.Nat.{ℕ}
+use mathlib.Core.Bool.{false}
+use mathlib.Core.Path.{_≡_, refl, sym, ap, subst, _∙_}
+use mathlib.Core.List.{List}
+use lib.ListN.{length}
+use Rattle.awhile.specs.Refusals.{got, andThen}
+use Rattle.awhile.specs.Tables.{Table, readTable, accepted}
+use Rattle.awhile.specs.Trees.{rootOf}
+use Rattle.labels.specs.Analysis.{analyse}
+use Rattle.labels.specs.Sheet.{annotated, sheetBytes}
+use Rattle.labels.proofs.Rules.{analysis-is-least}
+use Rattle.entries.specs.Answers.{tableIn}
+use Rattle.entries.specs.Writing.{writtenAll, sheetEntry}
+use Rattle.entries.specs.Promises.{WritesAs, SheetInto, Sheets}
+use Rattle.entries.proofs.Written.{front, writing-zero, table-got, exit-is}
+
+-- the sheet in the buffer
+written-into : (s : List ℕ) (t : Table) → readTable s ≡ accepted t → (buffer answer : List ℕ) → SheetInto s answer (writtenAll (sheetBytes t) buffer answer)
+unfolding writtenAll annotated sheetBytes
+written-into s t reads buffer answer =
+    record {
+      original = t;
+      reads = reads;
+      annotation = annotated t;
+      final = analyse (rootOf t) false (t .labels);
+      labels = analysis-is-least (rootOf t) false (t .labels);
+      size = length (sheetBytes t);
+      answers = refl;
+      sheet = front (sheetBytes t) buffer answer;
+    }
+
+-- where the entry answers 0, the table was accepted and its sheet written
+sheet-into : (place : ℕ) (s buffer answer : List ℕ) → sheetEntry place s buffer answer .result ≡ 0 → SheetInto s answer (sheetEntry place s buffer answer)
+unfolding sheetEntry
+sheet-into place s buffer answer zero =
+    let Q : Type 0 = SheetInto s answer (sheetEntry place s buffer answer) in
+    writing-zero Q (andThen (tableIn s place) (λ t. got (sheetBytes t))) buffer answer zero
+    (λ out got-out wrote.
+    table-got Q place s (λ t. got (sheetBytes t)) out got-out
+    (λ t reads is.
+    let same : sheetBytes t ≡ out = cc in
+    subst (SheetInto s answer) (ap (λ bs. writtenAll bs buffer answer) same ∙ sym wrote) (written-into s t reads buffer answer)))
+
+-- THE PROMISE of the sheet entry: an entry that writes as it is defined to leaves the least labels where it answers 0
+pub entry-sheets : {s buffer answer buffer′ answer′ : List ℕ} {k : ℕ} → WritesAs sheetEntry s buffer answer k buffer′ answer′ → Sheets s buffer answer k buffer′ answer′
+entry-sheets {s} {buffer} {answer} w =
+    record {
+      writes = w;
+      labels = λ e. subst (SheetInto s answer) (exit-is w) (sheet-into (w .place) s buffer answer (sym (w .results) ∙ e));
+    }
