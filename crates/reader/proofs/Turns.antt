@@ -47,7 +47,7 @@ begun-left p e = ap (λ (x : Progress). x .left) e
 at-small : (s : List ℕ) (at : ℕ) (p : Progress) (index uses : List ℕ) (n : ℕ) → Counted s p → NodesLeft s (p .variables) (p .arrays) (p .nodes) index uses at n → at < 65000
 at-small s at p index uses n c h =
     let fit = header-fits s (headerOf p) (c .declared .isHeader) in
-    omega (arith, offset-small _ _ _ _ _ _ _ _ h, h .few, fit .arraysFit, fit .nodesFit)
+    omega (arith, offset-small _ _ _ _ _ _ _ _ h)
 
 module _ (s : List ℕ) (at : ℕ) (p : Progress) (index uses : List ℕ) where
   -- ---- what is due, by what is known
@@ -91,7 +91,7 @@ module _ (s : List ℕ) (at : ℕ) (p : Progress) (index uses : List ℕ) where
   array-ready (atHeader z b f) d more = absurd (never (cc (begun-due p b)))
   array-ready (atLabels z e l h f) d more = absurd (never (cc))
   array-ready (atArray e left l h c f) d more = record { left = left; more = omega arith; sum-left = l; declared = h; counts = c; fresh = f }
-  array-ready (atNode e n l c h g) d more = absurd (omega (arith, l))
+  array-ready (atNode e n l c h g) d more = absurd (omega arith)
   array-ready (atEnd a e l w) d more = absurd (never (cc))
 
   -- a node or the end
@@ -106,11 +106,11 @@ module _ (s : List ℕ) (at : ℕ) (p : Progress) (index uses : List ℕ) where
   after-arrays (atHeader z b f) d few = absurd (never (cc (begun-due p b)))
   after-arrays (atLabels z e l h f) d few = absurd (never (cc))
   after-arrays (atArray e left l h c f) d few =
-      let none : left ≡ 0 = omega (arith, l) in
-      let here : at ≡ nodesStart (p .arrays) = omega (arith, c .place) in
+      let none : left ≡ 0 = omega arith in
+      let here : at ≡ nodesStart (p .arrays) = omega arith in
       record {
         n = 0;
-        sum-left = omega (arith, l);
+        sum-left = omega arith;
         counted = record { declared = h; counts = c .before; isCounts = counts-done s (p .arrays) left at (p .cells) c none; total = c .summed };
         nodesLeft = rw here (nodes-start s (p .variables) (p .arrays) (p .nodes) index uses (f .zeros));
         long = f .long;
@@ -131,7 +131,7 @@ module _ (s : List ℕ) (at : ℕ) (p : Progress) (index uses : List ℕ) where
   node-ready b few more =
       let k = after-arrays (b .walking) (b .isBody) few in
       let f = body-limits (b .walking) (b .isBody) in
-      let same : p .nodes + 1 - p .left ≡ k .n = omega (arith, k .sum-left) in
+      let same : p .nodes + 1 - p .left ≡ k .n = omega arith in
       record { some = b .some; more = omega arith; few = (f .nodesFit, f .arraysFit); left = rw same (k .nodesLeft); long = k .long }
 
   -- while records are left, no answer is there
@@ -140,7 +140,7 @@ module _ (s : List ℕ) (at : ℕ) (p : Progress) (index uses : List ℕ) where
   never-done a d some (atLabels z e l h f) = never (cc)
   never-done a d some (atArray e left l h c f) = never (cc)
   never-done a d some (atNode e n l c h g) = never (cc)
-  never-done a d some (atEnd b e l w) = omega (arith, l)
+  never-done a d some (atEnd b e l w) = omega arith
 
   -- ---- what is known after one record more
   module _ (some : 0 < p .left) where
@@ -152,30 +152,30 @@ module _ (s : List ℕ) (at : ℕ) (p : Progress) (index uses : List ℕ) where
     -- after the header
     pub header-turn : HeaderReady → (h : HeaderRead) → h ≡ headerAs (readHeader s) → (r : Progress) → r ≡ headerDue h → Turned s at p r index uses
     unfolding headerDue
-    header-turn k (HeaderRefused x) e r q = turn-done (Refused x) r (omega (arith, k .here)) q (header-stop s index x e)
+    header-turn k (HeaderRefused x) e r q = turn-done (Refused x) r (omega arith) q (header-stop s index x e)
     header-turn k (HeaderGot vs arrs nodes) e r q =
         let read = header-got _ _ _ _ e in
         let fit = header-fits s (record { variables = vs; arrays = arrs; nodes = nodes }) read in
         rw q (record {
-          walking = atLabels (omega (arith, k .here)) refl refl read (k .fresh);
-          fewer = omega (arith, k .all-left, fit .arraysFit, fit .nodesFit);
-          fits = omega (arith, k .here);
+          walking = atLabels (omega arith) refl refl read (k .fresh);
+          fewer = omega arith;
+          fits = omega arith;
         })
 
     -- after the labels
     pub labels-turn : LabelsReady → (h : LabelsRead) → h ≡ labelsAs (readLabels s (headerOf p)) → (r : Progress) → r ≡ labelsDue p h → Turned s at p r index uses
     unfolding labelsDue
-    labels-turn k (LabelsRefused x) e r q = turn-done (Refused x) r (omega (arith, k .here)) q (labels-stop s index p x (k .isHeader) e)
+    labels-turn k (LabelsRefused x) e r q = turn-done (Refused x) r (omega arith) q (labels-stop s index p x (k .isHeader) e)
     labels-turn k (LabelsGot ls) e r q =
         rw (q, k .here) (record {
-          walking = atArray refl (p .arrays) (omega (arith, k .sum-left)) (record { isHeader = k .isHeader; isLabels = labels-got _ ls e }) (counts-start s (p .arrays)) (k .fresh);
+          walking = atArray refl (p .arrays) (omega arith) (record { isHeader = k .isHeader; isLabels = labels-got _ ls e }) (counts-start s (p .arrays)) (k .fresh);
           fewer = omega arith;
           fits = omega arith;
         })
 
     -- after an array
     array-small : (k : ArrayReady) → at < 65000
-    array-small k = omega (arith, k .counts .place, header-fits s (headerOf p) (k .declared .isHeader) .arraysFit)
+    array-small k = omega (arith, header-fits s (headerOf p) (k .declared .isHeader) .arraysFit)
 
     pub array-turn : (k : ArrayReady) → (h : CountRead) → h ≡ countAs (readCount s at (p .cells)) → (r : Progress) → r ≡ countDue p h → Turned s at p r index uses
     unfolding countDue
@@ -183,7 +183,7 @@ module _ (s : List ℕ) (at : ℕ) (p : Progress) (index uses : List ℕ) where
         turn-done (Refused x) r (omega (arith, array-small k)) q (arrays-stop s index p x (k .declared) (counts-stop s (p .arrays) (k .left) at (p .cells) (k .counts) (k .more) x (sym e)))
     array-turn k (CountGot n) e r q =
         rw q (record {
-          walking = atArray refl (k .left - 1) (omega (arith, k .sum-left, k .more)) (record { isHeader = k .declared .isHeader; isLabels = k .declared .isLabels })
+          walking = atArray refl (k .left - 1) (omega arith) (record { isHeader = k .declared .isHeader; isLabels = k .declared .isLabels })
               (counts-more s (p .arrays) (k .left) at (p .cells) (k .counts) (k .more) n (sym e)) (k .fresh);
           fewer = omega arith;
           fits = omega (arith, array-small k);
@@ -193,7 +193,7 @@ module _ (s : List ℕ) (at : ℕ) (p : Progress) (index uses : List ℕ) where
     pub end-turn : (k : AfterArrays) → p .left ≤ 1 → (answer : Read) → Finishes s index uses (p .variables) (p .arrays) (p .nodes) (p .cells) (p .labels) at answer → (r : Progress) → r ≡ doneWith answer → Turned s at p r index uses
     end-turn k few answer f r e =
         turn-done answer r (omega (arith, at-small s at p index uses (k .n) (k .counted) (k .nodesLeft))) e
-        (nodes-finished s index p uses at (k .n) answer (k .counted) (k .nodesLeft) (omega (arith, k .sum-left, some)) f)
+        (nodes-finished s index p uses at (k .n) answer (k .counted) (k .nodesLeft) (omega arith) f)
 
 -- after a node: index and uses were written, and are as long as they were
 module _ (s : List ℕ) (at : ℕ) (p : Progress) (index uses index′ uses′ : List ℕ) (some : 0 < p .left) (k : AfterArrays s at p index uses) where
@@ -204,8 +204,8 @@ module _ (s : List ℕ) (at : ℕ) (p : Progress) (index uses index′ uses′ :
   node-turn n e li lu r (nodeRead size q h) =
       let c = k .counted in
       rw q (record {
-        walking = atNode refl (n + 1) (omega (arith, e, k .sum-left)) (record { declared = record { isHeader = c .declared .isHeader; isLabels = c .declared .isLabels }; counts = c .counts; isCounts = c .isCounts; total = c .total }) h
-            (record { longIndex = omega (arith, li, k .long .longIndex); longUses = omega (arith, lu, k .long .longUses) });
+        walking = atNode refl (n + 1) (omega arith) (record { declared = record { isHeader = c .declared .isHeader; isLabels = c .declared .isLabels }; counts = c .counts; isCounts = c .isCounts; total = c .total }) h
+            (record { longIndex = omega arith; longUses = omega arith });
         fewer = omega arith;
         fits = omega (arith, at-small s (at + size) p index′ uses′ (n + 1) c h);
       })
@@ -223,10 +223,10 @@ module _ (s index uses : List ℕ) (p : Progress) where
   ends-done e Q next = go (e .walked)
     where
       go : Walking s (e .end) p index uses → Q
-      go (atHeader z b f) = absurd (omega (arith, begun-left p b, e .none-left))
-      go (atLabels z q l h f) = absurd (omega (arith, l, e .none-left))
-      go (atArray q left l h c f) = absurd (omega (arith, l, e .none-left))
-      go (atNode q n l c h g) = absurd (omega (arith, l, h .few, e .none-left))
+      go (atHeader z b f) = absurd (omega (arith, begun-left p b))
+      go (atLabels z q l h f) = absurd (omega arith)
+      go (atArray q left l h c f) = absurd (omega arith)
+      go (atNode q n l c h g) = absurd (omega arith)
       go (atEnd a q l w) = next a q w
 
   pub ends-answers : Ends s p index uses → (a : Read) → p .due ≡ Done a → Answers s index a

@@ -13,7 +13,7 @@ array-due-requires : tie.Need-array-due-requires
 array-due-requires c κs =
     let b = c .before .before .before .before .before .pre in
     let k = array-ready _ _ _ _ _ (b .walking) (b .isBody) (c .if1 .taken) in
-    (omega (arith, k .counts .place, body-limits _ _ _ _ _ (b .walking) (b .isBody) .arraysFit), k .counts .few, b .some)
+    (omega (arith, body-limits _ _ _ _ _ (b .walking) (b .isBody) .arraysFit), k .counts .few, b .some)
 
 returns : tie.Need-returns
 returns c =
@@ -35,14 +35,14 @@ returns-2 c =
     let b = tested .before .before .before .before .before .pre in
     let k = after-arrays _ _ _ _ _ (b .walking) (b .isBody) (tested .if1 .left) in
     let kept = called .node-due .kept .1 .1 .1 .1 in
-    node-turn _ _ _ _ _ _ _ (b .some) k _ (omega (arith, k .sum-left)) (kept .0) (kept .1 .0) _ (called .node-due .ensures)
+    node-turn _ _ _ _ _ _ _ (b .some) k _ (omega arith) (kept .0) (kept .1 .0) _ (called .node-due .ensures)
 
 finish-requires : tie.Need-finish-requires
 finish-requires c κs =
     let b = c .before .before .before .before .before .before .before .before .pre in
     let f = body-limits _ _ _ _ _ (b .walking) (b .isBody) in
     let k = after-arrays _ _ _ _ _ (b .walking) (b .isBody) (c .before .before .before .if1 .left) in
-    (f .hasNodes, omega (arith, f .nodesFit, k .long .longIndex), omega (arith, f .nodesFit, k .long .longUses))
+    (f .hasNodes, omega arith, omega arith)
 
 returns-3 : tie.Need-returns-3
 returns-3 c =

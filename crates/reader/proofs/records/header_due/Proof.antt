@@ -14,7 +14,7 @@ add-t10 c = omega (arith, header-limits _ _ _ _ (sym (c .before .variables .give
 add-t11 : tie.Need-add-t11
 add-t11 c =
     let fit = header-limits _ _ _ _ (sym (c .before .variables .given .1) ∙ c .before .before .before .read-header .ensures) in
-    omega (arith, fit .arraysFit, fit .nodesFit)
+    omega arith
 
 returns : tie.Need-returns
 unfolding headerDue

@@ -9,23 +9,17 @@ use Rattle.reader.proofs.records.node_due.Statement.{statement}
 use Rattle.reader.proofs.records.node_due.Tie as tie
 
 read-node-requires : tie.Need-read-node-requires
-read-node-requires c κs = let k = c .before .before .before .before .before .pre in omega (arith, offset-small _ _ _ _ _ _ _ _ (k .left), k .more, k .few .0, k .few .1)
+read-node-requires c κs = omega (arith, offset-small _ _ _ _ _ _ _ _ (c .before .before .before .before .before .pre .left))
 
 cast-index : tie.Need-cast-index
-cast-index c = let k = c .before .before .before .before .before .before .before .before .before .pre in omega (arith, offset-small _ _ _ _ _ _ _ _ (k .left), k .more, k .few .0, k .few .1)
-
-mul-index : tie.Need-mul-index
-mul-index c = let k = c .before .before .before .before .before .before .before .before .before .pre in omega (arith, k .more, k .few .0)
-
-slice-write-index : tie.Need-slice-write-index
-slice-write-index c = let k = c .before .before .before .before .before .before .before .before .before .pre in omega (arith, k .more, k .few .0, k .long .longIndex)
+cast-index c = omega (arith, offset-small _ _ _ _ _ _ _ _ (c .before .before .before .before .before .before .before .before .before .pre .left))
 
 count-fields-requires : tie.Need-count-fields-requires
 count-fields-requires c κs =
     let read = c .before .before .before .before in
     let known = read .before .before .before .before .before in
     let k = known .before .pre in (
-      children-inside _ _ _ _ _ _ _ _ (k .left) (k .more) (slice-bytes _ (known .shared-slice-known .given)) _ _ (rw (c .before .before .size .given .1) at (read .read-node .ensures)) _ (omega (arith, k .few .0, k .long .longUses)),
+      children-inside _ _ _ _ _ _ _ _ (k .left) (k .more) (slice-bytes _ (known .shared-slice-known .given)) _ _ (rw (c .before .before .size .given .1) at (read .read-node .ensures)) _ (omega arith),
       uses-small _ _ _ _ _ _ _ _ (k .left) (k .few .0),
     )
 
@@ -44,7 +38,7 @@ returns-2 c =
     nodeRead (matched .size .given .0 .0) refl
     (rw (c .before .before .before .count-fields .ensures)
     (nodes-more _ _ _ _ _ _ _ _ (k .left) (k .more) (slice-bytes _ (known .shared-slice-known .given)) _ _ (rw (matched .size .given .1) at (read .read-node .ensures))
-    (omega (arith, k .few .0, k .long .longIndex)) (omega (arith, k .few .0, k .long .longUses))))
+    (omega arith) (omega arith)))
 
 pub node-due-spec : {M : Type 1} → statement M
 node-due-spec =
@@ -55,8 +49,8 @@ node-due-spec =
     (λ c κs. search needs)
     (λ c. search needs)
     cast-index
-    mul-index
-    slice-write-index
+    (λ c. search needs)
+    (λ c. search needs)
     count-fields-requires
     (λ c. search needs)
     (λ c. search needs)
