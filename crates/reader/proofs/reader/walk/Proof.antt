@@ -226,7 +226,7 @@ module _ {M : Type 1} (𝓤 : URA M) (H : Heap 𝓤) (A : Atoms 𝓤) (W : Given
         returns ! (look ! 7 refl) $ forget ! 7 refl $ forget ! 8 refl $ forget ! 9 refl $ forget ! 10 refl $ forget ! 11 refl $ forget ! 12 refl $ forget ! 13 refl $
         move ! (7 ∷ 20 ∷ []) $ free1 ! $ move ! (7 ∷ 19 ∷ []) $ free1 ! $ move ! (7 ∷ 18 ∷ []) $ free1 ! $ move ! (7 ∷ 17 ∷ []) $ free1 ! $ move ! (7 ∷ 16 ∷ []) $ free1 ! $ move ! (7 ∷ 15 ∷ []) $ free1 ! $ move ! (7 ∷ 14 ∷ []) $ free1 ! $ move ! (7 ∷ 13 ∷ []) $ free1 ! $ move ! (7 ∷ 12 ∷ []) $ free1 ! $ move ! (7 ∷ 11 ∷ []) $ free1 ! $ move ! (7 ∷ 10 ∷ []) $ free1 ! $ move ! (7 ∷ 9 ∷ []) $ free1 ! $ move ! (7 ∷ 8 ∷ []) $ free1 ! $ free0 ! $ by ! (exits t (none-left (t .p .left) e)))
 
-    -- what `record_at`'s triple binds outside: index and uses lent again for two lifetimes of the call
+    -- what `record`'s triple binds outside: index and uses lent again for two lifetimes of the call
     abbrev to-record : Stt → ℕ → ℕ → GName → GName → Records 𝓤 H A mem run .Ghost
     to-record t ν₁ ν₂ δ₁ δ₂ = (
       (
@@ -251,7 +251,7 @@ module _ {M : Type 1} (𝓤 : URA M) (H : Heap 𝓤) (A : Atoms 𝓤) (W : Given
         -- what table owns and the number's facts are what the reader owns
         nothing ! $ owned ! usize (Is usize) (uint-makes 𝓤 H A W w64) (t .at) _ (refl, t .fits) $ fjoin ! $ move ! (2 ∷ 0 ∷ []) $ fjoin ! $ use1 W (‵ (T.the-row α .own (stands (t .at)) (mach (t .at) ∷ []))) (own-shut 𝓤 H A W (T.the-type α) (T′.the-laws α) (s, (t .at, tt))) $ fjoin ! $ done !
 
-    -- the last lists of index and uses, and what `record_at` ensures at them
+    -- the last lists of index and uses, and what `record` ensures at them
     abbrev Lasts : Type 0
     Lasts = Unit {0} × (Unit {0} × (List ℕ × (List ℕ × Unit {0})))
 
@@ -278,7 +278,7 @@ module _ {M : Type 1} (𝓤 : URA M) (H : Heap 𝓤) (A : Atoms 𝓤) (W : Given
         -- [uses; what is kept of it; its lifetime; index; what is kept of it; its lifetime; what progress owns; what table owns; its token; _0; …]
         move ! (7 ∷ []) $ use1 W (‵ Own₀ ⊛ ‵ Own₀) (shr-slice-copy 𝓤 H A W (named 0) κ₀ u8 .twice s (v₀ ∷ [])) $ split ! $
         move ! (9 ∷ 7 ∷ 4 ∷ 0 ∷ 8 ∷ 5 ∷ 2 ∷ []) $ group ! 7 $ use1 W (raw (Records 𝓤 H A mem run .pre (to-record t ν₁ ν₂ δ₁ δ₂))) (goes t (ltb-lt (t .p .left) e) ν₁ ν₂ δ₁ δ₂) $
-        -- [what `record_at` asks; what table owns; what is kept of uses, of index; _0; …]
+        -- [what `record` asks; what table owns; what is kept of uses, of index; _0; …]
         calls-at ! fm (Records 𝓤 H A mem run) known-record (to-record t ν₁ ν₂ δ₁ δ₂)
         (and-then ! (load ! (from ! (stop !)) (look ! 11 refl)) (and-then ! (load ! (from ! (stop !)) (look ! 9 refl)) (and-then ! (load ! (from ! (stop !)) (look ! 13 refl)) (and-then ! (load ! (from ! (stop !)) (look ! 15 refl)) (no-more !))))) (λ u.
         use1 W (later (some (λ (r : Progress). ((‵ (flft κ₀ q₀) ⊛ ‵ (flft (ν₁ ∷ []) fullShare) ⊛ ‵ (flft (ν₂ ∷ []) fullShare) ⊛ ‵ ftrue) ⊛ ‵ (P.the-row .own r (u ∷ [])))
@@ -336,7 +336,7 @@ module _ {M : Type 1} (𝓤 : URA M) (H : Heap 𝓤) (A : Atoms 𝓤) (W : Given
       land ! (from ! (stop !)) (init ! 15 refl (typed r u is)) $ rewrite ! 15 (λ (w : Val). ‵ (fat fullShare (ty 5) l₅ 0 w)) (ap only (P′.lowers .val-is r _ is)) refl $
       rewrite ! 0 (λ (w : Val). ‵ (P.the-row .own r (w ∷ []))) (ap only (P′.lowers .val-is r _ is)) refl $
       move ! (27 ∷ []) $ split ! $ move ! (1 ∷ []) $ split ! $ move ! (1 ∷ []) $ split ! $ move ! (31 ∷ []) $ fsplit ! $ move ! (1 ∷ []) $ fsplit ! $ move ! (1 ∷ []) $ fsplit ! $
-      -- [uses; …; index; table; its tokens; …; what progress owns; _13; …; _0; …]
+      -- [uses; …; index; table; its tokens; …; what progress owns; _12; …; _0; …]
       first ! $ keep ! (8 ∷ 2 ∷ 0 ∷ 3 ∷ 7 ∷ 6 ∷ 4 ∷ 33 ∷ 31 ∷ 29 ∷ 27 ∷ 25 ∷ 23 ∷ 21 ∷ 19 ∷ 17 ∷ 15 ∷ 13 ∷ 11 ∷ 9 ∷ 34 ∷ 32 ∷ 30 ∷ 28 ∷ 26 ∷ 24 ∷ 22 ∷ 20 ∷ 18 ∷ 16 ∷ 14 ∷ 12 ∷ 10 ∷ []) $ by ! (looping fm known-begin known-record l₀ l₁ l₂ l₃ l₄ l₅ l₆ l₇ l₈ l₉ l₁₀ l₁₁ l₁₂
       (record { at = 0; fits = lit< tt; p = r; xs = xs₁; ys = ys₂; long-xs = refl; long-ys = refl; known = subst (λ (h : Progress). Walking (s .now) 0 h xs₁ ys₂) (sym e) ok })))))))))))))))))))
 
