@@ -2,13 +2,12 @@
 use Prim.Native.Nat.{ℕ, zero, suc, _+_, _*_, _-_, _≤_, _<_}
 use native.Mathlib.Nat.{add-zero}
 use native.Mathlib.Omega.{arith}
-use mathlib.Core.Bool.{Bool, true, false, cond}
+use mathlib.Core.Bool.{Bool, true, false}
 use mathlib.Core.Path.{_≡_, refl, sym, ap, _∙_}
-use mathlib.Core.Option.{some}
 use mathlib.Core.List.{List, _∷_, flatMap}
 use lib.ListN.{length, length-append}
 use lib.Dec.{leb}
-use borrow.Author.Tests.{le-leb, lt-leb, leb-true}
+use borrow.Author.Tests.{le-leb, lt-leb}
 use Rattle.bytes_le.specs.Numbers.{le, leAt}
 use Rattle.awhile.specs.Language.{Com}
 use Rattle.reader.specs.Index.{tableOf, commandIn}
@@ -17,10 +16,10 @@ use Rattle.machine.specs.Look.{look}
 use Rattle.machine.specs.Steps.{quietly}
 use Rattle.machine.specs.Runs.{bytes, holds, Machine, over, goes, moved, shownIf, shownStep, stepOf, nextOf, next, endWithout, run}
 use Rattle.interpreter.specs.Evaluation.{variablesIn}
-use Rattle.interpreter.specs.Actions.{changed, heightOf, observationOf, quietLook, lookOf, QuietFits, Looked}
+use Rattle.interpreter.specs.Actions.{changed, observationOf, quietLook, lookOf, QuietFits, Looked}
 use Rattle.interpreter.specs.Fitting.{fitOf}
 use Rattle.interpreter.specs.Guiding.{Readable, guideOf, GoesBy, RunsOut}
-use Rattle.interpreter.specs.Stepping.{movedState, pendingOf, cellsIn, machineOf, bytesOf, seenList, quietNext, shownNext, ChangeFits, steppedTo, Ends, Advances, NextAs}
+use Rattle.interpreter.specs.Stepping.{steppedState, pendingOf, cellsIn, machineOf, bytesOf, seenList, ChangeFits, steppedTo, Ends, Advances}
 use Rattle.machine.specs.declared.Directive.{Directive}
 use Rattle.machine.specs.declared.End.{End}
 use Rattle.machine.specs.declared.End.the-variants.{Finished, Spent, OutOfDirectives, Stuck, Full}
@@ -33,10 +32,8 @@ use Rattle.interpreter.specs.declared.fit.Fit.{Fit}
 use Rattle.interpreter.specs.declared.fit.Fit.the-variants.{Goes, Unfit}
 use Rattle.interpreter.specs.declared.state.MachineState.{MachineState}
 use Rattle.interpreter.specs.declared.step.Seen.the-variants.{Nothing, Observed}
-use Rattle.interpreter.specs.declared.step.Next.the-variants.{Over}
-use Rattle.interpreter.specs.declared.step.Next.the-variants.{Goes as GoesOn}
 use Rattle.machine.proofs.Runs.{run-over, run-nothing}
-use Rattle.interpreter.proofs.ShownSteps.{fitState, afterShown, step-shown, fit-after, FitFits, fit-fits}
+use Rattle.interpreter.proofs.ShownSteps.{fitState, afterShown, step-shown, fit-after, fit-fits}
 
 -- the length of an observation's record
 observation-length : (s : Shown) → length (observationBytes (observationOf s)) ≡ bytesOf s
@@ -48,22 +45,6 @@ observation-length (Put a i v) = refl
 pub seen-length : (s : Shown) → length (shownBytes (seenList (Observed s))) ≡ bytesOf s
 unfolding shownBytes seenList flatMap
 seen-length s = simp length-append (omega (arith, observation-length s))
-
--- ---- a shown step, as its parts are found
-module _ (st : MachineState) (s : Shown) (fit : Fit) (size used room : ℕ) where
-  pub shown-stuck : fit ≡ Unfit → Over Stuck ≡ shownNext st s fit size used room
-  unfolding shownNext
-  shown-stuck unfit = rw (unfit, shownNext)
-
-  module _ (c : Change) (f : Bool) (fits : fit ≡ Goes c f) (length : ℕ) (isLength : length ≡ bytesOf s) (shownFit : st .shown ≤ room) where
-    pub shown-full : room - st .shown < length → Over Full ≡ shownNext st s fit size used room
-    unfolding shownNext
-    shown-full long = rw (fits, shownNext, lt-leb (st .shown + bytesOf s) room (omega arith))
-
-    pub shown-on : length ≤ room - st .shown → (height : ℕ) → height ≡ heightOf c (st .pending - 1) → (after : MachineState) → after ≡ movedState st f used size height length
-        → GoesOn c (Observed s) after ≡ shownNext st s fit size used room
-    unfolding shownNext
-    shown-on short height isHeight after isAfter = rw (fits, shownNext, le-leb (st .shown + bytesOf s) room (omega arith), isAfter, isHeight, isLength)
 
 module _ (table list : List ℕ) (isGuessing : Bool) (budget room : ℕ) (st : MachineState) (vs cs ps : List ℕ) where
   abbrev machine : List Observation → Machine ℕ
@@ -115,8 +96,8 @@ module _ (table list : List ℕ) (isGuessing : Bool) (budget room : ℕ) (st : M
       -- a silent step
       quiet-stepped : (c : Change) (os : List Observation) → QuietFits table c
           → stepOf (tableOf table .counts) (bytes room) (machine os) (quietLook table c below (variablesIn table vs))
-          ≡ goes (steppedTo table list isGuessing below (machine os) c Nothing (movedState st (st .flag) 0 0 (heightOf c (st .pending - 1)) 0))
-      unfolding stepOf quietLook quietly moved steppedTo movedState machineOf changed seenList
+          ≡ goes (steppedTo table list isGuessing below (machine os) c Nothing (steppedState st c (st .flag) 0 0 0))
+      unfolding stepOf quietLook quietly moved steppedTo steppedState machineOf changed seenList
       quiet-stepped (PutBack b) os fits = rw (add-zero (st .at))
       quiet-stepped (Assign x v) os fits = rw (add-zero (st .at))
       quiet-stepped (Store p v) os fits = absurd fits
@@ -129,8 +110,8 @@ module _ (table list : List ℕ) (isGuessing : Bool) (budget room : ℕ) (st : M
       module _ (usedFit : st .used ≤ st .steps) (shownFit : st .shown ≤ room) where
         -- a command that is silent
         pub advances-quietly : Readable list (st .at) → (c : Change) → Looked table vs (leAt 4 ps (4 * (st .pending - 1))) (Quiet c)
-            → NextAs table list isGuessing budget room st vs cs ps (quietNext st c)
-        unfolding quietNext lookOf movedState seenList shownBytes flatMap
+            → Advances table list isGuessing budget room st vs cs ps c Nothing (steppedState st c (st .flag) 0 0 0)
+        unfolding lookOf steppedState seenList shownBytes flatMap
         advances-quietly readable c looked =
             record {
               isNext = λ os shown. next-looks os ∙ ap (stepOf (tableOf table .counts) (bytes room) (machine os)) (looked .isLook below) ∙ quiet-stepped c os (looked .fits);
@@ -160,65 +141,47 @@ module _ (table list : List ℕ) (isGuessing : Bool) (budget room : ℕ) (st : M
               ends-over OutOfDirectives
               (λ os shown. next-shows os ∙ out .step (bytes room) (machine os) (observationOf s) (afterShown (tableOf table .counts) table below (machine os .state) s))
 
-          module _ (d : Directive) (size used : ℕ) (by : GoesBy isGuessing list (st .at) d size used) where
+          module _ (d : Directive) (size used : ℕ) (by : GoesBy isGuessing list (st .at) d size used) (fit : Fit) (isFit : fit ≡ fitOf (tableOf table .counts) cs (st .flag) s d) where
             -- the step under a directive, as the code finds it
             next-fits : (os : List Observation)
                 → next (tableOf table .counts) (bytes room) (machine os)
-                ≡ shownIf (bytes room) (machine os) (observationOf s) (guideOf isGuessing list (st .at + size)) used
-                (fitState table below (machine os .state) (fitOf (tableOf table .counts) cs (st .flag) s d))
+                ≡ shownIf (bytes room) (machine os) (observationOf s) (guideOf isGuessing list (st .at + size)) used (fitState table below (machine os .state) fit)
             unfolding machineOf cellsIn
             next-fits os =
                 next-shows os ∙ by .step (bytes room) (machine os) (observationOf s) (afterShown (tableOf table .counts) table below (machine os .state) s)
                 ∙ ap (shownIf (bytes room) (machine os) (observationOf s) (guideOf isGuessing list (st .at + size)) used)
-                (fit-after (tableOf table .counts) table below (machine os .state) cs refl s d)
+                (fit-after (tableOf table .counts) table below (machine os .state) cs refl s d ∙ ap (fitState table below (machine os .state)) (sym isFit))
 
-            abbrev Found : Fit → Type 0
-            Found fit = (os : List Observation) → next (tableOf table .counts) (bytes room) (machine os)
-                ≡ shownIf (bytes room) (machine os) (observationOf s) (guideOf isGuessing list (st .at + size)) used (fitState table below (machine os .state) fit)
-
-            unfit : Found Unfit → Ends table list isGuessing budget room st vs cs ps Stuck
+            -- an index or a directive that does not fit
+            pub ends-stuck : fit ≡ Unfit → Ends table list isGuessing budget room st vs cs ps Stuck
             unfolding shownIf
-            unfit found = ends-over Stuck (λ os shown. found os)
+            ends-stuck unfit = ends-over Stuck (λ os shown. next-fits os ∙ rw unfit)
 
-            module _ (c : Change) (f : Bool) (found : Found (Goes c f)) where
-              abbrev after : MachineState
-              after = movedState st f used size (heightOf c (st .pending - 1)) (bytesOf s)
-
+            module _ (c : Change) (f : Bool) (found : fit ≡ Goes c f) (long : ℕ) (isLong : long ≡ bytesOf s) where
               in-room : (os : List Observation) → length (shownBytes os) ≡ st .shown → (b : Bool) → leb (st .shown + bytesOf s) room ≡ b
                   → holds (bytes room) (length (shownBytes os) + length (observationBytes (observationOf s))) ≡ b
               unfolding holds
               in-room os shown b e = rw (shown, observation-length s) e
 
-              full : leb (st .shown + bytesOf s) room ≡ false → Ends table list isGuessing budget room st vs cs ps Full
+              -- an observation longer than what is left of its buffer
+              pub ends-full : room - st .shown < long → Ends table list isGuessing budget room st vs cs ps Full
               unfolding shownIf machineOf
-              full e = ends-over Full (λ os shown. found os ∙ rw (in-room os shown false e))
+              ends-full more =
+                  ends-over Full (λ os shown. next-fits os ∙ rw (found, in-room os shown false (lt-leb (st .shown + bytesOf s) room (omega arith))))
 
-              stepped : leb (st .shown + bytesOf s) room ≡ true → ChangeFits table c → Advances table list isGuessing budget room st vs cs ps c (Observed s) after
-              unfolding shownIf moved steppedTo movedState seenList machineOf
-              stepped e fits =
+              -- a shown command under a directive that fits
+              pub advances-showing : long ≤ room - st .shown → Advances table list isGuessing budget room st vs cs ps c (Observed s) (steppedState st c f used size long)
+              unfolding shownIf moved steppedTo steppedState seenList machineOf lookOf
+              advances-showing enough =
                   record {
-                    isNext = λ os shown. found os ∙ rw (in-room os shown true e);
-                    fits = fits;
+                    isNext = λ os shown. next-fits os ∙ rw (found, in-room os shown true (le-leb (st .shown + bytesOf s) room (omega arith)));
+                    fits = rw (← isFit, found) at (fit-fits table cs (st .flag) s d (looked .fits));
                     some = some;
                     isHeight = refl;
                     isSteps = refl;
                     stepsFit = left;
                     usedFit = omega (arith, by .few);
                     readable = by .readable;
-                    isShown = ap (λ n. st .shown + n) (sym (seen-length s));
-                    shownFit = leb-true (st .shown + bytesOf s) room e;
+                    isShown = ap (λ n. st .shown + n) (isLong ∙ sym (seen-length s));
+                    shownFit = omega arith;
                   }
-
-              shown-goes : (b : Bool) → leb (st .shown + bytesOf s) room ≡ b → ChangeFits table c
-                  → NextAs table list isGuessing budget room st vs cs ps (cond b (GoesOn c (Observed s) after) (Over Full))
-              shown-goes true e fits = stepped e fits
-              shown-goes false e fits = full e
-
-            -- a shown command under a directive
-            pub shows : NextAs table list isGuessing budget room st vs cs ps (shownNext st s (fitOf (tableOf table .counts) cs (st .flag) s d) size used room)
-            unfolding shownNext lookOf
-            shows = go (fitOf (tableOf table .counts) cs (st .flag) s d) next-fits (fit-fits table cs (st .flag) s d (looked .fits))
-              where
-                go : (fit : Fit) → Found fit → FitFits table fit → NextAs table list isGuessing budget room st vs cs ps (shownNext st s fit size used room)
-                go (Goes c f) found fits = shown-goes c f found (leb (st .shown + bytesOf s) room) refl fits
-                go Unfit found fits = unfit found

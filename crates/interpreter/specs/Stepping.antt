@@ -1,11 +1,9 @@
 -- The machine as the code has it: a state by value, words in lent bytes, and what the next step is.
 use Prim.Native.Nat.{ℕ, zero, suc, _+_, _*_, _-_, _^_, _≤_, _<_}
-use mathlib.Core.Bool.{Bool, false, cond}
+use mathlib.Core.Bool.{Bool, false}
 use mathlib.Core.Path.{_≡_}
-use mathlib.Core.Option.{some}
 use mathlib.Core.List.{List, [], _∷_, _++_}
 use lib.ListN.{length}
-use lib.Dec.{leb}
 use Rattle.bytes_le.specs.Numbers.{leAt, fromWords}
 use Rattle.awhile.specs.Language.{Com}
 use Rattle.awhile.specs.Lists.{sum}
@@ -17,33 +15,33 @@ use Rattle.interpreter.specs.Actions.{heightOf, changed, observationOf, 
 use Rattle.interpreter.specs.Fitting.{Starts}
 use Rattle.interpreter.specs.Guiding.{Readable, guideOf}
 use Rattle.machine.specs.declared.End.{End}
-use Rattle.machine.specs.declared.End.the-variants.{Stuck, Full}
 use Rattle.interpreter.specs.declared.action.Change.{Change}
 use Rattle.interpreter.specs.declared.action.Change.the-variants.{PutBack, Assign, Store}
 use Rattle.interpreter.specs.declared.action.Shown.{Shown}
 use Rattle.interpreter.specs.declared.action.Shown.the-variants.{Fork, Get, Put}
-use Rattle.interpreter.specs.declared.fit.Fit.{Fit}
-use Rattle.interpreter.specs.declared.fit.Fit.the-variants.{Goes, Unfit}
 use Rattle.interpreter.specs.declared.state.MachineState.{MachineState}
 use Rattle.interpreter.specs.declared.step.Seen.{Seen}
 use Rattle.interpreter.specs.declared.step.Seen.the-variants.{Nothing, Observed}
 use Rattle.interpreter.specs.declared.step.Next.{Next}
-use Rattle.interpreter.specs.declared.step.Next.the-variants.{Over}
-use Rattle.interpreter.specs.declared.step.Next.the-variants.{Goes as GoesOn}
+use Rattle.interpreter.specs.declared.step.Next.the-variants.{Over, Goes}
 
 -- ---- the state by value
 unfoldable pub startState : MachineState
 startState = record { flag = false; steps = 0; used = 0; at = 0; pending = 1; shown = 0 }
 
-unfoldable pub movedState : MachineState → (flag : Bool) → (used size pending bytes : ℕ) → MachineState
-movedState s f u size p b = record { flag = f; steps = s .steps + 1; used = s .used + u; at = s .at + size; pending = p; shown = s .shown + b }
-
--- a state that can be moved on: something is pending, and the counts fit
-pub record Moving (state : MachineState) : Type 0 where
+-- a step can be taken: something is pending, and the counts fit
+pub record Steppable (state : MachineState) (usedNow size bytesNow : ℕ) : Type 0 where
   pub some : 0 < state .pending
   pub few : state .pending ≤ 4096
   pub stepsFit : state .steps + 1 < 2 ^ 32
-  pub usedFit : state .used + 1 < 2 ^ 32
+  pub usedFit : state .used + usedNow < 2 ^ 32
+  pub atFit : state .at + size < 2 ^ 64
+  pub shownFit : state .shown + bytesNow < 2 ^ 64
+
+-- one step further: "the machine's flag, step count and directives used move on together"
+unfoldable pub steppedState : MachineState → Change → (flag : Bool) → (usedNow size bytesNow : ℕ) → MachineState
+steppedState s c f u size b =
+    record { flag = f; steps = s .steps + 1; used = s .used + u; at = s .at + size; pending = heightOf c (s .pending - 1); shown = s .shown + b }
 
 -- ---- what it stands for, with the lent bytes
 -- the first so many entries, the next command first
@@ -73,16 +71,6 @@ bytesOf (Put a i v) = 10
 unfoldable pub seenList : Seen → List Observation
 seenList Nothing = []
 seenList (Observed s) = observationOf s ∷ []
-
-unfoldable pub quietNext : MachineState → Change → Next
-quietNext st c = GoesOn c Nothing (movedState st (st .flag) 0 0 (heightOf c (st .pending - 1)) 0)
-
-unfoldable pub shownNext : MachineState → Shown → Fit → (size used room : ℕ) → Next
-shownNext st s Unfit size used room = Over Stuck
-shownNext st s (Goes c f) size used room =
-    cond (leb (st .shown + bytesOf s) room)
-    (GoesOn c (Observed s) (movedState st f used size (heightOf c (st .pending - 1)) (bytesOf s)))
-    (Over Full)
 
 -- a change that can be made to the lent bytes
 abbrev pub ChangeFits : (table : List ℕ) → Change → Type 0
@@ -140,4 +128,4 @@ module _ (table list : List ℕ) (isGuessing : Bool) (budget room : ℕ) (state 
 
   abbrev pub NextAs : Next → Type 0
   NextAs (Over e) = Ends e
-  NextAs (GoesOn c seen st) = Advances c seen st
+  NextAs (Goes c seen st) = Advances c seen st

@@ -1,7 +1,8 @@
 // The machine between two steps, as far as it does not stand in lent memory.
-ghost use Prim.Native.Nat.{_+_, _<_, _^_};
+use crate::action::Change;
+use crate::action::height;
 ghost use mathlib.Core.Path.{_≡_};
-ghost use Rattle.interpreter.specs.Stepping.{startState, movedState};
+ghost use Rattle.interpreter.specs.Stepping.{startState, Steppable, steppedState};
 
 pub struct MachineState {
     // whether the machine has guessed wrong
@@ -30,18 +31,27 @@ impl MachineState {
         }
     }
 
-    // One step further: "the machine's flag, step count and directives used move on together".
-    pub fn moved(self, flag: bool, used: u32, size: usize, pending: usize, bytes: usize) -> Self
-        requires { ⌜ (self .steps + 1 < 2 ^ 32) × (self .used + used < 2 ^ 32) × (self .at + size < 2 ^ 64) × (self .shown + bytes < 2 ^ 64) ⌝ }
-        ensures { λ r. ⌜ r ≡ movedState self flag used size pending bytes ⌝ }
+    // One step further: "the machine's flag, step count and directives used move on together". A shown step takes `used`
+    // directives, which are `size` bytes of their list, and shows `bytes` bytes; the change says what is pending after it.
+    pub fn stepped(self, change: Change, flag: bool, used: u32, size: usize, bytes: usize) -> Self
+        requires { ⌜ Steppable self used size bytes ⌝ }
+        ensures { λ r. ⌜ r ≡ steppedState self change flag used size bytes ⌝ }
     {
         MachineState {
             flag,
             steps: self.steps + 1,
             used: self.used + used,
             at: self.at + size,
-            pending,
+            pending: height(change, self.pending - 1),
             shown: self.shown + bytes,
         }
+    }
+
+    // A silent step keeps the flag, takes no directive and shows nothing.
+    pub fn stepped_silently(self, change: Change) -> Self
+        requires { ⌜ Steppable self 0 0 0 ⌝ }
+        ensures { λ r. ⌜ r ≡ steppedState self change (self .flag) 0 0 0 ⌝ }
+    {
+        self.stepped(change, self.flag, 0, 0, 0)
     }
 }

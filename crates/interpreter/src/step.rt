@@ -2,7 +2,6 @@
 use crate::action::Action;
 use crate::action::Change;
 use crate::action::Shown;
-use crate::action::height;
 use crate::action::look_at;
 use crate::fit::Fit;
 use crate::fit::fitting;
@@ -11,9 +10,8 @@ use crate::guide::guide;
 use crate::state::MachineState;
 use bytes_le::get::u32_at;
 use machine::End;
-ghost use Prim.Native.Nat.{_+_, _≤_, _<_, _^_};
 ghost use mathlib.Core.Path.{_≡_};
-ghost use Rattle.interpreter.specs.Stepping.{Moving, bytesOf, quietNext, shownNext, Holds, NextAs};
+ghost use Rattle.interpreter.specs.Stepping.{bytesOf, Holds, NextAs};
 
 // What a step shows, if anything.
 pub enum Seen {
@@ -56,50 +54,6 @@ fn bytes_of(shown: Shown) -> usize
     }
 }
 
-// A silent step.
-fn quiet_step(state: MachineState, change: Change) -> Next
-    requires { ⌜ Moving state ⌝ }
-    ensures { λ r. ⌜ r ≡ quietNext state change ⌝ }
-{
-    let pending = height(change, state.pending - 1);
-    let after = state.moved(state.flag, 0, 0, pending, 0);
-    Next::Goes {
-        change,
-        seen: Seen::Nothing,
-        state: after,
-    }
-}
-
-// A shown step: stuck, full, or the step.
-fn shown_step(
-    state: MachineState,
-    shown: Shown,
-    found: Fit,
-    size: usize,
-    used: u32,
-    room: usize,
-) -> Next
-    requires { ⌜ Moving state × (used ≤ 1) × (state .at + size < 2 ^ 64) × (state .shown ≤ room) ⌝ }
-    ensures { λ r. ⌜ r ≡ shownNext state shown found size used room ⌝ }
-{
-    match found {
-        Fit::Goes { change, flag } => {
-            let bytes = bytes_of(shown);
-            if room - state.shown < bytes {
-                return Next::Over { end: End::Full };
-            }
-            let pending = height(change, state.pending - 1);
-            let after = state.moved(flag, used, size, pending, bytes);
-            Next::Goes {
-                change,
-                seen: Seen::Observed { shown },
-                state: after,
-            }
-        }
-        Fit::Unfit => Next::Over { end: End::Stuck },
-    }
-}
-
 // The next step of either machine. The five ends are checked in their order.
 pub fn next_step(
     table: &[u8],
@@ -127,21 +81,34 @@ pub fn next_step(
     let n = u32_at(pending, 4 * (count - 1)) as usize;
     let action = look_at(table, index, variables, n);
     match action {
-        Action::Quiet { change } => quiet_step(state, change),
+        Action::Quiet { change } => Next::Goes {
+            change,
+            seen: Seen::Nothing,
+            state: state.stepped_silently(change),
+        },
         Action::Show { shown } => {
-            let guided = guide(directives, guessing, state.at);
-            match guided {
-                Guided::By {
-                    directive,
-                    size,
-                    used,
-                } => {
-                    let found = fitting(starts, cells, state.flag, shown, directive);
-                    shown_step(state, shown, found, size, used, room)
-                }
-                Guided::Out => Next::Over {
+            let Guided::By {
+                directive,
+                size,
+                used,
+            } = guide(directives, guessing, state.at)
+            else {
+                return Next::Over {
                     end: End::OutOfDirectives,
-                },
+                };
+            };
+            let Fit::Goes { change, flag } = fitting(starts, cells, state.flag, shown, directive)
+            else {
+                return Next::Over { end: End::Stuck };
+            };
+            let bytes = bytes_of(shown);
+            if room - state.shown < bytes {
+                return Next::Over { end: End::Full };
+            }
+            Next::Goes {
+                change,
+                seen: Seen::Observed { shown },
+                state: state.stepped(change, flag, used, size, bytes),
             }
         }
     }

@@ -13,8 +13,11 @@ use Rattle.awhile.specs.Nodes.{sizeOf, sortOf}
 use Rattle.awhile.specs.Tables.{Header, Table, nodesStart, offsetOf}
 use Rattle.awhile.specs.Tables.{readHeader, readLabels, readCounts, readNodes, readRecords}
 use Rattle.awhile.specs.Tables.{rejected, notATree, accepted, allInOrder, checkWhole, readTable, BreaksRule}
-use Rattle.reader.specs.Reader.{headerAs, labelsAs, cellsAs, SortAt, Kept, NodesWalked, stopped, ended, OrderSearched}
-use Rattle.reader.specs.Index.{tableOf, nodesIn, Indexed, acceptedAs, Answers, isRejected, isNotATree, isAccepted, Declares, Finishes, ReadsOn, ReadsDeclared}
+use Rattle.reader.specs.Reader.{headerAs, labelsAs, SortAt, Kept, OrderSearched}
+use Rattle.reader.specs.Index.{tableOf, nodesIn, Indexed, acceptedAs, Answers, isRejected, isNotATree, isAccepted, Declares, Finishes}
+use Rattle.reader.specs.Walk.{NodesLeft, Declared, Counted, headerOf}
+use Rattle.reader.proofs.Walking.{nodes-done}
+use Rattle.reader.specs.declared.records.Progress.{Progress}
 use Rattle.awhile.proofs.Cases.{table-read, table-refused}
 use Rattle.awhile.proofs.Accepted.{HeaderFits, header-fits, counts-fit}
 use Rattle.reader.proofs.Searching.{not-all-in-order}
@@ -28,8 +31,6 @@ use Rattle.awhile.specs.declared.Refusal.{Refusal}
 use Rattle.awhile.specs.declared.Refusal.the-variants.{NotATree, ExtraBytes}
 use Rattle.reader.specs.declared.declarations.HeaderRead.the-variants.{Refused as HeaderRefused, Header as HeaderGot}
 use Rattle.reader.specs.declared.declarations.LabelsRead.the-variants.{Refused as LabelsRefused, Labels as LabelsGot}
-use Rattle.reader.specs.declared.declarations.CellsRead.the-variants.{Refused as CellsRefused, Cells as CellsGot}
-use Rattle.reader.specs.declared.walk.NodesRead.the-variants.{Refused as NodesRefused, Nodes as NodesGot}
 use Rattle.reader.specs.declared.uses.Broken.the-variants.{At, Nowhere}
 
 -- the table that accepted bytes read as
@@ -38,7 +39,7 @@ unfolding tableOf
 table-of s t e = rw (e, tableOf)
 
 -- ---- what the parts hand on was read
-labels-got : (a : Answer Labelling) (l : Labelling) → LabelsGot l ≡ labelsAs a → a ≡ got l
+pub labels-got : (a : Answer Labelling) (l : Labelling) → LabelsGot l ≡ labelsAs a → a ≡ got l
 unfolding labelsAs
 labels-got (refused r) l e = cc
 labels-got (got m) l e = cc
@@ -48,17 +49,7 @@ unfolding labelsAs
 labels-not-got (refused r) x e = cc
 labels-not-got (got m) x e = cc
 
-cells-not-got : (a : Answer (List ℕ)) (x : Refusal) → CellsRefused x ≡ cellsAs a → a ≡ refused x
-unfolding cellsAs
-cells-not-got (refused r) x e = cc
-cells-not-got (got m) x e = cc
-
-cells-got : (Q : Type 0) (a : Answer (List ℕ)) (cells : ℕ) → CellsGot cells ≡ cellsAs a → ((cs : List ℕ) → a ≡ got cs → sum cs ≡ cells → Q) → Q
-unfolding cellsAs
-cells-got Q (refused r) cells e next = absurd (let z : _≡_ {A = ℕ} 0 1 = cc in omega arith)
-cells-got Q (got cs) cells e next = next cs refl (let same : sum cs ≡ cells = cc in same)
-
-header-got : (a : Answer Header) (vs arrs nodes : ℕ) → HeaderGot vs arrs nodes ≡ headerAs a → a ≡ got (record { variables = vs; arrays = arrs; nodes = nodes })
+pub header-got : (a : Answer Header) (vs arrs nodes : ℕ) → HeaderGot vs arrs nodes ≡ headerAs a → a ≡ got (record { variables = vs; arrays = arrs; nodes = nodes })
 unfolding headerAs
 header-got (refused r) vs arrs nodes e = cc
 header-got (got h) vs arrs nodes e =
@@ -136,71 +127,34 @@ records-then : (s : List ℕ) (h : Header) (l : Labelling) (cs : List ℕ) (a : 
 unfolding readRecords andThen
 records-then s h l cs a header labels counts nodes = rw (header, labels, counts, nodes)
 
--- one answer is one refusal or one end
-same-refusal : (x y : Refusal) → _≡_ (NodesRefused x) (NodesRefused y) → x ≡ y
-same-refusal x y e = cc
+module _ (s index : List ℕ) (p : Progress) where
+  -- a refused labels record refuses the table
+  pub labels-stop : (x : Refusal) → readHeader s ≡ got (headerOf p) → LabelsRefused x ≡ labelsAs (readLabels s (headerOf p)) → Answers s index (Refused x)
+  unfolding readRecords andThen
+  labels-stop x isHeader e = isRejected x (table-refused s x (rw (isHeader, labels-not-got _ x e))) refl
 
-same-end : (m n : ℕ) → _≡_ (NodesGot m) (NodesGot n) → m ≡ n
-same-end m n e = cc
+  -- so do a refused array record and a refused node record
+  pub arrays-stop : (x : Refusal) → Declared s p → readCounts (p .arrays) s 20 [] ≡ refused x → Answers s index (Refused x)
+  unfolding readRecords andThen
+  arrays-stop x d e = isRejected x (table-refused s x (rw (d .isHeader, d .isLabels, e))) refl
 
-never-both : (m : ℕ) (x : Refusal) → _≡_ (NodesGot m) (NodesRefused x) → ⊥
-never-both m x e = let z : _≡_ {A = ℕ} 0 1 = cc in omega arith
-
-module _ (s : List ℕ) (vs arrs nodes : ℕ) (index uses : List ℕ) (cells : ℕ) (labels : Labelling) where
-  -- a refused node record refuses the table
-  pub on-refused : (x : Refusal) → NodesWalked s vs arrs nodes index uses (NodesRefused x) → ReadsOn s index vs arrs nodes cells labels (Refused x)
+  pub nodes-stopped : (x : Refusal) → Counted s p → readNodes (p .nodes) (headerOf p) s (nodesStart (p .arrays)) [] ≡ refused x → Answers s index (Refused x)
   unfolding andThen
-  on-refused x (stopped y e q) =
-      record {
-        answers = λ cs header isLabels counts total.
-            isRejected y
-            (table-refused s y (records-then _ _ _ _ _ header isLabels counts e))
-            (ap Refused (same-refusal x y q));
-      }
-  on-refused x (ended ns e counted q k) = absurd (never-both _ x (sym q))
+  nodes-stopped x c e = isRejected x (table-refused s x (records-then _ _ _ _ _ (c .declared .isHeader) (c .declared .isLabels) (c .isCounts) e)) refl
 
   -- nodes that were read leave it to the end
-  pub on-finished : (end : ℕ) (answer : Read) → NodesWalked s vs arrs nodes index uses (NodesGot end)
-      → Finishes s index uses vs arrs nodes cells labels end answer → ReadsOn s index vs arrs nodes cells labels answer
+  pub nodes-finished : (uses : List ℕ) (at n : ℕ) (answer : Read) → Counted s p → NodesLeft s (p .variables) (p .arrays) (p .nodes) index uses at n → n ≡ p .nodes
+      → Finishes s index uses (p .variables) (p .arrays) (p .nodes) (p .cells) (p .labels) at answer → Answers s index answer
   unfolding andThen offsetOf sum
-  on-finished end answer (stopped y e q) finishes = absurd (never-both end y q)
-  on-finished end answer (ended ns e counted q k) finishes = record { answers = go }
-    where
-      go : (cs : List ℕ) → readHeader s ≡ got (record { variables = vs; arrays = arrs; nodes = nodes })
-          → readLabels s (record { variables = vs; arrays = arrs; nodes = nodes }) ≡ got labels
-          → readCounts arrs s 20 [] ≡ got cs → sum cs ≡ cells → Answers s index answer
-      go cs header isLabels counts total =
-          let t : Table = record { variables = vs; labels = labels; counts = cs; nodes = ns } in
-          let fit = counts-fit s arrs 20 [] cs (omega arith) counts in
-          let many : length cs ≡ arrs = ap length (fit .whole) ∙ fit .counted in
-          let atEnd : nodesStart (length cs) + sum (map sizeOf (take (length ns) ns)) ≡ end = rw (many, take-length) (sym (same-end end _ q)) in
-          finishes .answers t (records-then _ _ _ _ _ header isLabels counts e)
-          (record { isVariables = refl; isArrays = many; isNodes = counted; isCells = total; isLabels = refl }) atEnd (rw many k)
-
--- ---- from the labels on
-module _ (s index : List ℕ) (vs arrs nodes : ℕ) where
-  abbrev header : Header
-  header = record { variables = vs; arrays = arrs; nodes = nodes }
-
-  -- a refused labels record refuses the table
-  pub labels-stop : (x : Refusal) → LabelsRefused x ≡ labelsAs (readLabels s header) → ReadsDeclared s index vs arrs nodes (Refused x)
-  unfolding readRecords andThen
-  labels-stop x e = record { answers = λ isHeader. isRejected x (table-refused s x (rw (isHeader, labels-not-got _ x e))) refl }
-
-  module _ (l : Labelling) (e : LabelsGot l ≡ labelsAs (readLabels s header)) where
-    isLabels : readLabels s header ≡ got l
-    isLabels = labels-got _ l e
-
-    -- a refused array record refuses the table
-    pub cells-stop : (x : Refusal) → CellsRefused x ≡ cellsAs (readCounts arrs s 20 []) → ReadsDeclared s index vs arrs nodes (Refused x)
-    unfolding readRecords andThen
-    cells-stop x f = record { answers = λ isHeader. isRejected x (table-refused s x (rw (isHeader, isLabels, cells-not-got _ x f))) refl }
-
-    -- declarations that were read leave it to the nodes
-    pub declared-on : (cells : ℕ) (answer : Read) → CellsGot cells ≡ cellsAs (readCounts arrs s 20 []) → ReadsOn s index vs arrs nodes cells l answer
-        → ReadsDeclared s index vs arrs nodes answer
-    declared-on cells answer f on =
-        record { answers = λ isHeader. cells-got _ _ _ f (λ cs counts total. on .answers cs isHeader isLabels counts total) }
+  nodes-finished uses at n answer c h all-read finishes =
+      let cs = c .counts in
+      let ns = h .before in
+      let t : Table = record { variables = p .variables; labels = p .labels; counts = cs; nodes = ns } in
+      let fit = counts-fit s (p .arrays) 20 [] cs (omega arith) (c .isCounts) in
+      let many : length cs ≡ p .arrays = ap length (fit .whole) ∙ fit .counted in
+      let atEnd : nodesStart (length cs) + sum (map sizeOf (take (length ns) ns)) ≡ at = rw (many, take-length) (sym (h .place)) in
+      finishes .answers t (records-then _ _ _ _ _ (c .declared .isHeader) (c .declared .isLabels) (c .isCounts) (nodes-done _ _ _ _ _ _ _ _ h (omega (arith, all-read))))
+      (record { isVariables = refl; isArrays = many; isNodes = h .counted ∙ all-read; isCells = c .total; isLabels = refl }) atEnd (rw many (h .kept))
 
 -- ---- the whole table
 -- a header that was read is within the limits
@@ -213,10 +167,6 @@ module _ (s index : List ℕ) where
   pub header-stop : (x : Refusal) → HeaderRefused x ≡ headerAs (readHeader s) → Answers s index (Refused x)
   unfolding readRecords andThen
   header-stop x e = isRejected x (table-refused s x (rw (header-not-got _ x e))) refl
-
-  -- one that was read leaves it to what follows
-  pub header-on : (vs arrs nodes : ℕ) (answer : Read) → HeaderGot vs arrs nodes ≡ headerAs (readHeader s) → ReadsDeclared s index vs arrs nodes answer → Answers s index answer
-  header-on vs arrs nodes answer e on = on .answers (header-got _ _ _ _ e)
 
 -- ---- what a caller learns from the answer
 -- an accepted table has an index, and the numbers that were answered

@@ -1,5 +1,5 @@
 -- The declarations' records, after their frames: what is read depends on the tests of their fields.
-use Prim.Native.Nat.{ℕ, suc, _+_, _-_, _*_, _/_, _^_, _≤_, _<_}
+use Prim.Native.Nat.{ℕ, suc, _+_, _-_, _/_, _^_, _≤_, _<_}
 use native.Mathlib.Nat.{one-le-pow, div-eq-of-lt, le-div-iff-mul-le, one-mul}
 use native.Mathlib.Omega.{arith}
 use mathlib.Core.Bool.{Bool, true, false, _&&_}
@@ -12,13 +12,13 @@ use Rattle.awhile.specs.Lists.{sum}
 use Rattle.awhile.specs.Refusals.{Answer, refused, got, check}
 use Rattle.awhile.specs.Tables.{Header, maxVariables, maxArrays, maxNodes, maxCells, headerSize, labelsSize, arraySize}
 use Rattle.awhile.specs.Tables.{framed, lengthOfKind, readHeader, readLabels, readCount, readCounts}
-use Rattle.reader.specs.Reader.{checkedAs, headerAs, labelsAs, countAs, cellsAs}
+use Rattle.reader.specs.Reader.{checkedAs, headerAs, labelsAs, countAs}
+use Rattle.reader.specs.Walk.{CountsLeft}
 use Rattle.awhile.proofs.Lists.{sum-append}
 use Rattle.awhile.proofs.Cases.{counts-next, counts-refused}
 use Rattle.awhile.proofs.Accepted.{count-fits}
 use Rattle.reader.proofs.Passing.{framed-refused, framed-passed-on}
 use Rattle.reader.specs.declared.checks.Checked.the-variants.{Refused, Passed}
-use Rattle.reader.specs.declared.declarations.CellsRead.the-variants.{Refused as CellsRefused, Cells}
 use Rattle.reader.specs.declared.declarations.HeaderRead.the-variants.{Refused as HeaderRefused}
 use Rattle.reader.specs.declared.declarations.LabelsRead.the-variants.{Refused as LabelsRefused}
 use Rattle.reader.specs.declared.declarations.CountRead.the-variants.{Refused as CountRefused, Count}
@@ -36,7 +36,7 @@ shifted-out mask width = go (ltb mask (2 ^ width)) refl
         ne-eqb (mask / 2 ^ width) 0 (λ none. omega arith)
 
 -- a count that the reader hands on was read, and so was a refusal
-count-got : (a : Answer ℕ) (n : ℕ) → countAs a ≡ Count n → a ≡ got n
+pub count-got : (a : Answer ℕ) (n : ℕ) → countAs a ≡ Count n → a ≡ got n
 unfolding countAs
 count-got (refused r) n e = cc
 count-got (got m) n e = cc
@@ -47,30 +47,32 @@ count-not-got (refused q) r e = cc
 count-not-got (got m) r e = cc
 
 module _ (s : List ℕ) where
-  -- ---- the header
-  pub header-refused : (r : Refusal) → checkedAs (framed s 0 (lengthOfKind 1 headerSize s 0) (got tt)) ≡ Refused r → HeaderRefused r ≡ headerAs (readHeader s)
-  unfolding readHeader headerAs
-  header-refused r e = sym (ap headerAs (framed-refused _ _ _ _ _ e))
+  -- ---- the header, which stands at the start
+  module _ (at : ℕ) (here : at ≡ 0) where
+    pub header-refused : (r : Refusal) → checkedAs (framed s at (lengthOfKind 1 headerSize s at) (got tt)) ≡ Refused r → HeaderRefused r ≡ headerAs (readHeader s)
+    unfolding readHeader headerAs
+    header-refused r e = sym (ap headerAs (framed-refused _ _ _ _ _ (rw here at e)))
 
-  -- a whole header is accepted where its fields are within the limits
-  pub header-tested : (version vs arrs nodes : ℕ) (b : Bool) → checkedAs (framed s 0 (lengthOfKind 1 headerSize s 0) (got tt)) ≡ Passed
-      → version ≡ leAt 2 s 4 → vs ≡ leAt 1 s 6 → arrs ≡ leAt 1 s 7 → nodes ≡ leAt 2 s 8
-      → b ≡ (eqb version 1 && leb vs maxVariables && leb arrs maxArrays && ltb 0 nodes && leb nodes maxNodes)
-      → headerAs (check b (BeyondLimit 0) (got (record { variables = vs; arrays = arrs; nodes = nodes }))) ≡ headerAs (readHeader s)
-  unfolding readHeader
-  header-tested version vs arrs nodes b whole p q r t e = sym (ap headerAs (framed-passed-on _ _ _ _ whole ∙ rw (e, p, q, r, t)))
+    -- a whole header is accepted where its fields are within the limits
+    pub header-tested : (version vs arrs nodes : ℕ) (b : Bool) → checkedAs (framed s at (lengthOfKind 1 headerSize s at) (got tt)) ≡ Passed
+        → version ≡ leAt 2 s (at + 4) → vs ≡ leAt 1 s (at + 6) → arrs ≡ leAt 1 s (at + 7) → nodes ≡ leAt 2 s (at + 8)
+        → b ≡ (eqb version 1 && leb vs maxVariables && leb arrs maxArrays && ltb 0 nodes && leb nodes maxNodes)
+        → headerAs (check b (BeyondLimit at) (got (record { variables = vs; arrays = arrs; nodes = nodes }))) ≡ headerAs (readHeader s)
+    unfolding readHeader
+    header-tested version vs arrs nodes b whole p q r t e = sym (ap headerAs (framed-passed-on _ _ _ _ (rw here at whole) ∙ rw (e, p, q, r, t, here)))
 
-  -- ---- the labels
-  pub labels-refused : (h : Header) (r : Refusal) → checkedAs (framed s 10 (lengthOfKind 3 labelsSize s 10) (got tt)) ≡ Refused r → LabelsRefused r ≡ labelsAs (readLabels s h)
-  unfolding readLabels labelsAs
-  labels-refused h r e = sym (ap labelsAs (framed-refused _ _ _ _ _ e))
+  -- ---- the labels, which stand after it
+  module _ (at : ℕ) (here : at ≡ 10) (h : Header) where
+    pub labels-refused : (r : Refusal) → checkedAs (framed s at (lengthOfKind 3 labelsSize s at) (got tt)) ≡ Refused r → LabelsRefused r ≡ labelsAs (readLabels s h)
+    unfolding readLabels labelsAs
+    labels-refused r e = sym (ap labelsAs (framed-refused _ _ _ _ _ (rw here at e)))
 
-  -- a whole labels record is accepted where its masks fit
-  pub labels-tested : (h : Header) (vs arrs : ℕ) (a b : Bool) → checkedAs (framed s 10 (lengthOfKind 3 labelsSize s 10) (got tt)) ≡ Passed
-      → vs ≡ leAt 4 s 14 → arrs ≡ leAt 2 s 18 → a ≡ ltb vs (2 ^ h .variables) → b ≡ ltb arrs (2 ^ h .arrays)
-      → labelsAs (check (a && b) (BeyondLimit 10) (got (record { variables = vs; arrays = arrs }))) ≡ labelsAs (readLabels s h)
-  unfolding readLabels
-  labels-tested h vs arrs a b whole v w p q = sym (ap labelsAs (framed-passed-on _ _ _ _ whole ∙ rw (p, q, v, w)))
+    -- a whole labels record is accepted where its masks fit
+    pub labels-tested : (vs arrs : ℕ) (a b : Bool) → checkedAs (framed s at (lengthOfKind 3 labelsSize s at) (got tt)) ≡ Passed
+        → vs ≡ leAt 4 s (at + 4) → arrs ≡ leAt 2 s (at + 8) → a ≡ ltb vs (2 ^ h .variables) → b ≡ ltb arrs (2 ^ h .arrays)
+        → labelsAs (check (a && b) (BeyondLimit at) (got (record { variables = vs; arrays = arrs }))) ≡ labelsAs (readLabels s h)
+    unfolding readLabels
+    labels-tested vs arrs a b whole v w p q = sym (ap labelsAs (framed-passed-on _ _ _ _ (rw here at whole) ∙ rw (p, q, v, w, here)))
 
   -- ---- the arrays
   module _ (at before : ℕ) where
@@ -85,25 +87,17 @@ module _ (s : List ℕ) where
     count-tested n a b whole e p q = sym (ap countAs (framed-passed-on _ _ _ _ whole ∙ rw (← p, ← q, e)))
 
   -- ---- all arrays
-  -- what is left to read from here is what is to be read of all arrays
-  pub record CountsLeft (arrays left at cells : ℕ) : Type 0 where
-    pub before : List ℕ
-    pub summed : sum before ≡ cells
-    pub same : readCounts arrays s 20 [] ≡ readCounts left s at before
-    pub place : at + arraySize * left ≡ 20 + arraySize * arrays
-    pub few : cells ≤ maxCells
-
   -- before the first array nothing is read
-  pub counts-start : (arrays : ℕ) → CountsLeft arrays arrays 20 0
+  pub counts-start : (arrays : ℕ) → CountsLeft s arrays arrays 20 0
   unfolding sum
   counts-start arrays = record { before = []; summed = refl; same = refl; place = refl; few = omega arith }
 
-  module _ (arrays left at cells : ℕ) (h : CountsLeft arrays left at cells) where
+  module _ (arrays left at cells : ℕ) (h : CountsLeft s arrays left at cells) where
     counted : (a : Answer ℕ) → readCount s at cells ≡ a → readCount s at (sum (h .before)) ≡ a
     counted a e = rw (h .summed) e
 
     -- a count that was read is added
-    pub counts-more : 0 < left → (n : ℕ) → countAs (readCount s at cells) ≡ Count n → CountsLeft arrays (left - 1) (at + arraySize) (cells + n)
+    pub counts-more : 0 < left → (n : ℕ) → countAs (readCount s at cells) ≡ Count n → CountsLeft s arrays (left - 1) (at + arraySize) (cells + n)
     unfolding sum
     counts-more some n e =
         let read = count-got (readCount s at cells) n e in
@@ -117,14 +111,12 @@ module _ (s : List ℕ) where
         }
 
     -- a refused count refuses them all
-    pub counts-stop : 0 < left → (r : Refusal) → countAs (readCount s at cells) ≡ CountRefused r → CellsRefused r ≡ cellsAs (readCounts arrays s 20 [])
-    unfolding cellsAs
+    pub counts-stop : 0 < left → (r : Refusal) → countAs (readCount s at cells) ≡ CountRefused r → readCounts arrays s 20 [] ≡ refused r
     counts-stop some r e =
         let next : left ≡ suc (left - 1) = omega arith in
-        let refuses = counts-refused _ _ _ _ _ (counted (refused r) (count-not-got (readCount s at cells) r e)) in
-        sym (ap cellsAs (h .same ∙ ap (λ k. readCounts k s at (h .before)) next ∙ refuses))
+        h .same ∙ ap (λ k. readCounts k s at (h .before)) next ∙ counts-refused _ _ _ _ _ (counted (refused r) (count-not-got (readCount s at cells) r e))
 
     -- with none left all were read
-    pub counts-done : left ≡ 0 → Cells cells ≡ cellsAs (readCounts arrays s 20 [])
-    unfolding readCounts cellsAs
-    counts-done none = sym (ap cellsAs (h .same ∙ ap (λ k. readCounts k s at (h .before)) none) ∙ ap Cells (h .summed))
+    pub counts-done : left ≡ 0 → readCounts arrays s 20 [] ≡ got (h .before)
+    unfolding readCounts
+    counts-done none = h .same ∙ ap (λ k. readCounts k s at (h .before)) none

@@ -7,4 +7,6 @@ pub mod Tally
 pub mod Walking
 pub mod Searching
 pub mod Answering
+pub mod Turns
+pub mod Again
 pub mod RecordKinds

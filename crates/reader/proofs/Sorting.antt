@@ -3,7 +3,7 @@ use Prim.Native.Nat.{ℕ, zero, suc}
 use native.Mathlib.Omega.{arith}
 use mathlib.Core.Bool.{Bool, true, false, _&&_, and-true}
 use mathlib.Core.Logic.{⊎-elim}
-use mathlib.Core.Path.{_≡_, refl, sym, ap, _∙_}
+use mathlib.Core.Path.{_≡_, refl, _∙_}
 use mathlib.Core.List.{List, [], _∷_, flatMap}
 use lib.ListN.{length, getD}
 use borrow.Author.Tests.{ltb-true}
@@ -13,7 +13,7 @@ use Rattle.awhile.specs.Lists.{all}
 use Rattle.awhile.specs.Refusals.{refused, got, check}
 use Rattle.awhile.specs.Nodes.{Field, word, child, form, sizeOf, sortOf, decodeAt, fieldInRange, inRange, sameSort, fieldSorted, sorted, fieldChildren}
 use Rattle.awhile.specs.Tables.{framed, readNode}
-use Rattle.reader.specs.Reader.{checkedAs, firstRefusal, fieldOf, padded, nodeAs, passedNode, SortAt, SortsChecked, NodeChecked}
+use Rattle.reader.specs.Reader.{checkedAs, firstRefusal, fieldOf, fieldsOf, padded, NodeAs, passedNode, SortAt, SortsChecked, NodeChecked}
 use Rattle.awhile.proofs.Lists.{all-head, all-tail, all-cons}
 use Rattle.awhile.proofs.Cases.{node-known, node-unknown}
 use Rattle.reader.proofs.Passing.{framed-refused, framed-passed-on}
@@ -23,6 +23,7 @@ use Rattle.awhile.specs.declared.Sort.the-variants.{Numeric, Truth, Command}
 use Rattle.reader.proofs.fields.Field as field
 use Rattle.reader.specs.declared.fields.Field.{Field as FieldRead}
 use Rattle.reader.specs.declared.fields.Field.the-variants.{Word, Constant, Variable, Array, Child}
+use Rattle.reader.specs.declared.fields.Fields.{Fields}
 use Rattle.awhile.specs.declared.Node.{Node}
 use Rattle.awhile.specs.declared.Node.the-variants.{Skip}
 use Rattle.awhile.specs.declared.Decoded.the-variants.{Known, Unknown}
@@ -130,53 +131,48 @@ padded-children (suc count) [] = padded-children count []
 padded-children (suc count) (f ∷ fs) = rw (padded-children count fs)
 
 -- ---- what two checks say of a node
-node-checked : (m : Node) (a b : Checked) (x y : Refusal) (p q : Bool) → a ≡ checkedAs (check p x (got tt)) → (p ≡ true → b ≡ checkedAs (check q y (got tt)))
-    → passedNode m (firstRefusal a b) ≡ nodeAs (check p x (check q y (got m)))
-unfolding checkedAs nodeAs passedNode firstRefusal check
-node-checked m a b x y true true e f = rw (e, f refl)
-node-checked m a b x y true false e f = rw (e, f refl)
-node-checked m a b x y false q e f = rw e
+module _ (m : Node) (size : ℕ) (fs : Fields) (long : size ≡ sizeOf m) (held : fieldsOf fs ≡ padded 3 (form m .fields)) where
+  node-checked : (a b : Checked) (x y : Refusal) (p q : Bool) → a ≡ checkedAs (check p x (got tt)) → (p ≡ true → b ≡ checkedAs (check q y (got tt)))
+      → NodeAs (check p x (check q y (got m))) (passedNode size fs (firstRefusal a b))
+  unfolding checkedAs passedNode firstRefusal check
+  node-checked a b x y true true e f = rw (e, f refl) (record { node = m; isNode = refl; isSize = long; isFields = held })
+  node-checked a b x y true false e f = rw (e, f refl) refl
+  node-checked a b x y false q e f = rw e refl
 
 -- ---- a node's record, read with an index of the nodes before
 module _ (s index : List ℕ) (vs arrs n at : ℕ) where
   -- of no kind
   pub unknown-read : (x : Refusal) → decodeAt s at ≡ Unknown → framed s at 0 (got Skip) ≡ refused x → NodeChecked s index vs arrs n at (NodeRefused x)
-  unfolding nodeAs
-  unknown-read x d e = record { isRead = λ before counted leads nodes. sym (ap nodeAs (node-unknown _ _ _ _ d ∙ e)) }
+  unknown-read x d e = record { isRead = λ before counted leads nodes. node-unknown _ _ _ _ d ∙ e }
 
   module _ (m : Node) (d : decodeAt s at ≡ Known m) where
     -- of a kind, but its frame is refused
     pub frame-refused-read : (x : Refusal) → checkedAs (framed s at (sizeOf m) (got tt)) ≡ Refused x → NodeChecked s index vs arrs n at (NodeRefused x)
-    unfolding nodeAs
-    frame-refused-read x e =
-        record {
-          isRead = λ before counted leads nodes.
-              sym (ap nodeAs (node-known _ _ _ _ _ d ∙ framed-refused _ _ _ _ _ e));
-        }
+    frame-refused-read x e = record { isRead = λ before counted leads nodes. node-known _ _ _ _ _ d ∙ framed-refused _ _ _ _ _ e }
 
-    module _ (e : checkedAs (framed s at (sizeOf m) (got tt)) ≡ Passed) (fs : List Field) (f : fs ≡ padded 3 (form m .fields)) where
-      range-same : all (fieldInRange vs arrs n) fs ≡ inRange vs arrs n m
+    module _ (e : checkedAs (framed s at (sizeOf m) (got tt)) ≡ Passed) (fs : Fields) (f : fieldsOf fs ≡ padded 3 (form m .fields)) where
+      range-same : all (fieldInRange vs arrs n) (fieldsOf fs) ≡ inRange vs arrs n m
       unfolding inRange fieldInRange
       range-same = rw f (padded-all (fieldInRange vs arrs n) refl 3 (form m .fields))
 
-      sorts-same : (before : List Node) → all (fieldSorted before) fs ≡ sorted before m
+      sorts-same : (before : List Node) → all (fieldSorted before) (fieldsOf fs) ≡ sorted before m
       unfolding sorted fieldSorted
       sorts-same before = rw f (padded-all (fieldSorted before) refl 3 (form m .fields))
 
       -- what is read depends on its fields
       framed-read : (before : List Node) → length before ≡ n → (nodes : ℕ)
           → readNode (record { variables = vs; arrays = arrs; nodes = nodes }) s at before
-          ≡ check (all (fieldInRange vs arrs n) fs) (OutOfRange at) (check (all (fieldSorted before) fs) (WrongSort at) (got m))
+          ≡ check (all (fieldInRange vs arrs n) (fieldsOf fs)) (OutOfRange at) (check (all (fieldSorted before) (fieldsOf fs)) (WrongSort at) (got m))
       framed-read before counted nodes =
           node-known _ _ _ _ _ d ∙ framed-passed-on _ _ _ _ e ∙ rw (counted, range-same, sorts-same before)
 
       -- ranges come before sorts
-      pub fields-read : (ranges sorts : Checked) → ranges ≡ checkedAs (check (all (fieldInRange vs arrs n) fs) (OutOfRange at) (got tt)) → SortsChecked s index at fs sorts
-          → NodeChecked s index vs arrs n at (passedNode m (firstRefusal ranges sorts))
-      fields-read ranges sorts r h =
+      pub fields-read : (size : ℕ) → size ≡ sizeOf m → (ranges sorts : Checked) → ranges ≡ checkedAs (check (all (fieldInRange vs arrs n) (fieldsOf fs)) (OutOfRange at) (got tt))
+          → SortsChecked s index at (fieldsOf fs) sorts → NodeChecked s index vs arrs n at (passedNode size fs (firstRefusal ranges sorts))
+      fields-read size long ranges sorts r h =
           record {
             isRead = λ before counted leads nodes.
-                node-checked _ _ _ _ _ _ _ r
-                (λ within. h .isChecked vs arrs before leads (rw counted within))
-                ∙ sym (ap nodeAs (framed-read before counted nodes));
+                rw (framed-read before counted nodes)
+                (node-checked m size fs long f _ _ _ _ _ _ r
+                (λ within. h .isChecked vs arrs before leads (rw counted within)));
           }

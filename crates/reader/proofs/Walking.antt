@@ -2,16 +2,17 @@
 use Prim.Native.Nat.{ℕ, suc, _+_, _-_, _*_, _≤_, _<_}
 use native.Mathlib.Omega.{arith}
 use mathlib.Core.Bool.{true}
-use mathlib.Core.Path.{_≡_, refl, ap, _∙_}
+use mathlib.Core.Path.{_≡_, refl, ap, _∙_, subst}
 use mathlib.Core.List.{List, [], _∷_, _++_, map, map-append, flatMap, append-nil}
 use lib.ListN.{length, getD, set, take, length-append, List·getD-append}
 use lib.Seq.{getD-set-same, getD-set-other, getD-at, take-append-le, take-at}
 use Rattle.bytes_le.proofs.Numbers.{Below}
 use Rattle.awhile.specs.Lists.{sum, all, occurrences}
-use Rattle.awhile.specs.Refusals.{Answer, refused, got}
-use Rattle.awhile.specs.Nodes.{Field, form, sizeOf, decodeAt, fieldInRange, inRange, fieldChildren, childrenOf}
+use Rattle.awhile.specs.Refusals.{refused, got}
+use Rattle.awhile.specs.Nodes.{form, sizeOf, decodeAt, fieldInRange, inRange, fieldChildren, childrenOf}
 use Rattle.awhile.specs.Tables.{Header, maxNodes, nodesStart, readNode, readNodes, usesOf}
-use Rattle.reader.specs.Reader.{nodeAs, padded, tally, allBelow, CountsBelow, Kept, NodeChecked, NodesWalked, ended}
+use Rattle.reader.specs.Reader.{fieldsOf, tally, allBelow, CountsBelow, Kept, NodeKnown, NodeChecked}
+use Rattle.reader.specs.Walk.{NodesLeft}
 use Rattle.awhile.proofs.Lists.{sum-append, occurrences-append, flatMap-append}
 use Rattle.awhile.proofs.Cases.{nodes-next, nodes-refused}
 use Rattle.awhile.proofs.Records.{sizes-most}
@@ -23,19 +24,8 @@ use Rattle.awhile.specs.declared.Node.{Node}
 use Rattle.awhile.specs.declared.Node.the-variants.{Skip}
 use Rattle.awhile.specs.declared.Decoded.the-variants.{Known}
 use Rattle.awhile.specs.declared.Refusal.{Refusal}
+use Rattle.reader.specs.declared.fields.Fields.{Fields}
 use Rattle.reader.specs.declared.walk.NodeRead.the-variants.{Refused as NodeRefused, Node as NodeGot}
-use Rattle.reader.specs.declared.walk.NodesRead.the-variants.{Nodes as NodesGot}
-
--- a node that the reader hands on was read, and so was a refusal
-node-got : (a : Answer Node) (n : Node) → NodeGot n ≡ nodeAs a → a ≡ got n
-unfolding nodeAs
-node-got (refused r) n e = cc
-node-got (got m) n e = cc
-
-node-not-got : (a : Answer Node) (r : Refusal) → NodeRefused r ≡ nodeAs a → a ≡ refused r
-unfolding nodeAs
-node-not-got (refused q) r e = cc
-node-not-got (got m) r e = cc
 
 -- ---- what is kept of one node more
 module _ (ns : List Node) (m : Node) where
@@ -85,18 +75,8 @@ module _ (s : List ℕ) (vs arrs nodes : ℕ) where
   abbrev header : Header
   header = record { variables = vs; arrays = arrs; nodes = nodes }
 
-  -- after n nodes, at an offset
-  pub record NodesLeft (index uses : List ℕ) (at n : ℕ) : Type 0 where
-    pub before : List Node
-    pub counted : length before ≡ n
-    pub same : readNodes nodes header s (nodesStart arrs) [] ≡ readNodes (nodes - n) header s at before
-    pub place : at ≡ nodesStart arrs + sum (map sizeOf before)
-    pub kept : Kept s index uses (nodesStart arrs) before
-    pub children : length (flatMap childrenOf before) ≤ 3 * n
-    pub few : n ≤ nodes
-
   -- before the first node nothing is kept
-  pub nodes-start : (index uses : List ℕ) → CountsBelow 1 uses → NodesLeft index uses (nodesStart arrs) 0
+  pub nodes-start : (index uses : List ℕ) → CountsBelow 1 uses → NodesLeft s vs arrs nodes index uses (nodesStart arrs) 0
   unfolding sum usesOf occurrences flatMap
   nodes-start index uses none =
       record {
@@ -114,7 +94,7 @@ module _ (s : List ℕ) (vs arrs nodes : ℕ) where
         few = omega arith;
       }
 
-  module _ (index uses : List ℕ) (at n : ℕ) (h : NodesLeft index uses at n) where
+  module _ (index uses : List ℕ) (at n : ℕ) (h : NodesLeft s vs arrs nodes index uses at n) where
     -- the offset is small
     pub offset-small : at ≤ nodesStart arrs + 10 * n
     offset-small = omega (arith, h .place, h .counted, sizes-most (h .before))
@@ -132,54 +112,58 @@ module _ (s : List ℕ) (vs arrs nodes : ℕ) where
       -- a refused record refuses them all
       pub nodes-stop : (x : Refusal) → NodeChecked s index vs arrs n at (NodeRefused x) → readNodes nodes header s (nodesStart arrs) [] ≡ refused x
       nodes-stop x c =
-          let e = node-not-got _ x (c .isRead (h .before) (h .counted) (h .kept .leads) nodes) in
+          let e = c .isRead (h .before) (h .counted) (h .kept .leads) nodes in
           h .same ∙ ap (λ k. readNodes k header s at (h .before)) next ∙ nodes-refused _ _ _ _ _ _ e
 
-      module _ (bytes : Below 256 s) (m : Node) (c : NodeChecked s index vs arrs n at (NodeGot m)) (fs : List Field) (f : fs ≡ padded 3 (form m .fields)) where
-        was-read : readNode header s at (h .before) ≡ got m
-        was-read = node-got _ m (c .isRead (h .before) (h .counted) (h .kept .leads) nodes)
+      module _ (bytes : Below 256 s) (size : ℕ) (fs : Fields) (c : NodeChecked s index vs arrs n at (NodeGot size fs)) where
+        was-read : NodeKnown (readNode header s at (h .before)) size fs
+        was-read = c .isRead (h .before) (h .counted) (h .kept .leads) nodes
+
+        abbrev m : Node
+        m = was-read .node
 
         known : NodeRead s bytes header at (h .before) m
-        known = node-read _ bytes _ _ _ _ was-read
+        known = node-read _ bytes _ _ _ _ (was-read .isNode)
 
-        same-children : flatMap fieldChildren fs ≡ childrenOf m
+        same-children : flatMap fieldChildren (fieldsOf fs) ≡ childrenOf m
         unfolding childrenOf
-        same-children = rw f (padded-children 3 (form m .fields))
+        same-children = rw (was-read .isFields) (padded-children 3 (form m .fields))
 
         -- its children are among the nodes before it
-        pub children-inside : (bound : ℕ) → nodes ≤ bound → allBelow bound (flatMap fieldChildren fs) ≡ true
+        pub children-inside : (bound : ℕ) → nodes ≤ bound → allBelow bound (flatMap fieldChildren (fieldsOf fs)) ≡ true
         unfolding inRange fieldInRange
         children-inside bound wide =
-            let ranged : all (fieldInRange vs arrs n) fs ≡ true =
-            rw (f, padded-all (fieldInRange vs arrs n) refl 3 (form m .fields)) (rw (h .counted) at (known .fits .ranged)) in
-            below-weaken n bound (flatMap fieldChildren fs) (omega arith) (fields-below vs arrs n fs ranged)
+            let ranged : all (fieldInRange vs arrs n) (fieldsOf fs) ≡ true =
+            rw (was-read .isFields, padded-all (fieldInRange vs arrs n) refl 3 (form m .fields)) (rw (h .counted) at (known .fits .ranged)) in
+            below-weaken n bound (flatMap fieldChildren (fieldsOf fs)) (omega arith) (fields-below vs arrs n (fieldsOf fs) ranged)
 
         -- a record that was read is one node more
-        pub nodes-more : nodes ≤ length index → nodes ≤ length uses → length fs ≤ 3
-            → NodesLeft (set index n at) (tally uses (flatMap fieldChildren fs)) (at + sizeOf m) (n + 1)
+        pub nodes-more : nodes ≤ length index → nodes ≤ length uses
+            → NodesLeft s vs arrs nodes (set index n at) (tally uses (flatMap fieldChildren (fieldsOf fs))) (at + size) (n + 1)
         unfolding sum flatMap
-        nodes-more longIndex longUses three =
+        nodes-more longIndex longUses =
             record {
               before = h .before ++ (m ∷ []);
               counted = length-append (h .before) (m ∷ []) ∙ omega (arith, h .counted);
               same =
                   h .same
                   ∙ ap (λ k. readNodes k header s at (h .before)) next
-                  ∙ nodes-next _ _ _ _ _ _ was-read;
-              place = rw (map-append, sum-append) (omega (arith, h .place));
+                  ∙ nodes-next _ _ _ _ _ _ (was-read .isNode)
+                  ∙ ap (λ k. readNodes (nodes - (n + 1)) header s k (h .before ++ (m ∷ []))) (omega (arith, was-read .isSize));
+              place = rw (map-append, sum-append) (omega (arith, h .place, was-read .isSize));
               kept =
-                  rw (← h .counted)
+                  subst (λ k. Kept s (set index k at) (tally uses (flatMap fieldChildren (fieldsOf fs))) (nodesStart arrs) (h .before ++ (m ∷ []))) (h .counted)
                   (kept-more _ m _ _ _ _ _ (h .kept) (omega (arith, h .counted)) (h .place)
-                  (flatMap fieldChildren fs) same-children (children-inside (length uses) longUses) (known .there .decoded));
+                  (flatMap fieldChildren (fieldsOf fs)) same-children (children-inside (length uses) longUses) (known .there .decoded));
               children =
                   rw (flatMap-append, length-append, append-nil, ← same-children)
-                  (omega (arith, h .children, fields-children fs));
+                  (omega (arith, h .children, fields-children (fieldsOf fs)));
               few = omega arith;
             }
 
     -- with none left all were read
-    pub nodes-done : nodes ≤ n → NodesWalked s vs arrs nodes index uses (NodesGot at)
+    pub nodes-done : nodes ≤ n → readNodes nodes header s (nodesStart arrs) [] ≡ got (h .before)
     unfolding readNodes
     nodes-done all-read =
         let none : nodes - n ≡ 0 = omega arith in
-        ended (h .before) (h .same ∙ ap (λ k. readNodes k header s at (h .before)) none) (omega (arith, h .counted, h .few)) (ap NodesGot (h .place)) (h .kept)
+        h .same ∙ ap (λ k. readNodes k header s at (h .before)) none

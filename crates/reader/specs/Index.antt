@@ -4,7 +4,7 @@ use mathlib.Core.List.{List, []}
 use mathlib.Core.Path.{_≡_}
 use lib.ListN.{length, getD}
 use Rattle.awhile.specs.Lists.{sum}
-use Rattle.awhile.specs.Tables.{Table, rejected, notATree, accepted, readTable, offsetOf, BreaksRule, nodesStart, readHeader, readLabels, readCounts, readRecords}
+use Rattle.awhile.specs.Tables.{Table, rejected, notATree, accepted, readTable, offsetOf, BreaksRule, nodesStart, readRecords}
 use Rattle.awhile.specs.Refusals.{got}
 use Rattle.reader.specs.Reader.{Kept}
 use Rattle.awhile.specs.Language.{AExp, BExp, Com}
@@ -83,13 +83,3 @@ pub record Declares (t : Table) (variables arrays nodes cells : ℕ) (labels : L
 pub record Finishes (s index uses : List ℕ) (variables arrays nodes cells : ℕ) (labels : Labelling) (end : ℕ) (answer : Read) : Type 0 where
   pub answers : (t : Table) → readRecords s ≡ got t → Declares t variables arrays nodes cells labels → offsetOf t (length (t .nodes)) ≡ end
       → Kept s index uses (nodesStart (length (t .counts))) (t .nodes) → Answers s index answer
-
--- the answer where the declarations were read
-pub record ReadsOn (s index : List ℕ) (variables arrays nodes cells : ℕ) (labels : Labelling) (answer : Read) : Type 0 where
-  pub answers : (cs : List ℕ) → readHeader s ≡ got (record { variables = variables; arrays = arrays; nodes = nodes })
-      → readLabels s (record { variables = variables; arrays = arrays; nodes = nodes }) ≡ got labels
-      → readCounts arrays s 20 [] ≡ got cs → sum cs ≡ cells → Answers s index answer
-
--- the answer where the header was read
-pub record ReadsDeclared (s index : List ℕ) (variables arrays nodes : ℕ) (answer : Read) : Type 0 where
-  pub answers : readHeader s ≡ got (record { variables = variables; arrays = arrays; nodes = nodes }) → Answers s index answer

@@ -7,8 +7,8 @@ use lib.Dec.{ltb}
 use mathlib.Core.List.{List, [], _∷_, map}
 use Rattle.awhile.specs.Lists.{sum, all}
 use Rattle.awhile.specs.Refusals.{Answer, refused, got, check}
-use Rattle.awhile.specs.Nodes.{Field, word, constant, variable, array, child, sizeOf, sortOf, decodeAt, fieldInRange, fieldSorted}
-use Rattle.awhile.specs.Tables.{Header, nodesStart, readNode, readNodes, usesOf, inOrder, allInOrder}
+use Rattle.awhile.specs.Nodes.{Field, word, constant, variable, array, child, form, sizeOf, sortOf, decodeAt, fieldInRange, fieldSorted}
+use Rattle.awhile.specs.Tables.{Header, readNode, usesOf, inOrder, allInOrder}
 use Rattle.reader.specs.declared.checks.Checked.{Checked}
 use Rattle.reader.specs.declared.checks.Checked.the-variants.{Refused as CheckRefused, Passed}
 use Rattle.reader.specs.declared.declarations.HeaderRead.{HeaderRead}
@@ -17,19 +17,14 @@ use Rattle.reader.specs.declared.declarations.LabelsRead.{LabelsRead}
 use Rattle.reader.specs.declared.declarations.LabelsRead.the-variants.{Refused as LabelsRefused, Labels as LabelsGot}
 use Rattle.reader.specs.declared.declarations.CountRead.{CountRead}
 use Rattle.reader.specs.declared.declarations.CountRead.the-variants.{Refused as CountRefused, Count as CountGot}
-use Rattle.reader.specs.declared.declarations.CellsRead.{CellsRead}
-use Rattle.reader.specs.declared.declarations.CellsRead.the-variants.{Refused as CellsRefused, Cells as CellsGot}
 use Rattle.awhile.specs.declared.Labelling.{Labelling}
 use Rattle.awhile.specs.declared.Sort.{Sort}
 use Rattle.awhile.specs.declared.Node.{Node}
 use Rattle.awhile.specs.declared.Node.the-variants.{Skip}
 use Rattle.awhile.specs.declared.Decoded.the-variants.{Known}
 use Rattle.awhile.specs.declared.Refusal.the-variants.{WrongSort}
-use Rattle.awhile.specs.declared.Refusal.{Refusal}
 use Rattle.reader.specs.declared.uses.Broken.{Broken}
 use Rattle.reader.specs.declared.uses.Broken.the-variants.{At, Nowhere}
-use Rattle.reader.specs.declared.walk.NodesRead.{NodesRead}
-use Rattle.reader.specs.declared.walk.NodesRead.the-variants.{Refused as NodesRefused, Nodes as NodesGot}
 use Rattle.reader.specs.declared.walk.NodeRead.{NodeRead}
 use Rattle.reader.specs.declared.walk.NodeRead.the-variants.{Refused as NodeRefused, Node as NodeGot}
 use Rattle.reader.specs.declared.fields.Field.{Field as FieldRead}
@@ -61,11 +56,6 @@ unfoldable pub countAs : Answer ℕ → CountRead
 countAs (refused r) = CountRefused r
 countAs (got n) = CountGot n
 
--- of the cell counts the reader keeps their sum
-unfoldable pub cellsAs : Answer (List ℕ) → CellsRead
-cellsAs (refused r) = CellsRefused r
-cellsAs (got ns) = CellsGot (sum ns)
-
 -- ---- the fields of a record
 -- the field that the code's field is
 abbrev pub fieldOf : FieldRead → Field
@@ -86,15 +76,22 @@ padded (suc count) [] = word 0 ∷ padded count []
 padded (suc count) (f ∷ fs) = f ∷ padded count fs
 
 -- ---- the nodes
--- one node record
-unfoldable pub nodeAs : Answer Node → NodeRead
-nodeAs (refused r) = NodeRefused r
-nodeAs (got n) = NodeGot n
+-- a node that was read: how long its record is, and what its fields hold
+pub record NodeKnown (a : Answer Node) (size : ℕ) (fs : Fields) : Type 0 where
+  pub node : Node
+  pub isNode : a ≡ got node
+  pub isSize : size ≡ sizeOf node
+  pub isFields : fieldsOf fs ≡ padded 3 (form node .fields)
 
--- the node where a check passed
-unfoldable pub passedNode : Node → Checked → NodeRead
-passedNode n (CheckRefused r) = NodeRefused r
-passedNode n Passed = NodeGot n
+-- one node record
+abbrev pub NodeAs : Answer Node → NodeRead → Type 0
+NodeAs a (NodeRefused r) = a ≡ refused r
+NodeAs a (NodeGot size fs) = NodeKnown a size fs
+
+-- its length and fields where a check passed
+unfoldable pub passedNode : (size : ℕ) → Fields → Checked → NodeRead
+passedNode size fs (CheckRefused r) = NodeRefused r
+passedNode size fs Passed = NodeGot size fs
 
 -- the sort of the node that the record at an offset decodes to
 pub record SortAt (s : List ℕ) (at : ℕ) (r : Sort) : Type 0 where
@@ -112,7 +109,7 @@ pub record SortsChecked (s index : List ℕ) (at : ℕ) (fs : List Field) (r : C
 -- what reading the next node answers, by an index of the nodes before
 pub record NodeChecked (s index : List ℕ) (vs arrs n at : ℕ) (r : NodeRead) : Type 0 where
   pub isRead : (before : List Node) → length before ≡ n → Leads s index before
-      → (nodes : ℕ) → r ≡ nodeAs (readNode (record { variables = vs; arrays = arrs; nodes = nodes }) s at before)
+      → (nodes : ℕ) → NodeAs (readNode (record { variables = vs; arrays = arrs; nodes = nodes }) s at before) r
 
 -- ---- how often a node is a child
 -- counts with one more for each of these numbers
@@ -134,13 +131,6 @@ pub record Kept (s index uses : List ℕ) (start : ℕ) (ns : List Node) : Type 
   pub leads : Leads s index ns
   pub offsets : (i : ℕ) → i < length ns → getD index i 0 ≡ start + sum (map sizeOf (take i ns))
   pub used : (n : ℕ) → getD uses n 0 ≡ usesOf ns n
-
--- what walking all node records answers and keeps
-pub data NodesWalked (s : List ℕ) (vs arrs nodes : ℕ) (index uses : List ℕ) (r : NodesRead) : Type 0 where
-  stopped : (x : Refusal) → readNodes nodes (record { variables = vs; arrays = arrs; nodes = nodes }) s (nodesStart arrs) [] ≡ refused x
-      → r ≡ NodesRefused x → NodesWalked s vs arrs nodes index uses r
-  ended : (ns : List Node) → readNodes nodes (record { variables = vs; arrays = arrs; nodes = nodes }) s (nodesStart arrs) [] ≡ got ns
-      → length ns ≡ nodes → r ≡ NodesGot (nodesStart arrs + sum (map sizeOf ns)) → Kept s index uses (nodesStart arrs) ns → NodesWalked s vs arrs nodes index uses r
 
 -- ---- the nodes as one tree
 -- a node that is not in order, or that all are

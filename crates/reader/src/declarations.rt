@@ -2,10 +2,9 @@
 ghost use Prim.Native.Nat.{ℕ, _+_, _^_, _<_, _≤_};
 ghost use mathlib.Core.Path.{_≡_};
 ghost use mathlib.Core.Bool.{_&&_};
-ghost use mathlib.Core.List.{[]};
 ghost use lib.Dec.{eqb, ltb, leb};
-ghost use Rattle.awhile.specs.Tables.{maxVariables, maxArrays, maxNodes, maxCells, readHeader, readLabels, readCount, readCounts};
-ghost use Rattle.reader.specs.Reader.{headerAs, labelsAs, countAs, cellsAs};
+ghost use Rattle.awhile.specs.Tables.{maxVariables, maxArrays, maxNodes, maxCells, readHeader, readLabels, readCount};
+ghost use Rattle.reader.specs.Reader.{headerAs, labelsAs, countAs};
 use crate::checks;
 use crate::checks::Checked;
 use awhile::Labelling;
@@ -47,17 +46,18 @@ fn within_limits(version: usize, variables: usize, arrays: usize, nodes: usize) 
     nodes <= MAX_NODES
 }
 
-// The header: version, variables, arrays and nodes.
-pub fn read_header(table: &[u8]) -> HeaderRead
+// The header, which stands at the start: version, variables, arrays and nodes.
+pub fn read_header(table: &[u8], at: usize) -> HeaderRead
+    requires { ⌜ at ≡ 0 ⌝ }
     ensures { λ r. ⌜ r ≡ headerAs (readHeader (now (table .entry))) ⌝ }
 {
-    if let Checked::Refused { refusal } = checks::frame_of_kind(table, 0, 1, 10) {
+    if let Checked::Refused { refusal } = checks::frame_of_kind(table, at, 1, 10) {
         return HeaderRead::Refused { refusal };
     }
-    let version = get::u16_at(table, 4);
-    let variables = get::byte_at(table, 6);
-    let arrays = get::byte_at(table, 7);
-    let nodes = get::u16_at(table, 8);
+    let version = get::u16_at(table, at + 4);
+    let variables = get::byte_at(table, at + 6);
+    let arrays = get::byte_at(table, at + 7);
+    let nodes = get::u16_at(table, at + 8);
     if within_limits(version, variables, arrays, nodes) {
         return HeaderRead::Header {
             variables,
@@ -66,7 +66,7 @@ pub fn read_header(table: &[u8]) -> HeaderRead
         };
     }
     HeaderRead::Refused {
-        refusal: Refusal::BeyondLimit { at: 0 },
+        refusal: Refusal::BeyondLimit { at },
     }
 }
 
@@ -85,15 +85,15 @@ fn mask_fits(mask: u64, width: usize) -> bool
 }
 
 // The labels record: no mark beyond the variables and arrays that there are.
-pub fn read_labels(table: &[u8], variables: usize, arrays: usize) -> LabelsRead
-    requires { ⌜ (variables ≤ maxVariables) × (arrays ≤ maxArrays) ⌝ }
+pub fn read_labels(table: &[u8], at: usize, variables: usize, arrays: usize) -> LabelsRead
+    requires { ⌜ (at ≡ 10) × (variables ≤ maxVariables) × (arrays ≤ maxArrays) ⌝ }
     ensures { λ r. ⌜ ((nodes : ℕ) → r ≡ labelsAs (readLabels (now (table .entry)) (record { variables = variables; arrays = arrays; nodes = nodes }))) ⌝ }
 {
-    if let Checked::Refused { refusal } = checks::frame_of_kind(table, 10, 3, 10) {
+    if let Checked::Refused { refusal } = checks::frame_of_kind(table, at, 3, 10) {
         return LabelsRead::Refused { refusal };
     }
-    let variable_mask = get::u32_at(table, 14) as u64;
-    let array_mask = get::u16_at(table, 18);
+    let variable_mask = get::u32_at(table, at + 4) as u64;
+    let array_mask = get::u16_at(table, at + 8);
     if mask_fits(variable_mask, variables) {
         if mask_fits(array_mask as u64, arrays) {
             return LabelsRead::Labels {
@@ -105,7 +105,7 @@ pub fn read_labels(table: &[u8], variables: usize, arrays: usize) -> LabelsRead
         }
     }
     LabelsRead::Refused {
-        refusal: Refusal::BeyondLimit { at: 10 },
+        refusal: Refusal::BeyondLimit { at },
     }
 }
 
@@ -116,7 +116,7 @@ pub enum CountRead {
 }
 
 // One array record, after arrays with so many cells.
-fn read_count(table: &[u8], at: usize, before: usize) -> CountRead
+pub fn read_count(table: &[u8], at: usize, before: usize) -> CountRead
     requires { ⌜ (at + 6 < 2 ^ 64) × (before ≤ maxCells) ⌝ }
     ensures { λ r. ⌜ r ≡ countAs (readCount (now (table .entry)) at before) ⌝ }
 {
@@ -132,29 +132,4 @@ fn read_count(table: &[u8], at: usize, before: usize) -> CountRead
     CountRead::Refused {
         refusal: Refusal::BeyondLimit { at },
     }
-}
-
-// What reading all array records answers: how many cells they declare.
-pub enum CellsRead {
-    Refused { refusal: Refusal },
-    Cells { cells: usize },
-}
-
-// All array records: how many cells they declare.
-pub fn read_counts(table: &[u8], arrays: usize) -> CellsRead
-    requires { ⌜ arrays ≤ maxArrays ⌝ }
-    ensures { λ r. ⌜ r ≡ cellsAs (readCounts arrays (now (table .entry)) 20 []) ⌝ }
-{
-    let mut at = 20;
-    let mut left = arrays;
-    let mut cells = 0;
-    while 0 < left {
-        match read_count(table, at, cells) {
-            CountRead::Refused { refusal } => return CellsRead::Refused { refusal },
-            CountRead::Count { count } => cells += count,
-        }
-        at += 6;
-        left -= 1;
-    }
-    CellsRead::Cells { cells }
 }

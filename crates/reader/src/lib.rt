@@ -8,6 +8,7 @@ pub mod decode;
 pub mod fields;
 pub mod lookup;
 pub mod reader;
+pub mod records;
 pub mod tables;
 pub mod uses;
 pub mod walk;

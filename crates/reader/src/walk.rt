@@ -1,13 +1,13 @@
-// The node records, one after the other.
-ghost use Prim.Native.Nat.{_+_, _^_, _≤_, _<_};
+// A node's record: its kind and frame, then its fields' ranges, then its children's sorts.
+ghost use Prim.Native.Nat.{_+_, _^_, _<_};
 ghost use mathlib.Core.Path.{_≡_};
 ghost use mathlib.Core.List.{[], _∷_};
-ghost use lib.ListN.{length, getD};
+ghost use lib.ListN.{getD};
 ghost use Rattle.awhile.specs.Refusals.{refused, got, check};
 ghost use Rattle.awhile.specs.Lists.{all};
 ghost use Rattle.awhile.specs.Nodes.{fieldInRange, sameSort};
-ghost use Rattle.awhile.specs.Tables.{maxArrays, maxNodes, framed};
-ghost use Rattle.reader.specs.Reader.{checkedAs, fieldOf, fieldsOf, SortAt, SortsChecked, NodeChecked, CountsBelow, NodesWalked};
+ghost use Rattle.awhile.specs.Tables.{framed};
+ghost use Rattle.reader.specs.Reader.{checkedAs, fieldOf, fieldsOf, SortAt, SortsChecked, NodeChecked};
 ghost use Rattle.awhile.specs.declared.Node.the-variants.{Skip};
 ghost use Rattle.awhile.specs.declared.Refusal.the-variants.{OutOfRange, WrongSort};
 use crate::checks;
@@ -16,18 +16,15 @@ use crate::decode;
 use crate::fields;
 use crate::fields::Field;
 use crate::fields::Fields;
-use crate::reader;
-use crate::uses;
 use awhile::Decoded;
-use awhile::Node;
 use awhile::Refusal;
 use awhile::Sort;
 use bytes_le::get;
 
-// What reading one node record answers.
+// What reading one node record answers: why it is refused, or how long it is and what its fields hold.
 pub enum NodeRead {
     Refused { refusal: Refusal },
-    Node { node: Node },
+    Node { size: usize, fields: Fields },
 }
 
 // The offset that an index has for a number; 0 past its end.
@@ -135,7 +132,7 @@ fn refuse_kind(table: &[u8], at: usize) -> Refusal
 }
 
 // The record of node n, by an index of the nodes before it: its kind and frame, its fields' ranges, its children's sorts.
-fn read_node(
+pub fn read_node(
     table: &[u8],
     index: &[u16],
     variables: usize,
@@ -146,12 +143,13 @@ fn read_node(
     requires { ⌜ at + 10 < 2 ^ 64 ⌝ }
     ensures { λ r. ⌜ NodeChecked (now (table .entry)) (now (index .entry)) variables arrays n at r ⌝ }
 {
-    let Decoded::Known { node } = reader::decoded_at(table, at) else {
+    let Decoded::Known { node } = decode::decode_at(table, at) else {
         return NodeRead::Refused {
             refusal: refuse_kind(table, at),
         };
     };
-    if let Checked::Refused { refusal } = checks::frame(table, at, decode::size_of(node)) {
+    let size = decode::size_of(node);
+    if let Checked::Refused { refusal } = checks::frame(table, at, size) {
         return NodeRead::Refused { refusal };
     }
     let fields = fields::fields_of(node);
@@ -160,39 +158,5 @@ fn read_node(
     if let Checked::Refused { refusal } = checks::first_refusal(ranges, sorts) {
         return NodeRead::Refused { refusal };
     }
-    NodeRead::Node { node }
-}
-
-// What reading all node records answers: where the last one ends.
-pub enum NodesRead {
-    Refused { refusal: Refusal },
-    Nodes { end: usize },
-}
-
-// All node records: their offsets go into the index, and how often each is a child into the counts, which start at 0.
-pub fn read_nodes(
-    table: &[u8],
-    variables: usize,
-    arrays: usize,
-    nodes: usize,
-    index: &mut [u16],
-    uses: &mut [u16],
-) -> NodesRead
-    requires { ⌜ (arrays ≤ maxArrays) × (nodes ≤ maxNodes) × (nodes ≤ length (now index)) × (nodes ≤ length (now uses)) × CountsBelow 1 (now uses) ⌝ }
-    ensures { λ r. ⌜ NodesWalked (now (table .entry)) variables arrays nodes (now (index .exit)) (now (uses .exit)) r ⌝ }
-{
-    let mut at = 20 + 6 * arrays;
-    let mut n = 0;
-    while n < nodes {
-        match read_node(table, &*index, variables, arrays, n, at) {
-            NodeRead::Refused { refusal } => return NodesRead::Refused { refusal },
-            NodeRead::Node { node } => {
-                index[n] = at as u16;
-                uses::count_fields(&mut *uses, fields::fields_of(node));
-                at += decode::size_of(node);
-            }
-        }
-        n += 1;
-    }
-    NodesRead::Nodes { end: at }
+    NodeRead::Node { size, fields }
 }

@@ -20,9 +20,9 @@ module _ (c : tie.After-within-limits) where
 
   -- the fields decide
   tested : (b : Bool) → c .within-limits .result ≡ b
-      → headerAs (check b (BeyondLimit 0) (got fields)) ≡ headerAs (readHeader (now (passed .before .before .before .before .args .table)))
+      → headerAs (check b (BeyondLimit (passed .before .before .before .before .args .at)) (got fields)) ≡ headerAs (readHeader (now (passed .before .before .before .before .args .table)))
   tested b e =
-      header-tested _ _ _ _ _ b (sym (passed .before .before .frame-of-kind .ensures) ∙ passed .enum-told .given .1) (c .before .before .before .before .u16-at .ensures .0)
+      header-tested _ _ (passed .before .before .before .before .pre) _ _ _ _ b (sym (passed .before .before .frame-of-kind .ensures) ∙ passed .enum-told .given .1) (c .before .before .before .before .u16-at .ensures .0)
       (c .before .before .before .byte-at .ensures .0) (c .before .before .byte-at2 .ensures .0) (c .before .u16-at2 .ensures .0) (sym e ∙ c .within-limits .ensures)
 
 pub read-header-spec : {M : Type 1} → statement M
@@ -32,11 +32,15 @@ read-header-spec =
     (tie.spec
     (λ c κs. search needs)
     (λ c. search needs)
-    (λ c. header-refused _ _ (sym (c .before .before .before .frame-of-kind .ensures) ∙ c .before .refusal .given .1))
+    (λ c. header-refused _ _ (c .before .before .before .before .before .pre) _ (sym (c .before .before .before .frame-of-kind .ensures) ∙ c .before .refusal .given .1))
+    (λ c. search needs)
     (λ c. search needs)
     (λ c κs. search needs)
+    (λ c. search needs)
     (λ c κs. search needs)
+    (λ c. search needs)
     (λ c κs. search needs)
+    (λ c. search needs)
     (λ c κs. search needs)
     (λ c κs. search needs)
     (λ c. tested (c .before) true (c .if1 .taken))

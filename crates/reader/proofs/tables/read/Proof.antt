@@ -1,29 +1,31 @@
--- `read` reads the header, then what follows.
-use mathlib.Core.Path.{sym, _∙_}
-use Rattle.reader.proofs.Answering.{header-stop, header-limits, header-on}
+-- `read` walks the table, and answers what the walk ended in.
+use native.Mathlib.Omega.{arith}
+use mathlib.Core.Path.{refl}
+use Rattle.reader.specs.Walk.{atHeader}
+use Rattle.reader.proofs.Tally.{zeros-below}
+use Rattle.reader.proofs.Turns.{ends-answers, never-due}
 use borrow.Author.Needs.{needs}
 use Rattle.reader.proofs.tables.read.Statement.{statement}
 use Rattle.reader.proofs.tables.read.Tie as tie
 
-read-declared-requires : tie.Need-read-declared-requires
-read-declared-requires c κs =
-    let known = c .before .before in
-    let f = header-limits _ _ _ _ (sym (known .variables .given .1) ∙ known .before .before .read-header .ensures) in
-    (f .variablesFit, f .arraysFit, f .hasNodes, f .nodesFit, known .before .before .before .before .before .pre)
+walk-requires : tie.Need-walk-requires
+walk-requires c κs =
+    atHeader refl refl (record { long = record { longIndex = c .before .before .before .before .pre; longUses = omega arith }; zeros = zeros-below 4096 })
+
+returns : tie.Need-returns
+returns c = absurd (never-due _ _ _ _ (c .before .before .before .before .walk .ensures) (c .match .keys2))
 
 returns-2 : tie.Need-returns-2
-returns-2 c =
-    let known = c .before .before .before .before .before in
-    header-on _ _ _ _ _ _ (sym (known .variables .given .1) ∙ known .before .before .read-header .ensures) (c .before .before .read-declared .ensures)
+returns-2 c = ends-answers _ _ _ _ (c .before .before .before .before .before .before .walk .ensures) _ (c .before .due .given .1)
 
 pub read-spec : {M : Type 1} → statement M
 read-spec =
     tie.close
     (tie.spec
-    (λ c κs. search needs)
+    (λ c. search needs)
+    walk-requires
     (λ c. search needs)
     (λ c. search needs)
-    read-declared-requires
-    (λ c. header-stop _ _ _ (sym (c .before .refusal .given .1) ∙ c .before .before .before .read-header .ensures))
+    returns
     (λ c. search needs)
     returns-2)

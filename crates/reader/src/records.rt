@@ -1,0 +1,231 @@
+// The record at an offset: what is due there, by what the records before it say.
+ghost use Prim.Native.Nat.{_+_, _^_, _≤_, _<_};
+ghost use mathlib.Core.Path.{_≡_};
+ghost use Rattle.awhile.specs.Tables.{maxVariables, maxArrays, maxCells, readHeader, readLabels, readCount};
+ghost use Rattle.reader.specs.Reader.{headerAs, labelsAs, countAs};
+ghost use Rattle.reader.specs.Walk.{headerOf, undeclaredWith, begun, doneWith, headerDue, labelsDue, countDue, Walking, Turned, NodeReady, NodeTurned, BodyDue};
+use crate::Read;
+use crate::declarations;
+use crate::declarations::CountRead;
+use crate::declarations::HeaderRead;
+use crate::declarations::LabelsRead;
+use crate::tables;
+use crate::uses;
+use crate::walk;
+use crate::walk::NodeRead;
+use awhile::Labelling;
+use awhile::MAX_ARRAYS;
+use awhile::MAX_NODES;
+
+// What is due: the header, the labels, an array or node or the end, or nothing any more.
+pub enum Due {
+    Header,
+    Labels,
+    Body,
+    Done { answer: Read },
+}
+
+// What was read so far: how many records are left, the end counted as one; how long the last one was; and what they declare.
+pub struct Progress {
+    pub left: usize,
+    pub size: usize,
+    pub due: Due,
+    pub variables: usize,
+    pub arrays: usize,
+    pub nodes: usize,
+    pub cells: usize,
+    pub labels: Labelling,
+}
+
+// Before the first record: no table has more records than are counted here.
+pub fn begin() -> Progress
+    ensures { λ r. ⌜ r ≡ begun ⌝ }
+{
+    undeclared(3 + MAX_ARRAYS + MAX_NODES, Due::Header)
+}
+
+// Nothing is due any more.
+fn done(answer: Read) -> Progress
+    ensures { λ r. ⌜ r ≡ doneWith answer ⌝ }
+{
+    undeclared(0, Due::Done { answer })
+}
+
+// Nothing is declared yet, or of account any more.
+fn undeclared(left: usize, due: Due) -> Progress
+    ensures { λ r. ⌜ r ≡ undeclaredWith left due ⌝ }
+{
+    Progress {
+        left,
+        size: 0,
+        due,
+        variables: 0,
+        arrays: 0,
+        nodes: 0,
+        cells: 0,
+        labels: Labelling {
+            variables: 0,
+            arrays: 0,
+        },
+    }
+}
+
+// The header.
+fn header_due(table: &[u8], at: usize) -> Progress
+    requires { ⌜ at ≡ 0 ⌝ }
+    ensures { λ r. ⌜ r ≡ headerDue (headerAs (readHeader (now (table .entry)))) ⌝ }
+{
+    match declarations::read_header(table, at) {
+        HeaderRead::Refused { refusal } => done(Read::Refused { refusal }),
+        HeaderRead::Header {
+            variables,
+            arrays,
+            nodes,
+        } => Progress {
+            left: 2 + arrays + nodes,
+            size: 10,
+            due: Due::Labels,
+            variables,
+            arrays,
+            nodes,
+            cells: 0,
+            labels: Labelling {
+                variables: 0,
+                arrays: 0,
+            },
+        },
+    }
+}
+
+// The labels record.
+fn labels_due(table: &[u8], at: usize, progress: Progress) -> Progress
+    requires { ⌜ (at ≡ 10) × (progress .variables ≤ maxVariables) × (progress .arrays ≤ maxArrays) × (0 < progress .left) ⌝ }
+    ensures { λ r. ⌜ r ≡ labelsDue progress (labelsAs (readLabels (now (table .entry)) (headerOf progress))) ⌝ }
+{
+    match declarations::read_labels(table, at, progress.variables, progress.arrays) {
+        LabelsRead::Refused { refusal } => done(Read::Refused { refusal }),
+        LabelsRead::Labels { labels } => Progress {
+            left: progress.left - 1,
+            size: 10,
+            due: Due::Body,
+            variables: progress.variables,
+            arrays: progress.arrays,
+            nodes: progress.nodes,
+            cells: 0,
+            labels,
+        },
+    }
+}
+
+// An array record.
+fn array_due(table: &[u8], at: usize, progress: Progress) -> Progress
+    requires { ⌜ (at + 6 < 2 ^ 64) × (progress .cells ≤ maxCells) × (0 < progress .left) ⌝ }
+    ensures { λ r. ⌜ r ≡ countDue progress (countAs (readCount (now (table .entry)) at (progress .cells))) ⌝ }
+{
+    let labels = progress.labels;
+    match declarations::read_count(table, at, progress.cells) {
+        CountRead::Refused { refusal } => done(Read::Refused { refusal }),
+        CountRead::Count { count } => Progress {
+            left: progress.left - 1,
+            size: 6,
+            due: Due::Body,
+            variables: progress.variables,
+            arrays: progress.arrays,
+            nodes: progress.nodes,
+            cells: progress.cells + count,
+            labels,
+        },
+    }
+}
+
+// A node record: its offset goes into the index, and how often each number is a child into the counts.
+fn node_due(
+    table: &[u8],
+    at: usize,
+    progress: Progress,
+    n: usize,
+    index: &mut [u16],
+    uses: &mut [u16],
+) -> Progress
+    requires { ⌜ NodeReady (now table) at progress n (now index) (now uses) ⌝ }
+    ensures { λ r. ⌜ NodeTurned (now (table .entry)) at progress n (now (index .exit)) (now (uses .exit)) r ⌝ }
+{
+    let labels = progress.labels;
+    match walk::read_node(table, &*index, progress.variables, progress.arrays, n, at) {
+        NodeRead::Refused { refusal } => done(Read::Refused { refusal }),
+        NodeRead::Node { size, fields } => {
+            index[n] = at as u16;
+            uses::count_fields(&mut *uses, fields);
+            Progress {
+                left: progress.left - 1,
+                size,
+                due: Due::Body,
+                variables: progress.variables,
+                arrays: progress.arrays,
+                nodes: progress.nodes,
+                cells: progress.cells,
+                labels,
+            }
+        }
+    }
+}
+
+// After the header and the labels: an array, a node, or the end.
+fn body_at(
+    table: &[u8],
+    at: usize,
+    progress: Progress,
+    index: &mut [u16],
+    uses: &mut [u16],
+) -> Progress
+    requires { ⌜ BodyDue (now table) at progress (now index) (now uses) ⌝ }
+    ensures { λ r. ⌜ Turned (now (table .entry)) at progress r (now (index .exit)) (now (uses .exit)) ⌝ }
+{
+    let left = progress.left;
+    let nodes = progress.nodes;
+    let labels = progress.labels;
+    if nodes + 1 < left {
+        return array_due(table, at, progress);
+    }
+    if 1 < left {
+        return node_due(
+            table,
+            at,
+            progress,
+            nodes + 1 - left,
+            &mut *index,
+            &mut *uses,
+        );
+    }
+    done(tables::finish(
+        table,
+        &*index,
+        &*uses,
+        progress.variables,
+        progress.arrays,
+        nodes,
+        progress.cells,
+        labels,
+        at,
+    ))
+}
+
+// The record that is due at an offset.
+pub fn record_at(
+    table: &[u8],
+    at: usize,
+    progress: Progress,
+    index: &mut [u16],
+    uses: &mut [u16],
+) -> Progress
+    requires { ⌜ Walking (now table) at progress (now index) (now uses) × (0 < progress .left) ⌝ }
+    ensures { λ r. ⌜ Turned (now (table .entry)) at progress r (now (index .exit)) (now (uses .exit)) ⌝ }
+{
+    let due = progress.due;
+    match due {
+        Due::Header => header_due(table, at),
+        Due::Labels => labels_due(table, at, progress),
+        Due::Body => body_at(table, at, progress, &mut *index, &mut *uses),
+        Due::Done { answer } => done(answer),
+    }
+}
