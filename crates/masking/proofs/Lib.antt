@@ -1,5 +1,6 @@
 -- Laws for what masks and flag updates write, and where masks stand.
 pub mod NotedLabels
+pub mod DecidedBytes
 pub mod TwoParts
 pub mod AppendedNodes
 pub mod Masking
