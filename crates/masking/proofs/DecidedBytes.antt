@@ -33,8 +33,7 @@ use Rattle.analysis.specs.Notes.{noteIn, Noted}
 use Rattle.analysis.proofs.Nodes.{command-kinds}
 use Rattle.analysis.proofs.SheetRecords.{annotated-by-notes}
 use Rattle.masks.specs.Decisions.{Decision, decision, decide}
-use Rattle.masking.specs.Deciding.{maskDigits, decisionIn, decidedIn, Decides, digitsIn, DecidedBelow}
-use Rattle.masking.specs.InMemory.{annotatedIn, NotedAt}
+use Rattle.masking.specs.Deciding.{maskDigits, decisionIn, decidedIn, Decides, annotatedIn, NotedAt, digitsIn, DecidedBelow}
 
 -- ---- a byte tells its decision
 digits-tell : (n : ℕ) (c i v : Bool)

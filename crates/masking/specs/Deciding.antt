@@ -6,13 +6,15 @@ use mathlib.Core.Path.{_≡_}
 use lib.ListN.{length, getD}
 use Rattle.awhile.specs.Language.{Com, noteOf, mapNotes}
 use Rattle.awhile.specs.Nodes.{sortOf}
+use Rattle.awhile.specs.declared.Sort.{Sort}
 use Rattle.awhile.specs.declared.Sort.the-variants.{Command}
-use Rattle.reader.specs.Index.{tableOf, nodesIn, nodeIn, commandIn, Indexed}
+use Rattle.reader.specs.Index.{tableOf, nodesIn, nodeIn, commandIn, Indexed, OfSort}
+use Rattle.labels.specs.Annotation.{Entry}
 use Rattle.labels.specs.Masks.{bit}
 use Rattle.labels.specs.Sheet.{annotated}
 use Rattle.analysis.specs.Conditions.{NoteRoom}
+use Rattle.analysis.specs.Notes.{noteIn}
 use Rattle.masks.specs.Decisions.{Decision, decision, decide}
-use Rattle.masking.specs.InMemory.{annotatedIn}
 
 -- ---- decisions
 -- the byte of a decision: a digit for the condition, one for the index and one for the value
@@ -33,6 +35,16 @@ pub record Decides (table decisions : List ℕ) : Type 0 where
   pub program : decidedIn table decisions (nodesIn table - 1) ≡ decide (annotated (tableOf table))
 
 -- ---- from notes
+-- a node's command with its notes
+unfoldable pub annotatedIn : (table variableNotes arrayNotes : List ℕ) → (node : ℕ) → Com Entry
+annotatedIn table vs arrs n = mapNotes (noteIn vs arrs) (commandIn table n)
+
+-- what is asked of a node that is looked up with the notes of command `at`
+pub record NotedAt (table index vs arrs : List ℕ) (sort : Sort) (n at : ℕ) : Type 0 where
+  pub node : OfSort table index sort n
+  pub room : NoteRoom table vs arrs
+  pub inside : at < nodesIn table
+
 -- what deciding on a whole table requires: its index, and room for notes and decisions
 pub record Decidable (table index vs arrs decisions : List ℕ) : Type 0 where
   pub indexed : Indexed table index

@@ -16,11 +16,10 @@ ghost use Rattle.labels.specs.Analysis.{readLabel};
 ghost use Rattle.labels.specs.Labellings.{labelOfA, labelOfB};
 ghost use Rattle.analysis.specs.Conditions.{NoteRoom};
 ghost use Rattle.analysis.specs.Notes.{noteIn};
-ghost use Rattle.masking.specs.Deciding.{digitsIn, Decidable, DecidedBelow};
-ghost use Rattle.masking.specs.InMemory.{NotedAt};
+ghost use Rattle.masking.specs.Deciding.{NotedAt, digitsIn, Decidable, DecidedBelow};
 
 // Whether a condition is masked: it is secret where command `at` is entered.
-pub fn mask_condition(
+fn mask_condition(
     table: &[u8],
     index: &[u16],
     variables: &[u64],
@@ -36,7 +35,7 @@ pub fn mask_condition(
 }
 
 // Whether the index of a read or write is masked: it is secret there.
-pub fn mask_index(
+fn mask_index(
     table: &[u8],
     index: &[u16],
     variables: &[u64],
@@ -52,7 +51,7 @@ pub fn mask_index(
 }
 
 // Whether the value of a read is masked: index, array and context are public.
-pub fn mask_value(
+fn mask_value(
     table: &[u8],
     index: &[u16],
     variables: &[u64],
