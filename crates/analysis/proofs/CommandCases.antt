@@ -1,14 +1,12 @@
 -- The analysis in code, by the kind of a node: what its parts require, and what it leaves.
 use Prim.Native.Nat.{ℕ, _+_, _*_, _≤_, _<_, max}
 use mathlib.Core.Bool.{Bool, cond, _||_}
-use mathlib.Core.List.{List, [], _∷_}
+use mathlib.Core.List.{List}
 use mathlib.Core.Path.{_≡_, refl, sym, ap, ap₂, subst, _∙_}
 use native.Mathlib.Omega.{arith}
-use denote.Enum.Declared.{tagOf}
-use types.Run.{OneOf, miss}
 use lib.Dec.{eqb}
 use lib.ListN.{length, getD, set}
-use Rattle.reader.specs.Index.{numericIn, truthIn, commandIn}
+use Rattle.reader.specs.Index.{numericIn, truthIn, commandIn, Single}
 use Rattle.awhile.specs.Language.{skip, assign, sequence, if, while, read, write}
 use Rattle.awhile.specs.Nodes.{sortOf}
 use Rattle.awhile.specs.declared.Labelling.{Labelling}
@@ -16,34 +14,16 @@ use Rattle.awhile.specs.declared.Sort.the-variants.{Command}
 use Rattle.awhile.specs.declared.Node.{Node}
 use Rattle.awhile.specs.declared.Node.the-variants.{Skip, Assign, Sequence, If, While, Read, Write}
 use Rattle.reader.proofs.Index.{Child, Parts, child-of-sort}
-use Rattle.awhile.proofs.Node.{the-type}
 use Rattle.labels.specs.Labellings.{variableMark, arrayMark, labelOfA, labelOfB, setLabel, join}
 use Rattle.labels.specs.Analysis.{readLabel, writeLabel, analyse}
 use Rattle.labels.specs.Annotation.{entered, annotate}
 use Rattle.analysis.specs.Notes.{arrayNote}
 use Rattle.analysis.specs.Warm.{standing, Distinct, InOrder}
-use Rattle.analysis.specs.Conditions.{Single, NoteRoom, Analysable, Analysed, PairAnalysable, PairAnalysed, Settleable, SettledLoop}
+use Rattle.analysis.specs.Conditions.{NoteRoom, Analysable, Analysed, PairAnalysable, PairAnalysed, Settleable, SettledLoop}
 use Rattle.analysis.specs.Conditions.{SequenceAnalysable, SequenceAnalysed, SidesAnalysable, SidesAnalysed}
 use Rattle.analysis.proofs.CommandNotes.{NotedAt, note-stored, distinct-part, alone-analysed}
 use Rattle.analysis.proofs.CommandNotes.{second-ready, pair-analysed, part-ready, sequence-analysed, if-analysed, loop-ready, while-analysed}
-use Rattle.analysis.proofs.Nodes.{command-kinds}
-
--- the kinds of nodes that a function over commands with parts does not name
-abbrev pub unnamedCommand : List ℕ
-unnamedCommand = 0 ∷ 1 ∷ 2 ∷ 3 ∷ 4 ∷ 5 ∷ 6 ∷ 7 ∷ 8 ∷ 9 ∷ 10 ∷ 11 ∷ 12 ∷ 16 ∷ 17 ∷ []
-
--- the kinds of nodes that a function over commands without parts does not name
-abbrev pub unnamedSingle : List ℕ
-unnamedSingle = 0 ∷ 1 ∷ 2 ∷ 3 ∷ 4 ∷ 5 ∷ 6 ∷ 7 ∷ 8 ∷ 9 ∷ 10 ∷ 11 ∷ 13 ∷ 14 ∷ 15 ∷ []
-
--- a node that is not named has no command parts
-pub unnamed-single : (m : Node) → OneOf unnamedCommand (tagOf the-type m) → Single m
-unnamed-single m o =
-    record {
-      noSequence = λ c d e. miss unnamedCommand 13 tt (subst (λ k. OneOf unnamedCommand (tagOf the-type k)) e o);
-      noIf = λ b c d e. miss unnamedCommand 14 tt (subst (λ k. OneOf unnamedCommand (tagOf the-type k)) e o);
-      noWhile = λ b c e. miss unnamedCommand 15 tt (subst (λ k. OneOf unnamedCommand (tagOf the-type k)) e o);
-    }
+use Rattle.reader.proofs.NodeKinds.{command-kinds}
 
 -- the same room, in slices as long and as fit
 pub same-room : {table vs arrs vs′ arrs′ : List ℕ} → NoteRoom table vs arrs → length vs′ ≡ length vs → length arrs′ ≡ length arrs
@@ -56,18 +36,6 @@ pub entry-noted : {table index vs arrs vs′ arrs′ : List ℕ} {n : ℕ} {x : 
 entry-noted {vs = vs} {arrs = arrs} {n = n} {x = x} {l = l} pre small e =
     let inside = pre .node .inside in
     note-stored n x l vs arrs (omega (arith, pre .room .variables)) (omega (arith, pre .room .arrays)) small e
-
--- a command without parts that is not named is a skip
-pub unnamed-skip : (m : Node) → sortOf m ≡ Command → OneOf unnamedSingle (tagOf the-type m) → Single m → m ≡ Skip
-unnamed-skip =
-    command-kinds (λ m. OneOf unnamedSingle (tagOf the-type m) → Single m → m ≡ Skip)
-    (λ o s. refl)
-    (λ v e o s. absurd (miss unnamedSingle 12 tt o))
-    (λ c d o s. absurd (s .noSequence c d refl))
-    (λ b c d o s. absurd (s .noIf b c d refl))
-    (λ b c o s. absurd (s .noWhile b c refl))
-    (λ v a i o s. absurd (miss unnamedSingle 16 tt o))
-    (λ a i e o s. absurd (miss unnamedSingle 17 tt o))
 
 -- ---- commands without parts: what their functions answer is what the analysis does
 module _ (table : List ℕ) (n : ℕ) (x : Bool) (l : Labelling) {r : Labelling} where

@@ -28,7 +28,7 @@ use Rattle.labels.specs.Annotation.{Entry}
 use Rattle.analysis.specs.Notes.{noteIn, Noted}
 use Rattle.labels.specs.Sheet.{sheetRecord, recordLength, recordOf, entryOf, masksBytes, labelBytes, annotated}
 use Rattle.analysis.specs.Warm.{standing}
-use Rattle.analysis.proofs.Nodes.{command-kinds}
+use Rattle.reader.proofs.NodeKinds.{command-kinds}
 use Rattle.awhile.proofs.Notes.{note-mapped}
 use Rattle.analysis.proofs.Standing.{root-standing}
 use Rattle.analysis.proofs.SheetRecords.{copies, Located, annotated-by-notes, recordAt, records-copied, lengths-copied}

@@ -4,13 +4,12 @@ use mathlib.Core.Bool.{Bool, false, _||_}
 use mathlib.Core.List.{List}
 use mathlib.Core.Path.{_≡_}
 use lib.ListN.{length, getD}
-use Rattle.reader.specs.Index.{Indexed, tableOf, nodesIn, nodeIn, truthIn, commandIn, OfSort}
+use Rattle.reader.specs.Index.{Indexed, tableOf, nodesIn, nodeIn, truthIn, commandIn, OfSort, Single}
 use Rattle.awhile.specs.Language.{BExp, Com, while, noteOf}
 use Rattle.awhile.specs.Tables.{Table}
 use Rattle.awhile.specs.Trees.{rootOf}
 use Rattle.awhile.specs.declared.Labelling.{Labelling}
 use Rattle.awhile.specs.declared.Node.{Node}
-use Rattle.awhile.specs.declared.Node.the-variants.{Sequence, If, While}
 use Rattle.awhile.specs.declared.Sort.the-variants.{Truth, Command}
 use Rattle.labels.specs.Labellings.{labelOfB, join}
 use Rattle.labels.specs.Analysis.{analyse}
@@ -39,13 +38,7 @@ pub record Analysed (c : Com ℕ) (x : Bool) (l : Labelling) (vs arrs vs′ arrs
   pub outside : Outside c vs arrs vs′ arrs′
   pub fit : (p : ℕ) → getD arrs′ p 0 < 131072
 
--- a node that is no command with command parts
-pub record Single (node : Node) : Type 0 where
-  pub noSequence : (c d : ℕ) → node ≡ Sequence c d → ⊥
-  pub noIf : (b c d : ℕ) → node ≡ If b c d → ⊥
-  pub noWhile : (b c : ℕ) → node ≡ While b c → ⊥
-
--- such a node, in a table that was read and indexed
+-- a node without command parts, in a table that was read and indexed
 pub record SingleIn (table index : List ℕ) (node : Node) : Type 0 where
   pub at : ℕ
   pub command : OfSort table index Command at

@@ -30,7 +30,7 @@ use Rattle.labels.specs.Masks.{bit}
 use Rattle.labels.specs.Sheet.{entryOf, annotated}
 use Rattle.analysis.specs.Conditions.{NoteRoom}
 use Rattle.analysis.specs.Notes.{noteIn, Noted}
-use Rattle.analysis.proofs.Nodes.{command-kinds}
+use Rattle.reader.proofs.NodeKinds.{command-kinds}
 use Rattle.analysis.proofs.SheetRecords.{annotated-by-notes}
 use Rattle.masks.specs.Decisions.{Decision, decision, decide}
 use Rattle.masking.specs.Deciding.{maskDigits, decisionIn, decidedIn, Decides, annotatedIn, NotedAt, digitsIn, DecidedBelow}
@@ -64,7 +64,7 @@ digits-fit true false e f = omega (arith, e, f)
 digits-fit false true e f = omega (arith, e, f)
 digits-fit false false e f = omega (arith, e, f)
 
--- its node is the command's
+-- a decision has the number of its command
 decided-node : (c : Com Entry) → noteOf (decide c) .node ≡ noteOf c .node
 unfolding decide noteOf
 decided-node (skip e) = refl

@@ -14,9 +14,9 @@ use Rattle.labels.specs.Labellings.{join}
 use Rattle.analysis.specs.Notes.{noteIn}
 use Rattle.analysis.specs.Warm.{keptIn}
 use Rattle.awhile.specs.declared.Node.{Node}
-use Rattle.analysis.proofs.Nodes.{node-parts}
+use Rattle.reader.proofs.NodeKinds.{node-parts, unnamed-single}
 use Rattle.analysis.proofs.CommandNotes.{NotedAt}
-use Rattle.analysis.proofs.CommandCases.{entry-noted, unnamed-single, single-analysed, sequence-ready, sequence-left, if-ready, if-left, loop-settleable, loop-settled}
+use Rattle.analysis.proofs.CommandCases.{entry-noted, single-analysed, sequence-ready, sequence-left, if-ready, if-left, loop-settleable, loop-settled}
 use Rattle.analysis.proofs.CommandCases.{pair-first, sequence-second, sequence-both, if-first, if-second, if-both, lower, pair-lower}
 use Rattle.analysis.proofs.Settling.{Passing, passing-starts, passing-next, passing-falls, passing-ends, warm-answer}
 use Prim.Native.Nat.{ℕ, _+_, _*_, _<_, max}

@@ -9,8 +9,8 @@ use Rattle.awhile.specs.WellFormed.{Declared}
 use Rattle.awhile.specs.declared.Node.{Node}
 use Rattle.reader.specs.Index.{tableOf, nodesIn, nodeIn}
 use Rattle.reader.proofs.Index.{Parts, indexed-well-formed, child-of-sort}
-use Rattle.analysis.proofs.Nodes.{node-parts}
-use Rattle.analysis.proofs.CommandCases.{unnamed-skip, after-assign, after-read, after-write, after-skip}
+use Rattle.reader.proofs.NodeKinds.{node-parts, unnamed-skip}
+use Rattle.analysis.proofs.CommandCases.{after-assign, after-read, after-write, after-skip}
 use borrow.Author.Needs.{needs}
 use Rattle.analysis.proofs.commands.after_single.Statement.{statement}
 use Rattle.analysis.proofs.commands.after_single.Tie as tie

@@ -12,7 +12,8 @@ use Rattle.awhile.specs.declared.Node.{Node}
 use Rattle.reader.specs.Index.{numericIn, truthIn}
 use Rattle.reader.proofs.Index.{Parts}
 use Rattle.labels.specs.Labellings.{labelOfA, labelOfB}
-use Rattle.analysis.proofs.Nodes.{node-parts, call-child, call-pair, call-choice}
+use Rattle.reader.proofs.NodeKinds.{node-parts}
+use Rattle.analysis.proofs.Nodes.{call-child, call-pair, call-choice}
 use Rattle.analysis.proofs.ExpressionLabels.{first-secret, second-label, number-public, constant-public, same-numeric, same-truth}
 use borrow.Fn.Kinds.{PK, In}
 use borrow.Fn.PlainCycle.{Measures, is, falls, and}

@@ -8,7 +8,7 @@ use denote.Enum.Declared.{tagOf}
 use types.Run.{OneOf}
 use Rattle.awhile.proofs.Node.{the-type}
 use Rattle.reader.proofs.Index.{Parts}
-use Rattle.analysis.proofs.Nodes.{node-parts}
+use Rattle.reader.proofs.NodeKinds.{node-parts}
 use Rattle.labels.specs.Sheet.{recordLength}
 use Rattle.analysis.proofs.SheetNodes.{unnamedRecord, unrecorded}
 use borrow.Author.Needs.{needs}

@@ -13,8 +13,7 @@ use Rattle.awhile.specs.declared.Node.{Node}
 use Rattle.awhile.specs.declared.Node.the-variants.{While}
 use Rattle.reader.specs.Index.{truthIn}
 use Rattle.reader.proofs.Index.{Parts}
-use Rattle.analysis.proofs.Nodes.{node-parts}
-use Rattle.analysis.proofs.CommandCases.{unnamed-single}
+use Rattle.reader.proofs.NodeKinds.{node-parts, unnamed-single}
 use Rattle.masks.specs.Hardening.{Origin, maskedCondition}
 use Rattle.masking.specs.InMemory.{hardenedIn, flagUpdate, testIn, sideIn, ifIn, loopIn, whileIn}
 use Rattle.copier.specs.Sizes.{bytesOf}

@@ -9,8 +9,7 @@ use Rattle.awhile.specs.declared.Node.{Node}
 use Rattle.awhile.specs.declared.Node.the-variants.{Skip}
 use Rattle.awhile.proofs.Node.{the-type}
 use Rattle.reader.proofs.Index.{Parts}
-use Rattle.analysis.proofs.CommandCases.{unnamedSingle, unnamed-skip}
-use Rattle.analysis.proofs.Nodes.{node-parts}
+use Rattle.reader.proofs.NodeKinds.{node-parts, unnamedSingle, unnamed-skip}
 use Rattle.hardener.proofs.CommandWrites.{own-decision}
 use Rattle.hardener.proofs.PartWrites.{skip-asks, skip-wrote, assign-asks, assign-wrote, read-asks, read-wrote, write-asks, write-wrote}
 use borrow.Author.Needs.{needs}

@@ -4,8 +4,7 @@ use denote.Ref.{now}
 use Rattle.bytes_le.proofs.Numbers.{Below, slice-bytes}
 use Rattle.awhile.specs.declared.Node.{Node}
 use Rattle.reader.proofs.Index.{Parts}
-use Rattle.analysis.proofs.Nodes.{node-parts}
-use Rattle.analysis.proofs.CommandCases.{unnamed-single}
+use Rattle.reader.proofs.NodeKinds.{node-parts, unnamed-single}
 use Rattle.hardener.proofs.CommandWrites.{own-decision}
 use Rattle.hardener.proofs.PartSizes.{sequence-first, sequence-second, sequence-asks, sequence-sized}
 use Rattle.hardener.proofs.PartSizes.{if-condition, if-first, if-second, if-asks, if-sized, while-condition, while-body, while-asks, while-sized}

@@ -5,8 +5,7 @@ use Rattle.bytes_le.proofs.Numbers.{slice-bytes}
 use Rattle.awhile.specs.Nodes.{sortOf}
 use Rattle.awhile.specs.declared.Node.{Node}
 use Rattle.reader.proofs.Index.{Parts}
-use Rattle.analysis.proofs.Nodes.{node-parts}
-use Rattle.analysis.proofs.CommandCases.{unnamed-skip}
+use Rattle.reader.proofs.NodeKinds.{node-parts, unnamed-skip}
 use Rattle.hardener.proofs.CommandWrites.{own-decision}
 use Rattle.hardener.proofs.PartSizes.{skip-sized, assign-value, assign-asks, assign-sized, read-place, read-asks, read-sized}
 use Rattle.hardener.proofs.PartSizes.{write-place, write-value, write-asks, write-sized}

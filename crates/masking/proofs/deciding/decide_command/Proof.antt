@@ -6,7 +6,7 @@ use Rattle.bytes_le.proofs.Numbers.{Below, slice-bytes}
 use Rattle.awhile.specs.Nodes.{sortOf}
 use Rattle.awhile.specs.declared.Node.{Node}
 use Rattle.reader.proofs.Index.{Parts, indexed-note}
-use Rattle.analysis.proofs.Nodes.{node-parts}
+use Rattle.reader.proofs.NodeKinds.{node-parts}
 use Rattle.masking.proofs.DecidedBytes.{child-noted, digits-fit, if-digits, while-digits, read-digits, write-digits, unnamed-digits}
 use borrow.Author.Needs.{needs}
 use Rattle.masking.proofs.deciding.decide_command.Statement.{statement}
