@@ -3,24 +3,17 @@
 use Prim.Native.Nat.{ℕ, suc, _+_, _*_, _≤_, _<_, max}
 use native.Mathlib.Omega.{arith}
 use mathlib.Core.List.{List}
-use mathlib.Core.Path.{_≡_, sym, subst, _∙_}
-use Rattle.bytes_le.proofs.Numbers.{Below}
+use mathlib.Core.Path.{_≡_, subst}
 use Rattle.awhile.specs.Language.{AExp, BExp}
 use Rattle.awhile.specs.Encoding.{nodesOfA, nodesOfB}
 use Rattle.awhile.specs.Tables.{maxNodes}
-use Rattle.awhile.specs.declared.Node.{Node}
-use Rattle.reader.specs.Index.{Indexed, nodeIn, numericIn, truthIn, OfSort}
+use Rattle.reader.specs.Index.{Indexed, numericIn, truthIn, OfSort}
 use Rattle.awhile.specs.declared.Sort.{Sort}
 use Rattle.awhile.specs.declared.Sort.the-variants.{Numeric, Truth}
-use Rattle.reader.proofs.Index.{Child, Parts, indexed-parts, child-of-sort}
+use Rattle.reader.proofs.Index.{Child, child-of-sort}
 use Rattle.copier.specs.Sizes.{bytesOfA, bytesOfB}
 use Rattle.copier.specs.Written.{Room}
 use Rattle.copier.proofs.ExpressionWrites.{room-A, room-B}
-
--- what a node of a wanted sort has for parts, by the node that was read
-pub node-parts : {table index : List ℕ} {s : Sort} {n : ℕ} → OfSort table index s n → Below 256 table → {a m : Node} → a ≡ nodeIn table n → a ≡ m
-    → Parts table n m
-node-parts {table} {index} {n = n} asked bytes {m = m} is e = indexed-parts table index bytes (asked .indexed) n (asked .inside) m (sym is ∙ e)
 
 module _ {table index : List ℕ} {t n : ℕ} (is : 3 * n ≡ t) (indexed : Indexed table index) where
   -- one child

@@ -16,8 +16,8 @@ use Rattle.reader.specs.declared.Read.{Read}
 use Rattle.reader.specs.declared.Read.the-variants.{Accepted}
 use Rattle.awhile.specs.declared.Refusal.{Refusal}
 use Rattle.awhile.specs.declared.Refusal.the-variants.{TooManyNodes, NoFreeVariable}
-use Rattle.analysis.specs.Conditions.{Sheetable}
 use Rattle.masks.specs.Hardening.{hardenedTable, maxHardened}
+use Rattle.masking.specs.Deciding.{Decides}
 use Rattle.hardener.specs.Output.{Measurable, Measured, Writable}
 use Rattle.copier.specs.declared.Size.{Size}
 use Rattle.entries.specs.Answers.{answered, refusalNumbers}
@@ -67,20 +67,22 @@ module _ {s index : List ℕ} {v a n : ℕ} {l : Labelling} (ready : HardenReady
   no-variable-writes h k = refused-writes NoFreeVariable (no-variable h k)
 
   -- ---- what measuring and writing require
-  pub measurable : {vs arrs : List ℕ} → Below 256 s → Sheetable s index vs arrs → HasHardened s → Measurable s index vs arrs a (n - 1)
-  measurable bytes noted has =
+  pub measurable : {ds : List ℕ} → Below 256 s → Decides s ds → HasHardened s → Measurable s index ds a (n - 1)
+  measurable bytes decided has =
       record {
-        noted = noted;
+        indexed = ready .indexed;
+        decided = decided;
         isArrays = ready .isArrays;
         isRoot = omega (arith, ready .isNodes, indexed-some s index bytes (ready .indexed));
         few = has .few;
       }
 
-  pub writable : {vs arrs out : List ℕ} {root : ℕ} {size : Size} → Measurable s index vs arrs a root → Measured s size → size .bytes ≤ length out
-      → Writable s index vs arrs v a root (size .nodes) l out
+  pub writable : {ds out : List ℕ} {root : ℕ} {size : Size} → Measurable s index ds a root → Measured s size → size .bytes ≤ length out
+      → Writable s index ds v a root (size .nodes) l out
   writable m measured h =
       record {
-        noted = m .noted;
+        indexed = m .indexed;
+        decided = m .decided;
         numbers = record { isVariables = ready .isVariables; isArrays = ready .isArrays; isRoot = m .isRoot; isLabels = ready .isLabels };
         isNodes = measured .nodesCounted;
         few = measured .few;

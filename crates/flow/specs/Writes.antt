@@ -35,3 +35,11 @@ pub record HardenReady (table index : List ℕ) (variables arrays nodes : ℕ) (
 pub record HasHardened (table : List ℕ) : Type 0 where
   pub few : nodesIn table ≤ maxHardened
   pub free : tableOf table .variables < maxVariables
+
+-- what deciding on a table's program requires: its index and its numbers, no more nodes than are hardened, and room for a byte for each
+pub record DecideReady (table index : List ℕ) (nodes : ℕ) (labels : Labelling) (decisions : List ℕ) : Type 0 where
+  pub indexed : Indexed table index
+  pub isNodes : nodes ≡ nodesIn table
+  pub isLabels : labels ≡ tableOf table .labels
+  pub few : nodesIn table ≤ maxHardened
+  pub room : nodesIn table ≤ length decisions

@@ -8,13 +8,15 @@ use awhile::MAX_VARIABLES;
 use awhile::Refusal;
 use hardener::tables::measure_hardened;
 use hardener::tables::write_hardened;
+use masking::deciding::decide_all;
 use reader::Read;
 use reader::tables::read;
 ghost use Rattle.awhile.specs.Encoding.{tableBytes};
 ghost use Rattle.reader.specs.Index.{tableOf};
 ghost use Rattle.awhile.specs.Refusals.{got};
 ghost use Rattle.masks.specs.Hardening.{hardenedTable};
-ghost use Rattle.flow.specs.Writes.{HardenReady, HasHardened};
+ghost use Rattle.masking.specs.Deciding.{Decides};
+ghost use Rattle.flow.specs.Writes.{HardenReady, HasHardened, DecideReady};
 ghost use Rattle.entries.specs.Promises.{Hardens};
 ghost use Rattle.flow.specs.Writes.{Writes};
 ghost use Rattle.entries.specs.Writing.{writing, hardenedIn};
@@ -22,7 +24,38 @@ ghost use Rattle.entries.specs.Writing.{writing, hardenedIn};
 // The most nodes that are hardened: eight come out per node at most, and a table has no more than MAX_NODES.
 const MAX_HARDENED: usize = 512;
 
-// Labels a table that was read, and writes its hardened form, if there is room for it.
+// Labels a table that was read, and decides what is masked in it. The notes of the analysis are needed only here.
+fn decide_program(
+    table: &[u8],
+    index: &[u16],
+    nodes: usize,
+    labels: Labelling,
+    decisions: &mut [u8],
+)
+    requires { ⌜ DecideReady (now table) (now index) nodes labels (now decisions) ⌝ }
+    ensures { λ _. ⌜ Decides (now (table .entry)) (now (decisions .exit)) ⌝ }
+{
+    let mut variable_notes = [0u64; MAX_HARDENED];
+    let mut array_notes = [0u32; MAX_HARDENED];
+    label_program(
+        table,
+        index,
+        &mut variable_notes,
+        &mut array_notes,
+        nodes,
+        labels,
+    );
+    decide_all(
+        table,
+        index,
+        &variable_notes,
+        &array_notes,
+        nodes,
+        &mut *decisions,
+    );
+}
+
+// Decides on a table that was read, and writes its hardened form, if there is room for it.
 fn write_masked(
     table: &[u8],
     index: &[u16],
@@ -37,26 +70,17 @@ fn write_masked(
     ensures { λ r. ⌜ Writes (writing (got (tableBytes (hardenedTable (tableOf (now (table .entry)))))) (now (out .entry)) (now (answer .entry)))
         r (now (out .exit)) (now (answer .exit)) ⌝ }
 {
-    let mut variable_notes = [0u64; MAX_HARDENED];
-    let mut array_notes = [0u32; MAX_HARDENED];
-    label_program(
-        table,
-        index,
-        &mut variable_notes,
-        &mut array_notes,
-        nodes,
-        labels,
-    );
+    let mut decisions = [0u8; MAX_HARDENED];
+    decide_program(table, index, nodes, labels, &mut decisions);
     let root = nodes - 1;
-    let size = measure_hardened(table, index, &variable_notes, &array_notes, arrays, root);
+    let size = measure_hardened(table, index, &decisions, arrays, root);
     if out.len() < size.bytes {
         return answer_refusal(&mut *answer, Refusal::ShortBuffer);
     }
     write_hardened(
         table,
         index,
-        &variable_notes,
-        &array_notes,
+        &decisions,
         variables,
         arrays,
         labels,

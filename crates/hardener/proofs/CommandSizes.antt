@@ -7,8 +7,7 @@ use mathlib.Core.Path.{_≡_, refl}
 use Rattle.awhile.specs.Language.{AExp, BExp, Com, skip, assign, sequence, if, while, read, write}
 use Rattle.awhile.specs.Encoding.{nodesOfA, nodesOfB, nodesOf}
 use Rattle.awhile.specs.Tables.{maxNodes}
-use Rattle.labels.specs.Annotation.{Entry}
-use Rattle.masks.specs.Decisions.{Decision, decision, decide}
+use Rattle.masks.specs.Decisions.{Decision, decision}
 use Rattle.masks.specs.Hardening.{Origin, maskedCondition, zeroIfGuessing, maskedIndex, flagIfTrue, flagIfFalse, maskValueOf, harden}
 use Rattle.masking.specs.InMemory.{hardenedIn, flagUpdate, testIn, sideIn, ifIn, loopIn, whileIn}
 use Rattle.copier.specs.Sizes.{bytesOfA, bytesOfB, bytesOf, Sized, Few}
@@ -76,11 +75,11 @@ module _ (f : ℕ) where
   same-read x a n mask false i s = record { nodesSame = omega (arith, s .nodesCounted); bytesSame = omega (arith, s .bytesCounted) }
 
   -- an if and a loop, from their condition and their sides
-  module _ (table vs arrs : List ℕ) (b : ℕ) (mask : Bool) {s : Size} (z : Sized (nodesOfB (testIn table vs arrs f b mask)) (bytesOfB (testIn table vs arrs f b mask)) s) where
-    pub same-if : (o : Origin) (c d : ℕ) {u w : Size} → Sized (nodesOf (hardenedIn table vs arrs f c)) (bytesOf (hardenedIn table vs arrs f c)) u
-        → Sized (nodesOf (hardenedIn table vs arrs f d)) (bytesOf (hardenedIn table vs arrs f d)) w
-        → SameSize (3 * s .nodes + u .nodes + w .nodes + 11) (3 * s .bytes + u .bytes + w .bytes + 90) (nodesOf (ifIn table vs arrs f b mask o c d))
-        (bytesOf (ifIn table vs arrs f b mask o c d))
+  module _ (table ds : List ℕ) (b : ℕ) (mask : Bool) {s : Size} (z : Sized (nodesOfB (testIn table f b mask)) (bytesOfB (testIn table f b mask)) s) where
+    pub same-if : (o : Origin) (c d : ℕ) {u w : Size} → Sized (nodesOf (hardenedIn table ds f c)) (bytesOf (hardenedIn table ds f c)) u
+        → Sized (nodesOf (hardenedIn table ds f d)) (bytesOf (hardenedIn table ds f d)) w
+        → SameSize (3 * s .nodes + u .nodes + w .nodes + 11) (3 * s .bytes + u .bytes + w .bytes + 90) (nodesOf (ifIn table ds f b mask o c d))
+        (bytesOf (ifIn table ds f b mask o c d))
     unfolding ifIn sideIn flagUpdate flagIfTrue flagIfFalse nodesOf bytesOf nodesOfA bytesOfA
     same-if o c d x y =
         record {
@@ -88,9 +87,9 @@ module _ (f : ℕ) where
           bytesSame = omega (arith, z .bytesCounted, x .bytesCounted, y .bytesCounted);
         }
 
-    pub same-while : (o : Origin) (c : ℕ) {u : Size} → Sized (nodesOf (hardenedIn table vs arrs f c)) (bytesOf (hardenedIn table vs arrs f c)) u
-        → SameSize (3 * s .nodes + u .nodes + 11) (3 * s .bytes + u .bytes + 88) (nodesOf (whileIn table vs arrs f b mask o c))
-        (bytesOf (whileIn table vs arrs f b mask o c))
+    pub same-while : (o : Origin) (c : ℕ) {u : Size} → Sized (nodesOf (hardenedIn table ds f c)) (bytesOf (hardenedIn table ds f c)) u
+        → SameSize (3 * s .nodes + u .nodes + 11) (3 * s .bytes + u .bytes + 88) (nodesOf (whileIn table ds f b mask o c))
+        (bytesOf (whileIn table ds f b mask o c))
     unfolding whileIn loopIn sideIn flagUpdate flagIfTrue flagIfFalse nodesOf bytesOf nodesOfA bytesOfA
     same-while o c x =
         record { nodesSame = omega (arith, z .nodesCounted, x .nodesCounted); bytesSame = omega (arith, z .bytesCounted, x .bytesCounted) }
@@ -146,14 +145,3 @@ module _ (f g : ℕ) where
   any-flag (write n a i e) =
       let p = same-index (n .maskIndex) i in
       record { nodesSame = omega (arith, p .nodesSame); bytesSame = omega (arith, p .bytesSame) }
-
--- decisions change no node
-pub decide-nodes : (c : Com Entry) → nodesOf (decide c) ≡ nodesOf c
-unfolding decide nodesOf
-decide-nodes (skip e) = refl
-decide-nodes (assign e x a) = refl
-decide-nodes (sequence e c d) = omega (arith, decide-nodes c, decide-nodes d)
-decide-nodes (if e b c d) = omega (arith, decide-nodes c, decide-nodes d)
-decide-nodes (while e b c) = omega (arith, decide-nodes c)
-decide-nodes (read e x a i) = refl
-decide-nodes (write e a i v) = refl

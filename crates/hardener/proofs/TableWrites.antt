@@ -2,33 +2,29 @@
 use Prim.Native.Nat.{ℕ, _+_, _-_, _*_, _^_, _≤_, _<_}
 use native.Mathlib.Numerals.{add-one}
 use native.Mathlib.Omega.{arith}
-use mathlib.Core.Bool.{Bool, false, _||_}
 use mathlib.Core.List.{List, [], _∷_, _++_, flatMap, append-nil}
-use mathlib.Core.Path.{_≡_, refl, sym, ap, _∙_}
+use mathlib.Core.Path.{_≡_, refl, sym, ap, subst, _∙_}
 use lib.ListN.{length, getD, take, length-append, length-take, length-drop}
 use lib.Pow.{pow-mono}
 use lib.Seq.{sets, length-sets, take-suc, length-take-le}
 use Rattle.bytes_le.specs.Numbers.{le, leAt}
 use Rattle.bytes_le.proofs.Numbers.{Below, length-le}
 use Rattle.bytes_le.proofs.Stores.{sets-append}
-use Rattle.awhile.specs.Language.{Com, skip, assign, sequence, if, while, read, write, mapNotes}
+use Rattle.awhile.specs.Language.{Com}
 use Rattle.awhile.specs.Encoding.{nodesOf, countBytes, headerBytes, labelsBytes, tableBytes, writeC}
-use Rattle.reader.specs.Index.{tableOf, nodesIn, nodeIn, commandIn}
+use Rattle.reader.specs.Index.{Indexed, tableOf, nodesIn, nodeIn, commandIn}
 use Rattle.awhile.specs.Nodes.{sortOf, nodeBytes}
 use Rattle.awhile.specs.Tables.{Table, accepted, readTable, maxVariables, maxArrays, maxNodes}
-use Rattle.awhile.specs.Trees.{rootOf}
 use Rattle.awhile.specs.declared.Labelling.{Labelling}
 use Rattle.reader.proofs.Index.{indexed-root, indexed-root-sort, indexed-well-formed}
 use Rattle.awhile.proofs.Lists.{flatMap-append}
-use Rattle.labels.specs.Analysis.{analyse}
-use Rattle.labels.specs.Annotation.{annotate}
-use Rattle.labels.specs.Labellings.{labelOfB}
-use Rattle.analysis.specs.Notes.{noteIn, Noted}
-use Rattle.labels.specs.Sheet.{annotated}
 use Rattle.awhile.proofs.Counts.{count-at}
-use Rattle.masks.specs.Decisions.{decide}
-use Rattle.masks.specs.Hardening.{harden, hardenedProgram, tableOfHardened, hardenedTable}
-use Rattle.masking.specs.InMemory.{annotatedIn, hardenedIn, Hardenable}
+use Rattle.masks.specs.Decisions.{Decision}
+use Rattle.masks.specs.Growth.{MasksLargeConditions}
+use Rattle.masks.specs.Hardening.{hardenedProgram, tableOfHardened, hardenedTable, maxHardened}
+use Rattle.masking.specs.Deciding.{decisionIn, decidedIn, Decides}
+use Rattle.masking.specs.InMemory.{hardenedIn, Hardenable}
+use Rattle.masking.proofs.DecidedProgram.{program-hardened, program-large}
 use Rattle.hardener.specs.Output.{Measurable, Measured, Writable, WroteTable}
 use Rattle.copier.specs.Sizes.{bytesOf, Sized}
 use Rattle.copier.specs.Written.{Room, Wrote}
@@ -39,8 +35,8 @@ use Rattle.copier.proofs.Lengths.{counted-C}
 use Rattle.copier.proofs.Parts.{sets-rest}
 use Rattle.copier.proofs.Writers.{sizeIs, restOf, withRest}
 use Rattle.awhile.proofs.Size.{root-size}
-use Rattle.masks.proofs.Growth.{hardened-size, nodesOf-mapped, decide-large}
-use Rattle.hardener.proofs.CommandSizes.{any-flag, decide-nodes}
+use Rattle.masks.proofs.Growth.{hardened-size, nodesOf-mapped}
+use Rattle.hardener.proofs.CommandSizes.{any-flag}
 
 -- ---- array counts
 length-counts : (cs : List ℕ) → length (flatMap countBytes cs) ≡ 6 * length cs
@@ -86,30 +82,6 @@ counts-step s bytes reads a r less is l m rest room done stored =
     ∙ sym (sets-append (flatMap countBytes (take a cs)) (countBytes (getD cs a 0)) l 20)
     ∙ ap (sets l 20) (counts-next cs a less)
 
--- ---- the notes of the analysis are what the program is annotated with
-module _ (vs arrs : List ℕ) where
-  pub annotate-noted : (c : Com ℕ) (x : Bool) (l : Labelling) → Noted vs arrs (annotate c x l) → annotate c x l ≡ mapNotes (noteIn vs arrs) c
-  unfolding annotate mapNotes
-  annotate-noted (skip n) x l h = ap skip (sym h)
-  annotate-noted (assign n v e) x l h = ap (λ k. assign k v e) (sym h)
-  annotate-noted (sequence n c d) x l h =
-      let first = annotate-noted c x l (h .1) in
-      let second = annotate-noted d x (analyse c x l) (h .2) in
-      let note = h .0 in
-      cc
-  annotate-noted (if n b c d) x l h =
-      let first = annotate-noted c (labelOfB l b || x) l (h .1) in
-      let second = annotate-noted d (labelOfB l b || x) l (h .2) in
-      let note = h .0 in
-      cc
-  annotate-noted (while n b c) x l h =
-      let m = analyse (while n b c) x l in
-      let body = annotate-noted c (labelOfB m b || x) m (h .1) in
-      let note = h .0 in
-      cc
-  annotate-noted (read n v a i) x l h = ap (λ k. read k v a i) (sym h)
-  annotate-noted (write n a i e) x l h = ap (λ k. write k a i e) (sym h)
-
 -- ---- the whole table
 length-header : (v a n : ℕ) → length (headerBytes v a n) ≡ 10
 unfolding headerBytes
@@ -150,81 +122,97 @@ table-length t =
       counted-C 0 p .bytesAre,
     ))
 
-module _ {table index vs arrs : List ℕ} {v a root nodes : ℕ} {labels : Labelling} {out : List ℕ} (bytes : Below 256 table)
-    (w : Writable table index vs arrs v a root nodes labels out) where
+-- ---- the root, by the decisions of its program
+module _ {table index ds : List ℕ} (bytes : Below 256 table) (indexed : Indexed table index) (decided : Decides table ds) (root : ℕ) (isRoot : root + 1 ≡ nodesIn table) where
+  is-last : nodesIn table - 1 ≡ root
+  is-last = omega arith
+
   -- what comes out for the root is the hardened program
-  pub root-hardened : hardenedIn table vs arrs v root ≡ hardenedProgram (tableOf table)
-  unfolding hardenedIn annotatedIn hardenedProgram annotated
-  root-hardened =
-      let t = tableOf table in
-      let last : root ≡ nodesIn table - 1 = omega (arith, w .numbers .isRoot) in
-      let noted = annotate-noted vs arrs (rootOf t) false (t .labels) (w .noted .notes) in
-      let tree : rootOf t ≡ commandIn table root = indexed-root table index bytes (w .noted .indexed) ∙ ap (commandIn table) (sym last) in
-      ap (λ f. harden f (decide (mapNotes (noteIn vs arrs) (commandIn table root)))) (w .numbers .isVariables)
-      ∙ ap (λ c. harden (t .variables) (decide c)) (ap (mapNotes (noteIn vs arrs)) (sym tree) ∙ sym noted)
+  root-hardened : hardenedIn table ds (tableOf table .variables) root ≡ hardenedProgram (tableOf table)
+  root-hardened = ap (hardenedIn table ds (tableOf table .variables)) (sym is-last) ∙ program-hardened decided
+
+  root-hardenable : Hardenable table index ds root
+  root-hardenable =
+      record {
+        node = record {
+          indexed = indexed;
+          inside = omega arith;
+          isSort = ap (λ n. sortOf (nodeIn table n)) (sym is-last) ∙ indexed-root-sort table index bytes indexed;
+        };
+        room = decided .room;
+      }
+
+  -- at most 8 nodes come out per node put in
+  root-few : nodesIn table ≤ maxHardened → nodesOf (hardenedIn table ds 0 root) ≤ maxNodes
+  unfolding hardenedIn decidedIn nodesIn
+  root-few few =
+      let d : Com Decision = decidedIn table ds root in
+      omega (
+        arith,
+        hardened-size 0 d (subst (λ n. MasksLargeConditions (decidedIn table ds n)) is-last (program-large decided)),
+        nodesOf-mapped (decisionIn ds) (commandIn table root),
+        ap nodesOf (indexed-root table index bytes indexed ∙ ap (commandIn table) is-last),
+        root-size (tableOf table) (indexed-well-formed table index bytes indexed),
+      )
+
+module _ {table index ds : List ℕ} {v a root nodes : ℕ} {labels : Labelling} {out : List ℕ} (bytes : Below 256 table)
+    (w : Writable table index ds v a root nodes labels out) where
+  written-root : hardenedIn table ds v root ≡ hardenedProgram (tableOf table)
+  written-root = ap (λ f. hardenedIn table ds f root) (w .numbers .isVariables) ∙ root-hardened bytes (w .indexed) (w .decided) root (w .numbers .isRoot)
 
   -- the bytes of the hardened table
   pub whole-bytes : tableBytes (hardenedTable (tableOf table))
-      ≡ headerBytes (v + 1) a nodes ++ (labelsBytes labels ++ (flatMap countBytes (tableOf table .counts) ++ flatMap nodeBytes (writeC 0 (hardenedIn table vs arrs v root))))
+      ≡ headerBytes (v + 1) a nodes ++ (labelsBytes labels ++ (flatMap countBytes (tableOf table .counts) ++ flatMap nodeBytes (writeC 0 (hardenedIn table ds v root))))
   unfolding tableBytes hardenedTable tableOfHardened
   whole-bytes =
       let t = tableOf table in
       let p = hardenedProgram t in
       let n : nodes ≡ length (writeC 0 p) = w .isNodes ∙ sym (counted-C 0 p .nodesAre) in
-      rw (root-hardened, w .numbers .isVariables, w .numbers .isArrays, w .numbers .isLabels, n)
+      rw (written-root, w .numbers .isVariables, w .numbers .isArrays, w .numbers .isLabels, n)
 
   -- and how many
-  pub whole-length : length (tableBytes (hardenedTable (tableOf table))) ≡ 20 + 6 * a + bytesOf (hardenedIn table vs arrs v root)
-  whole-length = omega (arith, table-length (tableOf table), w .numbers .isArrays, ap bytesOf root-hardened)
+  pub whole-length : length (tableBytes (hardenedTable (tableOf table))) ≡ 20 + 6 * a + bytesOf (hardenedIn table ds v root)
+  whole-length = omega (arith, table-length (tableOf table), w .numbers .isArrays, ap bytesOf written-root)
 
-  pub whole-fits : 20 + 6 * a + bytesOf (hardenedIn table vs arrs v root) ≤ length out
+  pub whole-fits : 20 + 6 * a + bytesOf (hardenedIn table ds v root) ≤ length out
   whole-fits = omega (arith, whole-length, w .fits)
 
   -- arrays and masks are within the limits
   pub few-arrays : a ≤ maxArrays
-  few-arrays = omega (arith, w .numbers .isArrays, indexed-well-formed table index bytes (w .noted .indexed) .declared .arraysFit)
+  few-arrays = omega (arith, w .numbers .isArrays, indexed-well-formed table index bytes (w .indexed) .declared .arraysFit)
 
   pub few-variables : v ≤ maxVariables
-  few-variables = omega (arith, w .numbers .isVariables, indexed-well-formed table index bytes (w .noted .indexed) .declared .variablesFit)
+  few-variables = omega (arith, w .numbers .isVariables, indexed-well-formed table index bytes (w .indexed) .declared .variablesFit)
 
   pub mask-fits : labels .variables < 2 ^ 32
   mask-fits =
-      let d = indexed-well-formed table index bytes (w .noted .indexed) .declared in
+      let d = indexed-well-formed table index bytes (w .indexed) .declared in
       let limit : 2 ^ tableOf table .variables ≤ 2 ^ 32 = pow-mono (d .variablesFit) in
       let mask : labels .variables ≡ tableOf table .labels .variables = ap (λ l. l .variables) (w .numbers .isLabels) in
       omega (arith, d .variableMaskFits)
 
-  pub root-hardenable : Hardenable table index vs arrs root
-  root-hardenable =
-      let last : nodesIn table - 1 ≡ root = omega (arith, w .numbers .isRoot) in
-      record {
-        node = record {
-          indexed = w .noted .indexed;
-          inside = omega (arith, w .numbers .isRoot);
-          isSort = ap (λ n. sortOf (nodeIn table n)) (sym last) ∙ indexed-root-sort table index bytes (w .noted .indexed);
-        };
-        room = w .noted .room;
-      }
+  pub written-hardenable : Hardenable table index ds root
+  written-hardenable = root-hardenable bytes (w .indexed) (w .decided) root (w .numbers .isRoot)
 
   -- room for the nodes, behind the declarations
   pub nodes-room : (m : List ℕ) → length m ≡ length out
-      → Room 0 (nodesOf (hardenedIn table vs arrs v root)) (bytesOf (hardenedIn table vs arrs v root)) (restOf (20 + 6 * a) m)
+      → Room 0 (nodesOf (hardenedIn table ds v root)) (bytesOf (hardenedIn table ds v root)) (restOf (20 + 6 * a) m)
   nodes-room m same =
       record {
-        numbers = omega (arith, w .few, w .isNodes, ap nodesOf root-hardened);
+        numbers = omega (arith, w .few, w .isNodes, ap nodesOf written-root);
         fits = simp (length-take, length-drop) (omega (arith, whole-fits));
       }
 
   -- header, labels, arrays and nodes make the table
   pub whole-written : {l m k rest : List ℕ} {s : Size} → l ≡ sets out 0 (headerBytes (v + 1) a nodes) → m ≡ sets l 10 (labelsBytes labels)
-      → k ≡ sets m 20 (flatMap countBytes (tableOf table .counts)) → Wrote (writeC 0 (hardenedIn table vs arrs v root)) (restOf (20 + 6 * a) k) rest s
+      → k ≡ sets m 20 (flatMap countBytes (tableOf table .counts)) → Wrote (writeC 0 (hardenedIn table ds v root)) (restOf (20 + 6 * a) k) rest s
       → WroteTable table out (withRest (20 + 6 * a) k rest) (20 + 6 * a + s .bytes)
   whole-written {l} {m} {k} {rest} {s} p q r n =
       let h = headerBytes (v + 1) a nodes in
       let b = labelsBytes labels in
       let c = flatMap countBytes (tableOf table .counts) in
-      let ns = flatMap nodeBytes (writeC 0 (hardenedIn table vs arrs v root)) in
-      let counted = counted-C 0 (hardenedIn table vs arrs v root) .bytesAre in
+      let ns = flatMap nodeBytes (writeC 0 (hardenedIn table ds v root)) in
+      let counted = counted-C 0 (hardenedIn table ds v root) .bytesAre in
       let same : length k ≡ length out =
       ap length r ∙ length-sets m 20 c ∙ ap length q ∙ length-sets l 10 b ∙ ap length p ∙ length-sets out 0 h in
       let there : 20 + 6 * a + length ns ≤ length k = omega (arith, whole-fits) in
@@ -239,59 +227,24 @@ module _ {table index vs arrs : List ℕ} {v a root nodes : ℕ} {labels : Label
       }
 
 -- ---- measuring the hardened table
-module _ {table index vs arrs : List ℕ} {a root : ℕ} (bytes : Below 256 table) (m : Measurable table index vs arrs a root) where
-  measured-root : rootOf (tableOf table) ≡ commandIn table root
-  measured-root =
-      let last : nodesIn table - 1 ≡ root = omega (arith, m .isRoot) in
-      indexed-root table index bytes (m .noted .indexed) ∙ ap (commandIn table) last
+module _ {table index ds : List ℕ} {a root : ℕ} (bytes : Below 256 table) (m : Measurable table index ds a root) where
+  pub measured-hardenable : Hardenable table index ds root
+  measured-hardenable = root-hardenable bytes (m .indexed) (m .decided) root (m .isRoot)
 
-  -- the notes annotate the program
-  measured-notes : annotatedIn table vs arrs root ≡ annotated (tableOf table)
-  unfolding annotatedIn annotated
-  measured-notes =
-      ap (mapNotes (noteIn vs arrs)) (sym measured-root)
-      ∙ sym (annotate-noted vs arrs (rootOf (tableOf table)) false (tableOf table .labels) (m .noted .notes))
+  pub measured-few : nodesOf (hardenedIn table ds 0 root) ≤ maxNodes
+  measured-few = root-few bytes (m .indexed) (m .decided) root (m .isRoot) (m .few)
 
-  pub measured-hardenable : Hardenable table index vs arrs root
-  measured-hardenable =
-      let last : nodesIn table - 1 ≡ root = omega (arith, m .isRoot) in
-      record {
-        node =
-            record {
-              indexed = m .noted .indexed;
-              inside = omega (arith, m .isRoot);
-              isSort = ap (λ n. sortOf (nodeIn table n)) (sym last) ∙ indexed-root-sort table index bytes (m .noted .indexed);
-            };
-        room = m .noted .room;
-      }
-
-  -- at most 8 nodes come out per node put in
-  pub measured-few : nodesOf (hardenedIn table vs arrs 0 root) ≤ maxNodes
-  unfolding hardenedIn annotatedIn nodesIn
-  measured-few =
-      let c = mapNotes (noteIn vs arrs) (commandIn table root) in
-      omega (
-        arith,
-        hardened-size 0 (decide c) (decide-large c),
-        decide-nodes c,
-        nodesOf-mapped (noteIn vs arrs) (commandIn table root),
-        ap nodesOf measured-root,
-        root-size (tableOf table) (indexed-well-formed table index bytes (m .noted .indexed)),
-        m .few,
-      )
-
-  pub measured-sized : {s : Size} → Sized (nodesOf (hardenedIn table vs arrs 0 root)) (bytesOf (hardenedIn table vs arrs 0 root)) s
+  pub measured-sized : {s : Size} → Sized (nodesOf (hardenedIn table ds 0 root)) (bytesOf (hardenedIn table ds 0 root)) s
       → Measured table (sizeIs (s .nodes) (20 + 6 * a + s .bytes))
-  unfolding hardenedIn hardenedProgram
+  unfolding hardenedIn
   measured-sized s =
-      let same = any-flag 0 (tableOf table .variables) (decide (annotated (tableOf table))) in
-      let notes = ap (λ c. nodesOf (harden 0 (decide c))) measured-notes in
-      let lengths = ap (λ c. bytesOf (harden 0 (decide c))) measured-notes in
+      let same = any-flag 0 (tableOf table .variables) (decidedIn table ds root) in
+      let whole = root-hardened bytes (m .indexed) (m .decided) root (m .isRoot) in
       record {
-        nodesCounted = omega (arith, s .nodesCounted, same .nodesSame);
-        bytesCounted = omega (arith, s .bytesCounted, same .bytesSame, table-length (tableOf table), m .isArrays);
+        nodesCounted = omega (arith, s .nodesCounted, same .nodesSame, ap nodesOf whole);
+        bytesCounted = omega (arith, s .bytesCounted, same .bytesSame, ap bytesOf whole, table-length (tableOf table), m .isArrays);
         few = omega (arith, s .nodesCounted, measured-few);
       }
 
   pub measured-arrays : a ≤ maxArrays
-  measured-arrays = omega (arith, m .isArrays, indexed-well-formed table index bytes (m .noted .indexed) .declared .arraysFit)
+  measured-arrays = omega (arith, m .isArrays, indexed-well-formed table index bytes (m .indexed) .declared .arraysFit)

@@ -1,15 +1,15 @@
--- What writing a hardened table requires: the table that was read and its numbers, the notes that the analysis left, and room.
+-- What writing a hardened table requires: the table that was read and its numbers, the decisions on its program, and room.
 use Prim.Native.Nat.{ℕ, _+_, _≤_}
 use mathlib.Core.List.{List}
 use mathlib.Core.Path.{_≡_}
 use lib.ListN.{length}
 use lib.Seq.{sets}
 use Rattle.awhile.specs.Encoding.{nodesOf, tableBytes}
-use Rattle.reader.specs.Index.{tableOf, nodesIn}
+use Rattle.reader.specs.Index.{Indexed, tableOf, nodesIn}
 use Rattle.awhile.specs.Tables.{maxNodes}
 use Rattle.awhile.specs.declared.Labelling.{Labelling}
-use Rattle.analysis.specs.Conditions.{Sheetable}
 use Rattle.masks.specs.Hardening.{hardenedProgram, hardenedTable, maxHardened}
+use Rattle.masking.specs.Deciding.{Decides}
 use Rattle.copier.specs.declared.Size.{Size}
 
 -- the numbers of a table that was read
@@ -19,8 +19,9 @@ pub record Numbers (table : List ℕ) (variables arrays root : ℕ) (labels : La
   pub isRoot : root + 1 ≡ nodesIn table
   pub isLabels : labels ≡ tableOf table .labels
 
-pub record Writable (table index vs arrs : List ℕ) (variables arrays root nodes : ℕ) (labels : Labelling) (out : List ℕ) : Type 0 where
-  pub noted : Sheetable table index vs arrs
+pub record Writable (table index decisions : List ℕ) (variables arrays root nodes : ℕ) (labels : Labelling) (out : List ℕ) : Type 0 where
+  pub indexed : Indexed table index
+  pub decided : Decides table decisions
   pub numbers : Numbers table variables arrays root labels
   -- as many nodes as come out
   pub isNodes : nodes ≡ nodesOf (hardenedProgram (tableOf table))
@@ -33,8 +34,9 @@ pub record WroteTable (table before after : List ℕ) (answer : ℕ) : Type 0 wh
   pub counted : answer ≡ length (tableBytes (hardenedTable (tableOf table)))
 
 -- what measuring requires
-pub record Measurable (table index vs arrs : List ℕ) (arrays root : ℕ) : Type 0 where
-  pub noted : Sheetable table index vs arrs
+pub record Measurable (table index decisions : List ℕ) (arrays root : ℕ) : Type 0 where
+  pub indexed : Indexed table index
+  pub decided : Decides table decisions
   pub isArrays : arrays ≡ length (tableOf table .counts)
   pub isRoot : root + 1 ≡ nodesIn table
   pub few : nodesIn table ≤ maxHardened

@@ -9,21 +9,20 @@ use copier::records::append;
 use masking::accesses::append_sequence;
 use masking::accesses::harden_read;
 use masking::accesses::harden_write;
-use masking::deciding::mask_condition;
-use masking::deciding::mask_index;
-use masking::deciding::mask_value;
+use masking::decisions::masks_condition;
+use masking::decisions::masks_index;
+use masking::decisions::masks_value;
 use masking::masked::copy_condition;
 use masking::masked::put_flag_update;
 use reader::lookup::command_at;
-ghost use Prim.Native.Nat.{_+_, _<_};
+ghost use Prim.Native.Nat.{_+_};
 ghost use mathlib.Core.Bool.{true, false};
 ghost use mathlib.Core.Option.{none};
 ghost use mathlib.Core.Path.{_≡_};
 ghost use Rattle.awhile.specs.Encoding.{nodesOf, writeC};
 ghost use Rattle.awhile.specs.declared.Sort.the-variants.{Numeric, Truth};
-ghost use Rattle.reader.specs.Index.{nodesIn, nodeIn, OfSort};
-ghost use Rattle.analysis.specs.Conditions.{Single};
-ghost use Rattle.hardener.specs.Forms.{assignIn, sequenceIn, secretAt};
+ghost use Rattle.reader.specs.Index.{nodeIn, OfSort, Single};
+ghost use Rattle.hardener.specs.Forms.{assignIn, sequenceIn};
 ghost use Rattle.masking.specs.InMemory.{hardenedIn, sideIn, ifIn, loopIn, whileIn, Hardenable};
 ghost use Rattle.copier.specs.Sizes.{bytesOf};
 ghost use Rattle.copier.specs.Written.{Room, Wrote, WroteTwo};
@@ -57,22 +56,21 @@ fn harden_assign(
 fn harden_single(
     table: &[u8],
     index: &[u16],
-    variables: &[u64],
-    arrays: &[u32],
+    decisions: &[u8],
     flag: usize,
     n: usize,
     node: Node,
     from: usize,
     out: &mut [u8],
 ) -> Size
-    requires { ⌜ Hardenable (now table) (now index) (now variables) (now arrays) n × (node ≡ nodeIn (now table) n) × Single node ⌝ }
+    requires { ⌜ Hardenable (now table) (now index) (now decisions) n × (node ≡ nodeIn (now table) n) × Single node ⌝ }
     requires { ⌜
         Room from
-        (nodesOf (hardenedIn (now table) (now variables) (now arrays) flag n))
-        (bytesOf (hardenedIn (now table) (now variables) (now arrays) flag n))
+        (nodesOf (hardenedIn (now table) (now decisions) flag n))
+        (bytesOf (hardenedIn (now table) (now decisions) flag n))
         (now out) ⌝ }
     ensures { λ r. ⌜
-        Wrote (writeC from (hardenedIn (now (table .entry)) (now (variables .entry)) (now (arrays .entry)) flag n)) (now (out .entry)) (now (out .exit)) r ⌝ }
+        Wrote (writeC from (hardenedIn (now (table .entry)) (now (decisions .entry)) flag n)) (now (out .entry)) (now (out .exit)) r ⌝ }
 {
     match node {
         Node::Assign { variable, value } => harden_assign(table, index, variable, value, from, out),
@@ -81,8 +79,8 @@ fn harden_single(
             array,
             index: place,
         } => {
-            let mask = mask_index(table, index, variables, arrays, place, n);
-            let hide = mask_value(table, index, variables, arrays, array, place, n);
+            let mask = masks_index(decisions, n);
+            let hide = masks_value(decisions, n);
             harden_read(
                 table,
                 index,
@@ -101,7 +99,7 @@ fn harden_single(
             index: place,
             value,
         } => {
-            let mask = mask_index(table, index, variables, arrays, place, n);
+            let mask = masks_index(decisions, n);
             harden_write(table, index, flag, array, place, value, mask, from, out)
         }
         // a skip; nodes of other sorts never stand here
@@ -113,60 +111,63 @@ fn harden_single(
 pub fn harden_command(
     table: &[u8],
     index: &[u16],
-    variables: &[u64],
-    arrays: &[u32],
+    decisions: &[u8],
     flag: usize,
     n: usize,
     from: usize,
     out: &mut [u8],
 ) -> Size
-    requires { ⌜ Hardenable (now table) (now index) (now variables) (now arrays) n ⌝ }
+    requires { ⌜ Hardenable (now table) (now index) (now decisions) n ⌝ }
     requires { ⌜
         Room from
-        (nodesOf (hardenedIn (now table) (now variables) (now arrays) flag n))
-        (bytesOf (hardenedIn (now table) (now variables) (now arrays) flag n))
+        (nodesOf (hardenedIn (now table) (now decisions) flag n))
+        (bytesOf (hardenedIn (now table) (now decisions) flag n))
         (now out) ⌝ }
     ensures { λ r. ⌜
-        Wrote (writeC from (hardenedIn (now (table .entry)) (now (variables .entry)) (now (arrays .entry)) flag n)) (now (out .entry)) (now (out .exit)) r ⌝ }
+        Wrote (writeC from (hardenedIn (now (table .entry)) (now (decisions .entry)) flag n)) (now (out .entry)) (now (out .exit)) r ⌝ }
 {
     let node = command_at(table, index, n);
     match node {
         Node::Sequence { first, second } => harden_sequence(
             table,
             index,
-            variables,
-            arrays,
+            decisions,
             flag,
             first,
             second,
             from,
             out,
         ),
-        Node::If { condition, yes, no } => harden_if(
-            table,
-            index,
-            variables,
-            arrays,
-            flag,
-            n,
-            condition,
-            yes,
-            no,
-            from,
-            out,
-        ),
-        Node::While { condition, body } => harden_while(
-            table,
-            index,
-            variables,
-            arrays,
-            flag,
-            condition,
-            body,
-            from,
-            out,
-        ),
-        _ => harden_single(table, index, variables, arrays, flag, n, node, from, out),
+        Node::If { condition, yes, no } => {
+            let mask = masks_condition(decisions, n);
+            harden_if(
+                table,
+                index,
+                decisions,
+                flag,
+                condition,
+                mask,
+                yes,
+                no,
+                from,
+                out,
+            )
+        }
+        Node::While { condition, body } => {
+            let mask = masks_condition(decisions, n);
+            harden_while(
+                table,
+                index,
+                decisions,
+                flag,
+                condition,
+                mask,
+                body,
+                from,
+                out,
+            )
+        }
+        _ => harden_single(table, index, decisions, flag, n, node, from, out),
     }
 }
 
@@ -174,40 +175,29 @@ pub fn harden_command(
 fn harden_sequence(
     table: &[u8],
     index: &[u16],
-    variables: &[u64],
-    arrays: &[u32],
+    decisions: &[u8],
     flag: usize,
     first: usize,
     second: usize,
     from: usize,
     out: &mut [u8],
 ) -> Size
-    requires { ⌜ Hardenable (now table) (now index) (now variables) (now arrays) first × Hardenable (now table) (now index) (now variables) (now arrays) second ⌝ }
+    requires { ⌜ Hardenable (now table) (now index) (now decisions) first × Hardenable (now table) (now index) (now decisions) second ⌝ }
     requires { ⌜
         Room from
-        (nodesOf (sequenceIn (now table) (now variables) (now arrays) flag first second))
-        (bytesOf (sequenceIn (now table) (now variables) (now arrays) flag first second))
+        (nodesOf (sequenceIn (now table) (now decisions) flag first second))
+        (bytesOf (sequenceIn (now table) (now decisions) flag first second))
         (now out) ⌝ }
     ensures { λ r. ⌜
-        Wrote (writeC from (sequenceIn (now (table .entry)) (now (variables .entry)) (now (arrays .entry)) flag first second))
+        Wrote (writeC from (sequenceIn (now (table .entry)) (now (decisions .entry)) flag first second))
         (now (out .entry)) (now (out .exit)) r ⌝ }
 {
-    let one = harden_command(
-        table,
-        index,
-        variables,
-        arrays,
-        flag,
-        first,
-        from,
-        &mut *out,
-    );
+    let one = harden_command(table, index, decisions, flag, first, from, &mut *out);
     let at = one.bytes;
     let two = harden_command(
         table,
         index,
-        variables,
-        arrays,
+        decisions,
         flag,
         second,
         from + one.nodes,
@@ -220,8 +210,7 @@ fn harden_sequence(
 fn harden_side(
     table: &[u8],
     index: &[u16],
-    variables: &[u64],
-    arrays: &[u32],
+    decisions: &[u8],
     flag: usize,
     condition: usize,
     mask: bool,
@@ -230,14 +219,14 @@ fn harden_side(
     from: usize,
     out: &mut [u8],
 ) -> Size
-    requires { ⌜ OfSort (now table) (now index) Truth condition × Hardenable (now table) (now index) (now variables) (now arrays) side ⌝ }
+    requires { ⌜ OfSort (now table) (now index) Truth condition × Hardenable (now table) (now index) (now decisions) side ⌝ }
     requires { ⌜
         Room from
-        (nodesOf (sideIn (now table) (now variables) (now arrays) flag condition mask taken side))
-        (bytesOf (sideIn (now table) (now variables) (now arrays) flag condition mask taken side))
+        (nodesOf (sideIn (now table) (now decisions) flag condition mask taken side))
+        (bytesOf (sideIn (now table) (now decisions) flag condition mask taken side))
         (now out) ⌝ }
     ensures { λ r. ⌜
-        Wrote (writeC from (sideIn (now (table .entry)) (now (variables .entry)) (now (arrays .entry)) flag condition mask taken side))
+        Wrote (writeC from (sideIn (now (table .entry)) (now (decisions .entry)) flag condition mask taken side))
         (now (out .entry)) (now (out .exit)) r ⌝ }
 {
     let update = put_flag_update(table, index, condition, mask, flag, taken, from, &mut *out);
@@ -245,8 +234,7 @@ fn harden_side(
     let rest = harden_command(
         table,
         index,
-        variables,
-        arrays,
+        decisions,
         flag,
         side,
         from + update.nodes,
@@ -259,8 +247,7 @@ fn harden_side(
 fn harden_sides(
     table: &[u8],
     index: &[u16],
-    variables: &[u64],
-    arrays: &[u32],
+    decisions: &[u8],
     flag: usize,
     condition: usize,
     mask: bool,
@@ -270,26 +257,25 @@ fn harden_sides(
     out: &mut [u8],
 ) -> Pair
     requires { ⌜ OfSort (now table) (now index) Truth condition
-        × Hardenable (now table) (now index) (now variables) (now arrays) first × Hardenable (now table) (now index) (now variables) (now arrays) second ⌝ }
+        × Hardenable (now table) (now index) (now decisions) first × Hardenable (now table) (now index) (now decisions) second ⌝ }
     requires { ⌜
         Room from
-        (nodesOf (sideIn (now table) (now variables) (now arrays) flag condition mask true first)
-        + nodesOf (sideIn (now table) (now variables) (now arrays) flag condition mask false second))
-        (bytesOf (sideIn (now table) (now variables) (now arrays) flag condition mask true first)
-        + bytesOf (sideIn (now table) (now variables) (now arrays) flag condition mask false second))
+        (nodesOf (sideIn (now table) (now decisions) flag condition mask true first)
+        + nodesOf (sideIn (now table) (now decisions) flag condition mask false second))
+        (bytesOf (sideIn (now table) (now decisions) flag condition mask true first)
+        + bytesOf (sideIn (now table) (now decisions) flag condition mask false second))
         (now out) ⌝ }
     ensures { λ r. ⌜
         WroteTwo from
-        (writeC from (sideIn (now (table .entry)) (now (variables .entry)) (now (arrays .entry)) flag condition mask true first))
-        (writeC (from + nodesOf (sideIn (now (table .entry)) (now (variables .entry)) (now (arrays .entry)) flag condition mask true first))
-        (sideIn (now (table .entry)) (now (variables .entry)) (now (arrays .entry)) flag condition mask false second))
+        (writeC from (sideIn (now (table .entry)) (now (decisions .entry)) flag condition mask true first))
+        (writeC (from + nodesOf (sideIn (now (table .entry)) (now (decisions .entry)) flag condition mask true first))
+        (sideIn (now (table .entry)) (now (decisions .entry)) flag condition mask false second))
         (now (out .entry)) (now (out .exit)) r ⌝ }
 {
     let one = harden_side(
         table,
         index,
-        variables,
-        arrays,
+        decisions,
         flag,
         condition,
         mask,
@@ -302,8 +288,7 @@ fn harden_sides(
     let two = harden_side(
         table,
         index,
-        variables,
-        arrays,
+        decisions,
         flag,
         condition,
         mask,
@@ -315,39 +300,36 @@ fn harden_sides(
     both(from, one, two)
 }
 
-// An if: its condition, masked where it is secret, both sides from the byte where that ended, and the node.
+// An if: its condition, masked or not, both sides from the byte where that ended, and the node.
 fn harden_if(
     table: &[u8],
     index: &[u16],
-    variables: &[u64],
-    arrays: &[u32],
+    decisions: &[u8],
     flag: usize,
-    n: usize,
     condition: usize,
+    mask: bool,
     first: usize,
     second: usize,
     from: usize,
     out: &mut [u8],
 ) -> Size
-    requires { ⌜ OfSort (now table) (now index) Truth condition × (n < nodesIn (now table))
-        × Hardenable (now table) (now index) (now variables) (now arrays) first × Hardenable (now table) (now index) (now variables) (now arrays) second ⌝ }
+    requires { ⌜ OfSort (now table) (now index) Truth condition
+        × Hardenable (now table) (now index) (now decisions) first × Hardenable (now table) (now index) (now decisions) second ⌝ }
     requires { ⌜
         Room from
-        (nodesOf (ifIn (now table) (now variables) (now arrays) flag condition (secretAt (now table) (now variables) (now arrays) n condition) none first second))
-        (bytesOf (ifIn (now table) (now variables) (now arrays) flag condition (secretAt (now table) (now variables) (now arrays) n condition) none first second))
+        (nodesOf (ifIn (now table) (now decisions) flag condition mask none first second))
+        (bytesOf (ifIn (now table) (now decisions) flag condition mask none first second))
         (now out) ⌝ }
     ensures { λ r. ⌜
-        Wrote (writeC from (ifIn (now (table .entry)) (now (variables .entry)) (now (arrays .entry)) flag condition (secretAt (now (table .entry)) (now (variables .entry)) (now (arrays .entry)) n condition) none first second))
+        Wrote (writeC from (ifIn (now (table .entry)) (now (decisions .entry)) flag condition mask none first second))
         (now (out .entry)) (now (out .exit)) r ⌝ }
 {
-    let mask = mask_condition(table, index, variables, arrays, condition, n);
     let test = copy_condition(table, index, condition, mask, flag, from, &mut *out);
     let at = test.bytes;
     let sides = harden_sides(
         table,
         index,
-        variables,
-        arrays,
+        decisions,
         flag,
         condition,
         mask,
@@ -372,8 +354,7 @@ fn harden_if(
 fn harden_loop(
     table: &[u8],
     index: &[u16],
-    variables: &[u64],
-    arrays: &[u32],
+    decisions: &[u8],
     flag: usize,
     condition: usize,
     mask: bool,
@@ -381,14 +362,14 @@ fn harden_loop(
     from: usize,
     out: &mut [u8],
 ) -> Size
-    requires { ⌜ OfSort (now table) (now index) Truth condition × Hardenable (now table) (now index) (now variables) (now arrays) body ⌝ }
+    requires { ⌜ OfSort (now table) (now index) Truth condition × Hardenable (now table) (now index) (now decisions) body ⌝ }
     requires { ⌜
         Room from
-        (nodesOf (loopIn (now table) (now variables) (now arrays) flag condition mask none body))
-        (bytesOf (loopIn (now table) (now variables) (now arrays) flag condition mask none body))
+        (nodesOf (loopIn (now table) (now decisions) flag condition mask none body))
+        (bytesOf (loopIn (now table) (now decisions) flag condition mask none body))
         (now out) ⌝ }
     ensures { λ r. ⌜
-        Wrote (writeC from (loopIn (now (table .entry)) (now (variables .entry)) (now (arrays .entry)) flag condition mask none body))
+        Wrote (writeC from (loopIn (now (table .entry)) (now (decisions .entry)) flag condition mask none body))
         (now (out .entry)) (now (out .exit)) r ⌝ }
 {
     let test = copy_condition(table, index, condition, mask, flag, from, &mut *out);
@@ -396,8 +377,7 @@ fn harden_loop(
     let side = harden_side(
         table,
         index,
-        variables,
-        arrays,
+        decisions,
         flag,
         condition,
         mask,
@@ -422,31 +402,28 @@ fn harden_loop(
 fn harden_while(
     table: &[u8],
     index: &[u16],
-    variables: &[u64],
-    arrays: &[u32],
+    decisions: &[u8],
     flag: usize,
     condition: usize,
+    mask: bool,
     body: usize,
     from: usize,
     out: &mut [u8],
 ) -> Size
-    requires { ⌜ OfSort (now table) (now index) Truth condition × Hardenable (now table) (now index) (now variables) (now arrays) body ⌝ }
+    requires { ⌜ OfSort (now table) (now index) Truth condition × Hardenable (now table) (now index) (now decisions) body ⌝ }
     requires { ⌜
         Room from
-        (nodesOf (whileIn (now table) (now variables) (now arrays) flag condition (secretAt (now table) (now variables) (now arrays) body condition) none body))
-        (bytesOf (whileIn (now table) (now variables) (now arrays) flag condition (secretAt (now table) (now variables) (now arrays) body condition) none body))
+        (nodesOf (whileIn (now table) (now decisions) flag condition mask none body))
+        (bytesOf (whileIn (now table) (now decisions) flag condition mask none body))
         (now out) ⌝ }
     ensures { λ r. ⌜
-        Wrote (writeC from (whileIn (now (table .entry)) (now (variables .entry)) (now (arrays .entry)) flag condition (secretAt (now (table .entry)) (now (variables .entry)) (now (arrays .entry)) body condition) none body))
+        Wrote (writeC from (whileIn (now (table .entry)) (now (decisions .entry)) flag condition mask none body))
         (now (out .entry)) (now (out .exit)) r ⌝ }
 {
-    // a loop's condition is labelled by what settled, which enters its body
-    let mask = mask_condition(table, index, variables, arrays, condition, body);
     let whole = harden_loop(
         table,
         index,
-        variables,
-        arrays,
+        decisions,
         flag,
         condition,
         mask,

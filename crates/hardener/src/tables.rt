@@ -66,15 +66,14 @@ fn put_counts(table: &[u8], arrays: usize, out: &mut [u8])
 pub fn measure_hardened(
     table: &[u8],
     index: &[u16],
-    variables: &[u64],
-    arrays: &[u32],
+    decisions: &[u8],
     count: usize,
     root: usize,
 ) -> Size
-    requires { ⌜ Measurable (now table) (now index) (now variables) (now arrays) count root ⌝ }
+    requires { ⌜ Measurable (now table) (now index) (now decisions) count root ⌝ }
     ensures { λ r. ⌜ Measured (now (table .entry)) r ⌝ }
 {
-    let size = harden_size(table, index, variables, arrays, root);
+    let size = harden_size(table, index, decisions, root);
     Size {
         nodes: size.nodes,
         bytes: 20 + 6 * count + size.bytes,
@@ -85,8 +84,7 @@ pub fn measure_hardened(
 pub fn write_hardened(
     table: &[u8],
     index: &[u16],
-    variables: &[u64],
-    arrays: &[u32],
+    decisions: &[u8],
     declared: usize,
     count: usize,
     labels: Labelling,
@@ -94,7 +92,7 @@ pub fn write_hardened(
     nodes: usize,
     out: &mut [u8],
 ) -> usize
-    requires { ⌜ Writable (now table) (now index) (now variables) (now arrays) declared count root nodes labels (now out) ⌝ }
+    requires { ⌜ Writable (now table) (now index) (now decisions) declared count root nodes labels (now out) ⌝ }
     ensures { λ r. ⌜ WroteTable (now (table .entry)) (now (out .entry)) (now (out .exit)) r ⌝ }
 {
     // the flag is one variable more
@@ -102,15 +100,6 @@ pub fn write_hardened(
     put_labels(labels, &mut *out);
     put_counts(table, count, &mut *out);
     let at = 20 + 6 * count;
-    let size = harden_command(
-        table,
-        index,
-        variables,
-        arrays,
-        declared,
-        root,
-        0,
-        &mut out[at..],
-    );
+    let size = harden_command(table, index, decisions, declared, root, 0, &mut out[at..]);
     at + size.bytes
 }

@@ -5,41 +5,29 @@ use copier::sizes::numeric_size;
 use copier::sizes::over_one;
 use copier::sizes::over_two;
 use copier::sizes::truth_size;
-use masking::deciding::mask_condition;
-use masking::deciding::mask_index;
-use masking::deciding::mask_value;
+use masking::decisions::masks_condition;
+use masking::decisions::masks_index;
+use masking::decisions::masks_value;
 use reader::lookup::command_at;
 ghost use Prim.Native.Nat.{_+_, _*_, _≤_};
 ghost use mathlib.Core.Bool.{cond};
 ghost use mathlib.Core.Path.{_≡_};
 ghost use Rattle.awhile.specs.Encoding.{nodesOfA, nodesOfB, nodesOf};
 ghost use Rattle.awhile.specs.declared.Sort.the-variants.{Numeric, Truth};
-ghost use Rattle.reader.specs.Index.{nodeIn, numericIn};
-ghost use Rattle.analysis.specs.Conditions.{Single};
+ghost use Rattle.reader.specs.Index.{nodeIn, numericIn, OfSort, Single};
 ghost use Rattle.masks.specs.Hardening.{maskedIndex};
-ghost use Rattle.hardener.specs.Forms.{secretAt, secretIndexAt};
 ghost use Rattle.awhile.specs.Tables.{maxNodes};
-ghost use Rattle.masking.specs.InMemory.{hardenedIn, testIn, Hardenable, NotedAt};
+ghost use Rattle.masking.specs.InMemory.{hardenedIn, testIn, Hardenable};
 ghost use Rattle.copier.specs.Sizes.{bytesOfA, bytesOfB, bytesOf, Sized, Few};
 
 // A condition, with (flag = 0) and .. where it is masked.
-fn condition_size(
-    table: &[u8],
-    index: &[u16],
-    variables: &[u64],
-    arrays: &[u32],
-    condition: usize,
-    at: usize,
-) -> Size
-    requires { ⌜ NotedAt (now table) (now index) (now variables) (now arrays) Truth condition at ⌝ }
-    requires { ⌜ nodesOfB (testIn (now table) (now variables) (now arrays) 0 condition (secretAt (now table) (now variables) (now arrays) at condition)) ≤ maxNodes ⌝ }
+fn condition_size(table: &[u8], index: &[u16], condition: usize, mask: bool) -> Size
+    requires { ⌜ OfSort (now table) (now index) Truth condition × (nodesOfB (testIn (now table) 0 condition mask) ≤ maxNodes) ⌝ }
     ensures { λ r. ⌜
-        Sized
-        (nodesOfB (testIn (now (table .entry)) (now (variables .entry)) (now (arrays .entry)) 0 condition (secretAt (now (table .entry)) (now (variables .entry)) (now (arrays .entry)) at condition)))
-        (bytesOfB (testIn (now (table .entry)) (now (variables .entry)) (now (arrays .entry)) 0 condition (secretAt (now (table .entry)) (now (variables .entry)) (now (arrays .entry)) at condition))) r ⌝ }
+        Sized (nodesOfB (testIn (now (table .entry)) 0 condition mask)) (bytesOfB (testIn (now (table .entry)) 0 condition mask)) r ⌝ }
 {
     let part = truth_size(table, index, condition);
-    if mask_condition(table, index, variables, arrays, condition, at) {
+    if mask {
         Size {
             nodes: part.nodes + 4,
             bytes: part.bytes + 30,
@@ -50,23 +38,13 @@ fn condition_size(
 }
 
 // An index, with (flag = 1) ? 0 : .. where it is masked.
-fn index_size(
-    table: &[u8],
-    index: &[u16],
-    variables: &[u64],
-    arrays: &[u32],
-    place: usize,
-    at: usize,
-) -> Size
-    requires { ⌜ NotedAt (now table) (now index) (now variables) (now arrays) Numeric place at ⌝ }
-    requires { ⌜ nodesOfA (maskedIndex 0 (secretIndexAt (now table) (now variables) (now arrays) at place) (numericIn (now table) place)) ≤ maxNodes ⌝ }
+fn index_size(table: &[u8], index: &[u16], place: usize, mask: bool) -> Size
+    requires { ⌜ OfSort (now table) (now index) Numeric place × (nodesOfA (maskedIndex 0 mask (numericIn (now table) place)) ≤ maxNodes) ⌝ }
     ensures { λ r. ⌜
-        Sized
-        (nodesOfA (maskedIndex 0 (secretIndexAt (now (table .entry)) (now (variables .entry)) (now (arrays .entry)) at place) (numericIn (now (table .entry)) place)))
-        (bytesOfA (maskedIndex 0 (secretIndexAt (now (table .entry)) (now (variables .entry)) (now (arrays .entry)) at place) (numericIn (now (table .entry)) place))) r ⌝ }
+        Sized (nodesOfA (maskedIndex 0 mask (numericIn (now (table .entry)) place))) (bytesOfA (maskedIndex 0 mask (numericIn (now (table .entry)) place))) r ⌝ }
 {
     let part = numeric_size(table, index, place);
-    if mask_index(table, index, variables, arrays, place, at) {
+    if mask {
         Size {
             nodes: part.nodes + 5,
             bytes: part.bytes + 40,
@@ -117,32 +95,22 @@ fn while_size(test: Size, body: Size) -> Size
 }
 
 // The size of what a command without command parts hardens to.
-fn single_size(
-    table: &[u8],
-    index: &[u16],
-    variables: &[u64],
-    arrays: &[u32],
-    n: usize,
-    node: Node,
-) -> Size
-    requires { ⌜ Hardenable (now table) (now index) (now variables) (now arrays) n × (node ≡ nodeIn (now table) n) × Single node ⌝ }
-    requires { ⌜ nodesOf (hardenedIn (now table) (now variables) (now arrays) 0 n) ≤ maxNodes ⌝ }
+fn single_size(table: &[u8], index: &[u16], decisions: &[u8], n: usize, node: Node) -> Size
+    requires { ⌜ Hardenable (now table) (now index) (now decisions) n × (node ≡ nodeIn (now table) n) × Single node ⌝ }
+    requires { ⌜ nodesOf (hardenedIn (now table) (now decisions) 0 n) ≤ maxNodes ⌝ }
     ensures { λ r. ⌜
-        Sized (nodesOf (hardenedIn (now (table .entry)) (now (variables .entry)) (now (arrays .entry)) 0 n))
-        (bytesOf (hardenedIn (now (table .entry)) (now (variables .entry)) (now (arrays .entry)) 0 n)) r ⌝ }
+        Sized (nodesOf (hardenedIn (now (table .entry)) (now (decisions .entry)) 0 n))
+        (bytesOf (hardenedIn (now (table .entry)) (now (decisions .entry)) 0 n)) r ⌝ }
 {
     match node {
         Node::Assign { value, .. } => {
             let part = numeric_size(table, index, value);
             over_one(part, 8)
         }
-        Node::Read {
-            array,
-            index: place,
-            ..
-        } => {
-            let hide = mask_value(table, index, variables, arrays, array, place, n);
-            let part = index_size(table, index, variables, arrays, place, n);
+        Node::Read { index: place, .. } => {
+            let mask = masks_index(decisions, n);
+            let hide = masks_value(decisions, n);
+            let part = index_size(table, index, place, mask);
             read_size(part, hide)
         }
         Node::Write {
@@ -150,7 +118,8 @@ fn single_size(
             value,
             ..
         } => {
-            let part = index_size(table, index, variables, arrays, place, n);
+            let mask = masks_index(decisions, n);
+            let part = index_size(table, index, place, mask);
             let written = numeric_size(table, index, value);
             over_two(part, written, 10)
         }
@@ -160,32 +129,33 @@ fn single_size(
 }
 
 // The size of what a command hardens to. It is the same whatever the flag's number.
-pub fn harden_size(table: &[u8], index: &[u16], variables: &[u64], arrays: &[u32], n: usize) -> Size
-    requires { ⌜ Hardenable (now table) (now index) (now variables) (now arrays) n ⌝ }
-    requires { ⌜ nodesOf (hardenedIn (now table) (now variables) (now arrays) 0 n) ≤ maxNodes ⌝ }
+pub fn harden_size(table: &[u8], index: &[u16], decisions: &[u8], n: usize) -> Size
+    requires { ⌜ Hardenable (now table) (now index) (now decisions) n ⌝ }
+    requires { ⌜ nodesOf (hardenedIn (now table) (now decisions) 0 n) ≤ maxNodes ⌝ }
     ensures { λ r. ⌜
-        Sized (nodesOf (hardenedIn (now (table .entry)) (now (variables .entry)) (now (arrays .entry)) 0 n))
-        (bytesOf (hardenedIn (now (table .entry)) (now (variables .entry)) (now (arrays .entry)) 0 n)) r ⌝ }
+        Sized (nodesOf (hardenedIn (now (table .entry)) (now (decisions .entry)) 0 n))
+        (bytesOf (hardenedIn (now (table .entry)) (now (decisions .entry)) 0 n)) r ⌝ }
 {
     let node = command_at(table, index, n);
     match node {
         Node::Sequence { first, second } => {
-            let one = harden_size(table, index, variables, arrays, first);
-            let two = harden_size(table, index, variables, arrays, second);
+            let one = harden_size(table, index, decisions, first);
+            let two = harden_size(table, index, decisions, second);
             over_two(one, two, 8)
         }
         Node::If { condition, yes, no } => {
-            let test = condition_size(table, index, variables, arrays, condition, n);
-            let one = harden_size(table, index, variables, arrays, yes);
-            let two = harden_size(table, index, variables, arrays, no);
+            let mask = masks_condition(decisions, n);
+            let test = condition_size(table, index, condition, mask);
+            let one = harden_size(table, index, decisions, yes);
+            let two = harden_size(table, index, decisions, no);
             if_size(test, one, two)
         }
         Node::While { condition, body } => {
-            // a loop's condition is labelled by what settled, which enters its body
-            let test = condition_size(table, index, variables, arrays, condition, body);
-            let one = harden_size(table, index, variables, arrays, body);
+            let mask = masks_condition(decisions, n);
+            let test = condition_size(table, index, condition, mask);
+            let one = harden_size(table, index, decisions, body);
             while_size(test, one)
         }
-        _ => single_size(table, index, variables, arrays, n, node),
+        _ => single_size(table, index, decisions, n, node),
     }
 }

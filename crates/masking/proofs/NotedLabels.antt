@@ -13,7 +13,7 @@ use Rattle.awhile.specs.declared.Sort.{Sort}
 use Rattle.labels.specs.Analysis.{readLabel}
 use Rattle.labels.specs.Labellings.{arrayMark, labelOf, labelOfA}
 use Rattle.analysis.specs.Notes.{noteIn}
-use Rattle.masking.specs.InMemory.{NotedAt}
+use Rattle.masking.specs.Deciding.{NotedAt}
 
 -- a note can be looked up
 pub noted-asks : {table index vs arrs : List ℕ} {sort : Sort} {n at : ℕ} → NotedAt table index vs arrs sort n at

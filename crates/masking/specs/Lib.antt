@@ -1,2 +1,3 @@
--- Hardened commands of a table in memory, by the notes of its analysis.
+-- Decisions on masks in memory, and hardened commands of a table by them.
+pub mod Deciding
 pub mod InMemory

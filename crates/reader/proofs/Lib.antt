@@ -1,5 +1,6 @@
 -- Laws for reading a table record by record.
 pub mod Index
+pub mod NodeKinds
 pub mod Passing
 pub mod Declaring
 pub mod Sorting

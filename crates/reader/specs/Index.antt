@@ -17,7 +17,7 @@ use Rattle.awhile.specs.declared.Refusal.the-variants.{NotATree}
 use Rattle.awhile.specs.Nodes.{sortOf}
 use Rattle.awhile.specs.declared.Sort.{Sort}
 use Rattle.awhile.specs.declared.Node.{Node}
-use Rattle.awhile.specs.declared.Node.the-variants.{Skip}
+use Rattle.awhile.specs.declared.Node.the-variants.{Skip, Sequence, If, While}
 
 -- the table that bytes read as; where they are refused, of no account
 unfoldable pub tableOf : List ℕ → Table
@@ -59,6 +59,12 @@ pub record OfSort (table index : List ℕ) (sort : Sort) (n : ℕ) : Type 0 wher
   pub indexed : Indexed table index
   pub inside : n < nodesIn table
   pub isSort : sortOf (nodeIn table n) ≡ sort
+
+-- a node that is no command with command parts
+pub record Single (node : Node) : Type 0 where
+  pub noSequence : (c d : ℕ) → node ≡ Sequence c d → ⊥
+  pub noIf : (b c d : ℕ) → node ≡ If b c d → ⊥
+  pub noWhile : (b c : ℕ) → node ≡ While b c → ⊥
 
 -- ---- what the reader answers
 -- the numbers of an accepted table

@@ -20,7 +20,8 @@ use Rattle.copier.proofs.Lengths.{counted-A, counted-B}
 use Rattle.copier.proofs.Writers.{Rest, rest-of, wrote-leaf, appended-node, room-first, room-leaf}
 use Rattle.copier.proofs.ExpressionWrites.{wrote-A, wrote-B, room-A, room-B, pair-few, wrote-pair, pair-parent, pair-room}
 use Rattle.copier.proofs.ExpressionWrites.{and-few, and-room, wrote-and, not-last, not-room, wrote-not, choice-last, choice-few, choice-room, wrote-choice, constant-value}
-use Rattle.copier.proofs.Descents.{node-parts, lower, call-binary, call-choice, call-truth, first-of-pair, second-of-pair, pair-of-binary, pair-of-choice}
+use Rattle.reader.proofs.NodeKinds.{node-parts}
+use Rattle.copier.proofs.Descents.{lower, call-binary, call-choice, call-truth, first-of-pair, second-of-pair, pair-of-binary, pair-of-choice}
 use borrow.Author.Needs.{needs}
 use borrow.Fn.Kinds.{In}
 use borrow.Fn.PlainCycle.{Measures, is, falls, and}
@@ -128,11 +129,11 @@ copy-truth-calls t = (truth-at-reads.Asked, truth-at-reads.Learnt, append-reads.
 
 module _ (t : ℕ) (d : copy-numeric-lts.After-numeric-at (copy-numeric-calls t) (copy-numeric-at t) copy-numeric.Post) where
   numeric-parts : (m : Node) → d .numeric-at .result ≡ m → Parts (now (d .before .before .before .before .args .table)) (d .before .before .before .before .args .n) m
-  numeric-parts m e = node-parts (d .before .before .before .before .pre .1 .0) (slice-bytes (now (d .before .before .before .before .args .table)) (d .before .before .before .shared-slice-known .given)) (d .numeric-at .ensures) e
+  numeric-parts = node-parts (slice-bytes (now (d .before .before .before .before .args .table)) (d .before .before .before .shared-slice-known .given)) (d .before .before .before .before .pre .1 .0 .indexed) (d .before .before .before .before .pre .1 .0 .inside) (d .numeric-at .ensures)
 
 module _ (t : ℕ) (d : copy-truth-lts.After-truth-at (copy-truth-calls t) (copy-truth-at t) copy-truth.Post) where
   truth-parts : (m : Node) → d .truth-at .result ≡ m → Parts (now (d .before .before .before .before .args .table)) (d .before .before .before .before .args .n) m
-  truth-parts m e = node-parts (d .before .before .before .before .pre .1 .0) (slice-bytes (now (d .before .before .before .before .args .table)) (d .before .before .before .shared-slice-known .given)) (d .truth-at .ensures) e
+  truth-parts = node-parts (slice-bytes (now (d .before .before .before .before .args .table)) (d .before .before .before .shared-slice-known .given)) (d .before .before .before .before .pre .1 .0 .indexed) (d .before .before .before .before .pre .1 .0 .inside) (d .truth-at .ensures)
 
 -- where the first part of a pair, an `and` and a choice is written: the parts, and what is left behind the first
 module _ (t : ℕ) (d : copy-pair-lts.After-copy-numeric (copy-pair-calls t) (copy-pair-at t) copy-pair.Post) where

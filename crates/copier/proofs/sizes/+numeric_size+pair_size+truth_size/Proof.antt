@@ -12,7 +12,8 @@ use Rattle.reader.proofs.Index.{Parts}
 use Rattle.copier.specs.Sizes.{bytesOfA, bytesOfB}
 use Rattle.copier.proofs.Lengths.{bytes-A, bytes-B}
 use Rattle.copier.proofs.SizeSums.{few-one, few-two, few-three, sized-one, sized-two, sized-three, sized-A, sized-B}
-use Rattle.copier.proofs.Descents.{node-parts, within-A, within-B, size-pair, size-child, size-compared, size-truth, first-of-pair, second-of-pair}
+use Rattle.reader.proofs.NodeKinds.{node-parts}
+use Rattle.copier.proofs.Descents.{within-A, within-B, size-pair, size-child, size-compared, size-truth, first-of-pair, second-of-pair}
 use borrow.Author.Needs.{needs}
 use borrow.Fn.Kinds.{In}
 use borrow.Fn.PlainCycle.{Measures, is, falls, and}
@@ -74,11 +75,11 @@ truth-size-calls t = (truth-at-reads.Asked, truth-at-reads.Learnt, pair-size-bel
 -- the parts of the node that is read
 module _ (t : ℕ) (d : numeric-size-lts.After-numeric-at (numeric-size-calls t) (numeric-size-at t) numeric-size.Post) where
   numeric-parts : (m : Node) → d .numeric-at .result ≡ m → Parts (now (d .before .before .before .args .table)) (d .before .before .before .args .n) m
-  numeric-parts m e = node-parts (d .before .before .before .pre .1 .0) (slice-bytes (now (d .before .before .before .args .table)) (d .before .before .shared-slice-known .given)) (d .numeric-at .ensures) e
+  numeric-parts = node-parts (slice-bytes (now (d .before .before .before .args .table)) (d .before .before .shared-slice-known .given)) (d .before .before .before .pre .1 .0 .indexed) (d .before .before .before .pre .1 .0 .inside) (d .numeric-at .ensures)
 
 module _ (t : ℕ) (d : truth-size-lts.After-truth-at (truth-size-calls t) (truth-size-at t) truth-size.Post) where
   truth-parts : (m : Node) → d .truth-at .result ≡ m → Parts (now (d .before .before .before .args .table)) (d .before .before .before .args .n) m
-  truth-parts m e = node-parts (d .before .before .before .pre .1 .0) (slice-bytes (now (d .before .before .before .args .table)) (d .before .before .shared-slice-known .given)) (d .truth-at .ensures) e
+  truth-parts = node-parts (slice-bytes (now (d .before .before .before .args .table)) (d .before .before .shared-slice-known .given)) (d .before .before .before .pre .1 .0 .indexed) (d .before .before .before .pre .1 .0 .inside) (d .truth-at .ensures)
 
 -- the sums are small; `bytesOfA` and `bytesOfB` stay shut here, so that the parts are read off their sizes
 numeric-size-over-three-requires : (t : ℕ) → numeric-size-lts.Need-over-three-requires (numeric-size-calls t) (numeric-size-at t) numeric-size.Post

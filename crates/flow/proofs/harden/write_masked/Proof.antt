@@ -1,4 +1,4 @@
--- `write_masked` labels the program on notes that are all zero, measures what comes out, and writes it where it fits.
+-- `write_masked` decides on the program, measures what comes out, and writes it where it fits.
 use native.Mathlib.Omega.{arith}
 use denote.Ref.{now}
 use mathlib.Core.List.{[], _∷_}
@@ -8,7 +8,6 @@ use Rattle.bytes_le.proofs.Numbers.{slice-bytes}
 use Rattle.awhile.specs.Encoding.{tableBytes}
 use Rattle.reader.specs.Index.{tableOf}
 use Rattle.reader.proofs.Index.{indexed-some}
-use Rattle.analysis.proofs.WholeProgram.{fresh-zeros}
 use Rattle.masks.specs.Hardening.{hardenedTable}
 use Rattle.hardener.specs.Output.{Measurable}
 use Rattle.entries.specs.Answers.{answered}
@@ -18,42 +17,36 @@ use borrow.Author.Needs.{needs}
 use Rattle.flow.proofs.harden.write_masked.Statement.{statement}
 use Rattle.flow.proofs.harden.write_masked.Tie as tie
 
-label-program-requires : tie.Need-label-program-requires
-label-program-requires c κs =
-    let start = c .before .before .before .before .before .before in
-    let ready = start .pre .0 in
-    (fresh-zeros 512 (ready .indexed) (start .pre .1 .few), ready .isNodes, ready .isLabels)
-
 sub-root : tie.Need-sub-root
 sub-root c =
-    let start = c .before .before .before .before .before .before .before .before .before in
+    let start = c .before .before .before .before .before .before .before in
     let table = now (start .args .table) in
-    omega (arith, indexed-some table (now (start .args .index)) (slice-bytes table (c .before .before .before .before .before .before .before .before .shared-slice-known .given)) (start .pre .0 .indexed), start .pre .0 .isNodes)
+    omega (arith, indexed-some table (now (start .args .index)) (slice-bytes table (c .before .before .before .before .before .before .shared-slice-known .given)) (start .pre .0 .indexed), start .pre .0 .isNodes)
 
--- the labelled program can be measured
-labelled : (d : tie.After-label-program) → Measurable (now (d .before .before .before .before .before .before .before .args .table)) (now (d .before .before .before .before .before .before .before .args .index)) (d .label-program .last .1 .1 .0) (d .label-program .last .1 .1 .1 .0) (d .before .before .before .before .before .before .before .args .arrays) (d .before .before .before .before .before .before .before .args .nodes - 1)
-labelled d =
-    let start = d .before .before .before .before .before .before .before in
-    measurable (start .pre .0) (slice-bytes (now (start .args .table)) (d .before .before .before .before .before .before .shared-slice-known .given)) (d .label-program .ensures .1) (start .pre .1)
+-- the program that is decided on can be measured
+decided : (d : tie.After-decide-program) → Measurable (now (d .before .before .before .before .before .before .args .table)) (now (d .before .before .before .before .before .before .args .index)) (d .decide-program .last .1 .1 .1 .1 .0) (d .before .before .before .before .before .before .args .arrays) (d .before .before .before .before .before .before .args .nodes - 1)
+decided d =
+    let start = d .before .before .before .before .before .before in
+    measurable (start .pre .0) (slice-bytes (now (start .args .table)) (d .before .before .before .before .before .shared-slice-known .given)) (d .decide-program .ensures) (start .pre .1)
 
 measure-hardened-requires : tie.Need-measure-hardened-requires
-measure-hardened-requires c κs = labelled (c .before .before .before .before)
+measure-hardened-requires c κs = decided (c .before .before)
 
 returns : tie.Need-returns
 returns c =
-    let start = c .before .before .before .before .before .before .before .before .before .before .before .before .before .before .before .before .before .before in
+    let start = c .before .before .before .before .before .before .before .before .before .before .before .before .before .before .before in
     writes-nothing (tableBytes (hardenedTable (tableOf (now (start .args .table))))) (now (start .args .out)) (now (start .args .answer)) (omega (arith, c .before .before .before .before .if1 .taken, c .before .before .before .before .before .before .measure-hardened .ensures .bytesCounted))
     (c .before .before .answer-refusal .ensures .0) (c .before .before .answer-refusal .ensures .1)
 
 write-hardened-requires : tie.Need-write-hardened-requires
 write-hardened-requires c κs =
-    writable (c .before .before .before .before .before .before .before .before .before .before .before .before .before .before .before .before .before .pre .0) (labelled (c .before .before .before .before .before .before .before .before .before .before)) (c .before .before .before .before .before .measure-hardened .ensures) (omega (arith, c .before .before .before .if1 .left))
+    writable (c .before .before .before .before .before .before .before .before .before .before .before .before .before .pre .0) (decided (c .before .before .before .before .before .before .before)) (c .before .before .before .before .measure-hardened .ensures) (omega (arith, c .before .before .if1 .left))
 
 returns-2 : tie.Need-returns-2
 returns-2 c =
-    let start = c .before .before .before .before .before .before .before .before .before .before .before .before .before .before .before .before .before .before .before .before .before .before .before .before in
-    let size = c .before .before .before .before .before .before .before .before .before .before .before .before .measure-hardened .ensures .bytesCounted in
-    writes-all (tableBytes (hardenedTable (tableOf (now (start .args .table))))) (now (start .args .out)) (now (start .args .answer)) (omega (arith, c .before .before .before .before .before .before .before .before .before .before .if1 .left, size)) (c .before .before .before .before .before .before .write-hardened .ensures .stored)
+    let start = c .before .before .before .before .before .before .before .before .before .before .before .before .before .before .before .before .before .before .before .before in
+    let size = c .before .before .before .before .before .before .before .before .before .before .before .measure-hardened .ensures .bytesCounted in
+    writes-all (tableBytes (hardenedTable (tableOf (now (start .args .table))))) (now (start .args .out)) (now (start .args .answer)) (omega (arith, c .before .before .before .before .before .before .before .before .before .if1 .left, size)) (c .before .before .before .before .before .before .write-hardened .ensures .stored)
     (c .before .before .answer-two .ensures ∙ ap (λ k. answered (0 ∷ k ∷ []) (now (start .args .answer))) size)
 
 pub write-masked-spec : {M : Type 1} → statement M
@@ -61,16 +54,13 @@ write-masked-spec =
     tie.close
     (tie.spec
     (λ c. search needs)
-    (λ c. search needs)
-    label-program-requires
+    (λ c κs. search needs)
     sub-root
-    (λ c. search needs)
     (λ c. search needs)
     measure-hardened-requires
     (λ c κs. search needs)
     (λ c. search needs)
     returns
-    (λ c. search needs)
     (λ c. search needs)
     write-hardened-requires
     (λ c κs. search needs)

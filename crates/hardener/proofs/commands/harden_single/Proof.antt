@@ -9,9 +9,8 @@ use Rattle.awhile.specs.declared.Node.{Node}
 use Rattle.awhile.specs.declared.Node.the-variants.{Skip}
 use Rattle.awhile.proofs.Node.{the-type}
 use Rattle.reader.proofs.Index.{Parts}
-use Rattle.analysis.proofs.CommandCases.{unnamedSingle, unnamed-skip}
-use Rattle.analysis.proofs.Nodes.{node-parts}
-use Rattle.hardener.proofs.CommandWrites.{child-noted}
+use Rattle.reader.proofs.NodeKinds.{node-parts, unnamedSingle, unnamed-skip}
+use Rattle.hardener.proofs.CommandWrites.{own-decision}
 use Rattle.hardener.proofs.PartWrites.{skip-asks, skip-wrote, assign-asks, assign-wrote, read-asks, read-wrote, write-asks, write-wrote}
 use borrow.Author.Needs.{needs}
 use Rattle.hardener.proofs.commands.harden_single.Statement.{statement}
@@ -19,10 +18,10 @@ use Rattle.hardener.proofs.commands.harden_single.Tie as tie
 
 module _ (d : tie.After-slice-known) where
   abbrev start : tie.Start
-  start = d .before .before .before .before .before
+  start = d .before .before .before .before
 
   parts : (m : Node) → start .args .node ≡ m → Parts (now (start .args .table)) (start .args .n) m
-  parts = node-parts (slice-bytes (now (start .args .table)) (d .before .before .before .before .shared-slice-known .given)) (start .pre .0 .0 .node .indexed) (start .pre .0 .0 .node .inside) (start .pre .0 .1)
+  parts = node-parts (slice-bytes (now (start .args .table)) (d .before .before .before .shared-slice-known .given)) (start .pre .0 .0 .node .indexed) (start .pre .0 .0 .node .inside) (start .pre .0 .1)
 
   skip : OneOf unnamedSingle (tagOf the-type (start .args .node)) → start .args .node ≡ Skip
   skip o = unnamed-skip (start .args .node) (ap sortOf (start .pre .0 .1) ∙ start .pre .0 .0 .node .isSort) o (start .pre .0 .2)
@@ -32,20 +31,20 @@ harden-single-spec =
     tie.close
     (tie.spec
     (λ c. search needs)
-    (λ c κs. let begin = c .before .before .before .before .before .before .before .before .before in assign-asks (begin .args .flag) (begin .args .from) (begin .pre .0 .0) (begin .pre .1) _ _ (parts (c .before .before .before .before) _ (c .before .before .node .given .1)))
+    (λ c κs. let begin = c .before .before .before .before .before .before .before .before in assign-asks (begin .args .flag) (begin .args .from) (begin .pre .0 .0) (begin .pre .1) _ _ (parts (c .before .before .before .before) _ (c .before .before .node .given .1)))
     (λ c. search needs)
-    (λ c κs. child-noted (c .before .before .before .before .before .before .before .before .pre .0 .0) (parts (c .before .before .before) _ (c .before .node2 .given .1) .2))
-    (λ c κs. child-noted (c .before .before .before .before .before .before .before .before .before .pre .0 .0) (parts (c .before .before .before .before) _ (c .before .before .node2 .given .1) .2))
-    (λ c κs. let begin = c .before .before .before .before .before .before .before .before .before .before .before in read-asks (begin .args .flag) (begin .args .from) (begin .pre .0 .0) (begin .pre .1) _ _ _ (parts (c .before .before .before .before .before .before) _ (c .before .before .before .before .node2 .given .1)) (c .before .before .mask-index .ensures) (c .before .mask-value .ensures))
+    (λ c κs. own-decision (c .before .before .before .before .before .before .before .pre .0 .0))
+    (λ c κs. own-decision (c .before .before .before .before .before .before .before .before .pre .0 .0))
+    (λ c κs. let begin = c .before .before .before .before .before .before .before .before .before .before in read-asks (begin .args .flag) (begin .args .from) (begin .pre .0 .0) (begin .pre .1) _ _ _ (parts (c .before .before .before .before .before .before) _ (c .before .before .before .before .node2 .given .1)) (c .before .before .masks-index .ensures) (c .before .masks-value .ensures))
     (λ c. search needs)
-    (λ c κs. child-noted (c .before .before .before .before .before .before .before .before .pre .0 .0) (parts (c .before .before .before) _ (c .before .node3 .given .1) .1))
-    (λ c κs. let begin = c .before .before .before .before .before .before .before .before .before .before in write-asks (begin .args .flag) (begin .args .from) (begin .pre .0 .0) (begin .pre .1) _ _ _ (parts (c .before .before .before .before .before) _ (c .before .before .before .node3 .given .1)) (c .before .mask-index2 .ensures))
-    (λ c κs. let begin = c .before .before .before .before .before .before .before in skip-asks (begin .args .flag) (begin .args .from) (begin .pre .0 .0) (begin .pre .1) (parts (c .before .before) _ (skip (c .before .before) (c .before .match .keys4))))
+    (λ c κs. own-decision (c .before .before .before .before .before .before .before .pre .0 .0))
+    (λ c κs. let begin = c .before .before .before .before .before .before .before .before .before in write-asks (begin .args .flag) (begin .args .from) (begin .pre .0 .0) (begin .pre .1) _ _ _ (parts (c .before .before .before .before .before) _ (c .before .before .before .node3 .given .1)) (c .before .masks-index2 .ensures))
+    (λ c κs. let begin = c .before .before .before .before .before .before in skip-asks (begin .args .flag) (begin .args .from) (begin .pre .0 .0) (begin .pre .1) (parts (c .before .before) _ (skip (c .before .before) (c .before .match .keys4))))
     (λ c. search needs)
-    (λ c. let begin = c .before .before .before .before .before .before .before .before .before .before .before .before in assign-wrote (begin .args .flag) (begin .args .from) (begin .pre .0 .0) (begin .pre .1) _ _ (parts (c .before .before .before .before .before .before .before) _ (c .before .before .before .before .before .node .given .1)) (c .before .before .harden-assign .ensures))
+    (λ c. let begin = c .before .before .before .before .before .before .before .before .before .before .before in assign-wrote (begin .args .flag) (begin .args .from) (begin .pre .0 .0) (begin .pre .1) _ _ (parts (c .before .before .before .before .before .before .before) _ (c .before .before .before .before .before .node .given .1)) (c .before .before .harden-assign .ensures))
     (λ c. search needs)
-    (λ c. let begin = c .before .before .before .before .before .before .before .before .before .before .before .before .before .before in read-wrote (begin .args .flag) (begin .args .from) (begin .pre .0 .0) (begin .pre .1) _ _ _ (parts (c .before .before .before .before .before .before .before .before .before) _ (c .before .before .before .before .before .before .before .node2 .given .1)) (c .before .before .before .before .before .mask-index .ensures) (c .before .before .before .before .mask-value .ensures) (c .before .before .harden-read .ensures))
+    (λ c. let begin = c .before .before .before .before .before .before .before .before .before .before .before .before .before in read-wrote (begin .args .flag) (begin .args .from) (begin .pre .0 .0) (begin .pre .1) _ _ _ (parts (c .before .before .before .before .before .before .before .before .before) _ (c .before .before .before .before .before .before .before .node2 .given .1)) (c .before .before .before .before .before .masks-index .ensures) (c .before .before .before .before .masks-value .ensures) (c .before .before .harden-read .ensures))
     (λ c. search needs)
-    (λ c. let begin = c .before .before .before .before .before .before .before .before .before .before .before .before .before in write-wrote (begin .args .flag) (begin .args .from) (begin .pre .0 .0) (begin .pre .1) _ _ _ (parts (c .before .before .before .before .before .before .before .before) _ (c .before .before .before .before .before .before .node3 .given .1)) (c .before .before .before .before .mask-index2 .ensures) (c .before .before .harden-write .ensures))
+    (λ c. let begin = c .before .before .before .before .before .before .before .before .before .before .before .before in write-wrote (begin .args .flag) (begin .args .from) (begin .pre .0 .0) (begin .pre .1) _ _ _ (parts (c .before .before .before .before .before .before .before .before) _ (c .before .before .before .before .before .before .node3 .given .1)) (c .before .before .before .before .masks-index2 .ensures) (c .before .before .harden-write .ensures))
     (λ c. search needs)
-    (λ c. let begin = c .before .before .before .before .before .before .before .before .before .before in skip-wrote (begin .args .flag) (begin .args .from) (begin .pre .0 .0) (begin .pre .1) (parts (c .before .before .before .before .before) _ (skip (c .before .before .before .before .before) (c .before .before .before .before .match .keys4))) (c .before .before .append .ensures)))
+    (λ c. let begin = c .before .before .before .before .before .before .before .before .before in skip-wrote (begin .args .flag) (begin .args .from) (begin .pre .0 .0) (begin .pre .1) (parts (c .before .before .before .before .before) _ (skip (c .before .before .before .before .before) (c .before .before .before .before .match .keys4))) (c .before .before .append .ensures)))
