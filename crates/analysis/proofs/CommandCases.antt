@@ -24,20 +24,12 @@ use Rattle.labels.specs.Analysis.{readLabel, writeLabel, analyse}
 use Rattle.labels.specs.Annotation.{entered, annotate}
 use Rattle.variables.specs.Named.{expressionOf, fieldExpressions, expressionsOf}
 use Rattle.variables.proofs.Naming.{numeric-label, truth-label}
-use Rattle.variables.proofs.Nodes.{command-kinds}
+use Rattle.reader.proofs.NodeKinds.{unnamedCommand, unnamedSingle, command-kinds}
 use Rattle.analysis.specs.Notes.{noteIn, secondWord}
 use Rattle.analysis.specs.Warm.{standing, Distinct, InOrder}
 use Rattle.analysis.specs.Conditions.{labelAt, SingleFits, SingleAfter, NoteRoom, Analysable, Analysed, Settleable, SettledLoop}
 use Rattle.analysis.proofs.CommandNotes.{NotedAt, note-stored, distinct-part, alone-analysed}
 use Rattle.analysis.proofs.CommandNotes.{first-in-order, second-in-order, sequence-analysed, if-analysed, loop-ready, while-analysed, while-remembered}
-
--- the kinds of nodes that `analyse` does not name
-abbrev pub unnamedCommand : List ℕ
-unnamedCommand = 0 ∷ 1 ∷ 2 ∷ 3 ∷ 4 ∷ 5 ∷ 6 ∷ 7 ∷ 8 ∷ 9 ∷ 10 ∷ 11 ∷ 12 ∷ 16 ∷ 17 ∷ []
-
--- the kinds of nodes that `after_single` does not name
-abbrev pub unnamedSingle : List ℕ
-unnamedSingle = 0 ∷ 1 ∷ 2 ∷ 3 ∷ 4 ∷ 5 ∷ 6 ∷ 7 ∷ 8 ∷ 9 ∷ 10 ∷ 11 ∷ 13 ∷ 14 ∷ 15 ∷ []
 
 -- the same room, in a slice as long
 pub same-room : {table ns ns′ : List ℕ} → NoteRoom table ns → length ns′ ≡ length ns → NoteRoom table ns′

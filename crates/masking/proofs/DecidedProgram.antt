@@ -16,4 +16,4 @@ module _ {table ds : List ℕ} (decided : Decides table ds) where
   program-hardened = ap (harden (tableOf table .variables)) (decided .program)
 
   pub program-large : MasksLargeConditions (decidedIn table ds (nodesIn table - 1))
-  program-large = subst MasksLargeConditions (sym (decided .program)) (decide-large (annotated (tableOf table)))
+  program-large = subst MasksLargeConditions (sym (decided .program)) (decide-large (annotated (tableOf table) (tableOf table .labels)))

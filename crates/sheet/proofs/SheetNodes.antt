@@ -28,7 +28,7 @@ use Rattle.labels.specs.Sheet.{SheetRecord, commandRecords, recordsAt, entryOf}
 use Rattle.variables.specs.Variables.{meet}
 use Rattle.variables.specs.Named.{expressionOf, fieldExpressions, expressionsOf}
 use Rattle.variables.proofs.Naming.{numeric-label, truth-label}
-use Rattle.variables.proofs.Nodes.{command-kinds}
+use Rattle.reader.proofs.NodeKinds.{command-kinds}
 use Rattle.analysis.specs.Notes.{noteIn, notedProgram}
 use Rattle.analysis.specs.Conditions.{labelAt}
 use Rattle.analysis.specs.Warm.{standing}

@@ -21,7 +21,7 @@ use Rattle.labels.specs.Labellings.{labelOfA, labelOfB}
 use Rattle.variables.specs.Variables.{variablesOfA, variablesOfB, variablesOf, meet}
 use Rattle.variables.specs.Named.{expressionOf, fieldExpressions, expressionsOf, namedAt, NamedBelow, Named, Names}
 use Rattle.variables.proofs.MaskMeets.{label-meets-A, label-meets-B}
-use Rattle.variables.proofs.Nodes.{command-kinds}
+use Rattle.reader.proofs.NodeKinds.{command-kinds}
 
 -- ---- the variables of a node by its sort
 module _ {table index : List ℕ} (bytes : Below 256 table) {n : ℕ} where

@@ -16,11 +16,11 @@ use Rattle.masking.proofs.deciding.decide_all.Statement.{statement}
 use Rattle.masking.proofs.deciding.decide_all.Tie as tie
 
 abbrev Inv-loop : tie.InvT-loop
-Inv-loop table index variables arrays count decisions₀ n₀ decisions n =
-    (n ≤ count) × (length decisions ≡ length decisions₀) × DecidedBelow table variables arrays decisions n
+Inv-loop table index named notes count decisions₀ n₀ decisions n =
+    (n ≤ count) × (length decisions ≡ length decisions₀) × DecidedBelow table notes decisions n
 
 abbrev μ-loop : tie.MeasureT-loop
-μ-loop table index variables arrays count decisions₀ n₀ decisions n = count - n
+μ-loop table index named notes count decisions₀ n₀ decisions n = count - n
 
 loop-holds : tie.Need-loop-holds Inv-loop μ-loop
 loop-holds c = (omega arith, refl, record { each = λ k h s. absurd (omega arith) })
@@ -36,7 +36,8 @@ decide-command-requires c κs =
         inside = omega (arith, c .before .before .loop-test .taken, start .pre .1);
         isSort = sameSort-true (sortOf (nodeIn (now (start .args .table)) (c .before .before .before .loop .n))) Command (sym (c .before .is-command .ensures) ∙ c .if1 .taken);
       },
-      start .pre .0 .notes,
+      start .pre .0 .names,
+      start .pre .0 .notesFit,
     )
 
 slice-write-decisions : tie.Need-slice-write-decisions Inv-loop μ-loop

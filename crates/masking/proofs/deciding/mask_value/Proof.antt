@@ -1,38 +1,45 @@
 -- `mask_value` is the decision on a read.
+use mathlib.Core.Bool.{Bool}
+use mathlib.Core.Path.{_≡_, ap, _∙_}
 use denote.Ref.{now}
-use Rattle.reader.specs.Index.{numericIn}
-use Rattle.masking.proofs.NotedLabels.{noted-asks, index-secret, array-secret, both-public}
+use Prim.Native.Nat.{ℕ}
+use mathlib.Core.List.{List}
+use Rattle.awhile.specs.declared.Labelling.{Labelling}
+use Rattle.labels.specs.Labellings.{arrayMark, labelOf}
+use Rattle.analysis.specs.Conditions.{labelAt}
+use Rattle.analysis.specs.Notes.{noteIn}
+use Rattle.masking.proofs.NotedLabels.{index-secret, array-secret, both-public}
 use borrow.Author.Needs.{needs}
 use Rattle.masking.proofs.deciding.mask_value.Statement.{statement}
 use Rattle.masking.proofs.deciding.mask_value.Tie as tie
 
-returns : tie.Need-returns
-returns c =
-    let s = c .before .before .before .before .before .before .before in
-    index-secret (now (s .args .variables)) (now (s .args .arrays)) (s .args .at) (s .args .array) (numericIn (now (s .args .table)) (s .args .place))
-    (c .before .before .noted-labelling .ensures) (c .before .numeric-label .ensures) (c .if1 .taken)
+-- labels found under the labelling that was noted
+index-noted : {l m : Labelling} (named : List ℕ) (e : ℕ) {b : Bool} → l ≡ m → b ≡ labelAt named l e → b ≡ labelAt named m e
+index-noted named e p q = q ∙ ap (λ k. labelAt named k e) p
 
-returns-2 : tie.Need-returns-2
-returns-2 c =
-    let s = c .before .before .before .before .before .before .before .before .before in
-    array-secret (now (s .args .variables)) (now (s .args .arrays)) (s .args .at) (s .args .array) (numericIn (now (s .args .table)) (s .args .place))
-    (c .before .before .before .before .noted-labelling .ensures) (c .before .before .before .numeric-label .ensures) (c .before .before .if1 .left) (c .before .array-label .ensures) (c .if2 .taken)
+array-noted : {l m : Labelling} (a : ℕ) {b : Bool} → l ≡ m → b ≡ labelOf l (arrayMark a) → b ≡ labelOf m (arrayMark a)
+array-noted a p q = q ∙ ap (λ k. labelOf k (arrayMark a)) p
 
 returns-3 : tie.Need-returns-3
 returns-3 c =
-    let s = c .before .before .before .before .before .before .before .before .before .before in
-    both-public (now (s .args .variables)) (now (s .args .arrays)) (s .args .at) (s .args .array) (numericIn (now (s .args .table)) (s .args .place))
-    (c .before .before .before .before .before .noted-labelling .ensures) (c .before .before .before .before .numeric-label .ensures) (c .before .before .before .if1 .left)
-    (c .before .before .array-label .ensures) (c .before .if2 .left) (c .noted-context .ensures)
+    let args = c .before .before .before .before .before .before .before .before .args in
+    let noted = c .before .before .before .before .before .noted-labelling .ensures in
+    both-public (labelOf (noteIn (now (args .notes)) (args .at) .labelling) (arrayMark (args .array))) (noteIn (now (args .notes)) (args .at) .context)
+    (index-noted (now (args .named)) (args .cell) noted (c .before .before .before .before .named-label .ensures)) (c .before .before .before .if1 .left) (array-noted (args .array) noted (c .before .before .array-label .ensures)) (c .before .if2 .left) (c .noted-context .ensures)
 
 pub mask-value-spec : {M : Type 1} → statement M
 mask-value-spec =
     tie.close
     (tie.spec
-    (λ c κs. noted-asks (c .before .before .before .before .pre))
     (λ c κs. search needs)
-    returns
     (λ c κs. search needs)
-    returns-2
+    (λ c. let args = c .before .before .before .before .before .args in
+    index-secret (labelOf (noteIn (now (args .notes)) (args .at) .labelling) (arrayMark (args .array))) (noteIn (now (args .notes)) (args .at) .context)
+    (index-noted (now (args .named)) (args .cell) (c .before .before .noted-labelling .ensures) (c .before .named-label .ensures)) (c .if1 .taken))
+    (λ c κs. search needs)
+    (λ c. let args = c .before .before .before .before .before .before .before .args in
+    let noted = c .before .before .before .before .noted-labelling .ensures in
+    array-secret (labelOf (noteIn (now (args .notes)) (args .at) .labelling) (arrayMark (args .array))) (noteIn (now (args .notes)) (args .at) .context)
+    (index-noted (now (args .named)) (args .cell) noted (c .before .before .before .named-label .ensures)) (c .before .before .if1 .left) (array-noted (args .array) noted (c .before .array-label .ensures)) (c .if2 .taken))
     (λ c κs. search needs)
     returns-3)

@@ -15,7 +15,7 @@ use Rattle.awhile.proofs.Node.{the-type}
 use Rattle.reader.specs.Index.{nodesIn, OfSort}
 use Rattle.reader.proofs.Index.{Child, Parts, child-of-sort}
 use Rattle.variables.specs.Named.{expressionOf, fieldExpressions, expressionsOf}
-use Rattle.variables.proofs.Nodes.{node-parts}
+use Rattle.reader.proofs.NodeKinds.{node-parts}
 use Rattle.variables.proofs.Naming.{holdsNone, names-none, names-one, names-two, none-held}
 use borrow.Author.Needs.{needs}
 use Rattle.variables.proofs.collecting.name_command.Statement.{statement}

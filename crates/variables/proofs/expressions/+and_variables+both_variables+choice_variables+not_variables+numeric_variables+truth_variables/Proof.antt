@@ -12,7 +12,8 @@ use Rattle.awhile.specs.declared.Node.{Node}
 use Rattle.reader.specs.Index.{Indexed, tableOf}
 use Rattle.reader.proofs.Index.{Parts, indexed-well-formed}
 use Rattle.variables.specs.Variables.{variablesOfA, variablesOfB}
-use Rattle.variables.proofs.Nodes.{node-parts, call-child, call-pair, call-choice}
+use Rattle.reader.proofs.NodeKinds.{node-parts}
+use Rattle.variables.proofs.Nodes.{call-child, call-pair, call-choice}
 use Rattle.variables.proofs.ExpressionNodes.{number-names-none, constant-names-none}
 use borrow.Fn.Kinds.{PK, In}
 use borrow.Fn.PlainCycle.{Measures, is, falls, and}
