@@ -1,7 +1,7 @@
 -- The analysis in code, by the kind of a node: what its parts require, and what it leaves.
 use Prim.Native.Nat.{ℕ, _+_, _*_, _≤_, _<_}
 use mathlib.Core.Bool.{Bool, cond, _||_}
-use mathlib.Core.List.{List, [], _∷_, flatMap, List·Memᴰ, List·Memᴰ·head, List·Memᴰ·tail}
+use mathlib.Core.List.{List, flatMap, List·Memᴰ, List·Memᴰ·head, List·Memᴰ·tail}
 use mathlib.Core.Path.{_≡_, refl, sym, ap, ap₂, subst, _∙_}
 use native.Mathlib.Omega.{arith}
 use denote.Enum.Declared.{tagOf}
@@ -9,7 +9,7 @@ use types.Run.{OneOf, miss}
 use lib.Dec.{eqb}
 use lib.ListN.{length, set}
 use Rattle.bytes_le.proofs.Numbers.{Below}
-use Rattle.reader.specs.Index.{tableOf, nodesIn, nodeIn, numericIn, truthIn, commandIn, OfSort}
+use Rattle.reader.specs.Index.{tableOf, nodeIn, numericIn, truthIn, commandIn}
 use Rattle.awhile.specs.Language.{skip, assign, sequence, if, while, read, write}
 use Rattle.awhile.specs.Nodes.{form, sortOf}
 use Rattle.awhile.specs.WellFormed.{Declared}

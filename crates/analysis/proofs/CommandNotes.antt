@@ -2,7 +2,7 @@
 use Prim.Native.Nat.{ℕ, _+_, _*_, _/_, _%_, _≤_, _<_}
 use mathlib.Core.Bool.{Bool, true, false, cond, _||_}
 use mathlib.Core.List.{List}
-use mathlib.Core.Path.{_≡_, refl, sym, ap, ap₂, subst, _∙_}
+use mathlib.Core.Path.{_≡_, refl, ap, ap₂, subst, _∙_}
 use native.Mathlib.Omega.{arith}
 use lib.Dec.{eqb}
 use lib.ListN.{length, getD, set, length-set}
@@ -14,7 +14,7 @@ use Rattle.labels.specs.Labellings.{labelOfB, join, _⊑_}
 use Rattle.labels.specs.Analysis.{analyse}
 use Rattle.labels.specs.Annotation.{Entry, entered, annotate}
 use Rattle.analysis.specs.Notes.{noteIn, secondWord, Noted}
-use Rattle.analysis.specs.Warm.{standing, Distinct, Outside, keptIn, InOrder}
+use Rattle.analysis.specs.Warm.{standing, Distinct, keptIn, InOrder}
 use Rattle.analysis.specs.Conditions.{Analysed, SettledLoop}
 use Rattle.labels.proofs.Masks.{digit-small}
 use Rattle.analysis.proofs.Warm.{SameOn, outside-same, body-in-order, in-order-same, noted-same, noted-note, remembered-noted}

@@ -53,7 +53,7 @@ module _ {table index named ns : List ℕ} (bytes : Below 256 table) (h : Fresh 
         record { notesFit = same-room (h .notesFit) e; notes = rw (indexed-root table index bytes (h .indexed)) (a .notes) }
 
 -- every element of zeros is zero
-zero-at : (room p : ℕ) → getD {A = ℕ} (replicate room 0) p 0 ≡ 0
+pub zero-at : (room p : ℕ) → getD {A = ℕ} (replicate room 0) p 0 ≡ 0
 zero-at zero p = refl
 zero-at (suc room) zero = refl
 zero-at (suc room) (suc p) = zero-at room p

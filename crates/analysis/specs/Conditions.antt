@@ -9,14 +9,14 @@ use Rattle.awhile.specs.Language.{BExp, Com, while, noteOf}
 use Rattle.awhile.specs.declared.Labelling.{Labelling}
 use Rattle.awhile.specs.declared.Node.{Node}
 use Rattle.awhile.specs.declared.Node.the-variants.{Skip, Assign, Read, Write}
-use Rattle.awhile.specs.declared.Sort.the-variants.{Truth, Command}
+use Rattle.awhile.specs.declared.Sort.the-variants.{Command}
 use Rattle.labels.specs.Labellings.{variableMark, arrayMark, labelOf, setLabel, labelOfB, join, _⊑_}
 use Rattle.labels.specs.Analysis.{analyse}
 use Rattle.labels.specs.Annotation.{annotate}
 use Rattle.labels.specs.Sheet.{annotated}
 use Rattle.variables.specs.Variables.{meet}
 use Rattle.variables.specs.Named.{Named}
-use Rattle.analysis.specs.Notes.{noteIn, Noted}
+use Rattle.analysis.specs.Notes.{Noted}
 use Rattle.analysis.specs.Warm.{Distinct, Outside, keptIn, InOrder}
 
 -- ---- commands without parts, by what is named for their expressions

@@ -1,10 +1,10 @@
 -- What the reader's answer is worth to an entry that writes into a buffer.
-use Prim.Native.Nat.{ℕ, _≤_, _<_}
+use Prim.Native.Nat.{ℕ, _*_, _≤_, _<_}
 use native.Mathlib.Nat.{zero-add}
 use native.Mathlib.Omega.{arith}
 use mathlib.Core.Path.{_≡_, refl, sym, ap, _∙_}
 use mathlib.Core.List.{List, [], _∷_}
-use lib.ListN.{length}
+use lib.ListN.{length, replicate, length-replicate}
 use lib.Seq.{sets, sets-eq}
 use borrow.Author.Tests.{le-leb, lt-leb}
 use Rattle.reader.specs.Index.{Indexed, tableOf, nodesIn, Answers, isRejected, isNotATree, isAccepted, acceptedAs}
@@ -19,7 +19,8 @@ use Rattle.machine.specs.Memory.{writtenOver}
 use Rattle.entries.specs.Answers.{answered, refusalNumbers, tableIn}
 use Rattle.entries.specs.Writing.{Written, notWritten, writtenAll, writing}
 use Rattle.entries.specs.Promises.{Placed, WritesAs}
-use Rattle.flow.specs.Writes.{Writes}
+use Rattle.flow.specs.Writes.{Writes, LabelReady}
+use Rattle.analysis.proofs.WholeProgram.{zero-at}
 use Rattle.entries.proofs.Written.{table-in}
 
 -- ---- a buffer and what is to be written
@@ -111,3 +112,15 @@ unfolding acceptedAs nodesIn
 reader-accepts s index found v a n c l e (isRejected q r h) f = absurd (let z : _≡_ {A = ℕ} 0 1 = cc in omega arith)
 reader-accepts s index found v a n c l e (isNotATree t place r b h) f = absurd (let z : _≡_ {A = ℕ} 0 1 = cc in omega arith)
 reader-accepts s index found v a n c l e (isAccepted i h) f = record { indexed = i; isNodes = cc; isLabels = cc }
+
+-- memory that was just made is ready for labelling
+pub label-ready : {table index : List ℕ} {nodes : ℕ} (room words : ℕ) → Indexed table index → nodes ≡ nodesIn table → nodesIn table ≤ room → 2 * nodesIn table ≤ words
+    → LabelReady table index (replicate room 0) (replicate words 0) nodes
+label-ready room words i e h k =
+    record {
+      indexed = i;
+      isNodes = e;
+      namedFit = rw (length-replicate {A = ℕ} room 0) h;
+      notesFit = record { room = rw (length-replicate {A = ℕ} words 0) k };
+      zeros = zero-at words;
+    }

@@ -3,13 +3,14 @@ use Prim.Native.Nat.{ℕ, _+_, _≤_, _<_}
 use mathlib.Core.Bool.{cond}
 use mathlib.Core.List.{List}
 use mathlib.Core.Path.{_≡_}
-use lib.ListN.{length}
+use lib.ListN.{length, getD}
 use lib.Seq.{sets}
 use lib.Dec.{leb}
 use Rattle.bytes_le.specs.Numbers.{le}
 use Rattle.awhile.specs.Tables.{maxVariables}
 use Rattle.awhile.specs.declared.Labelling.{Labelling}
 use Rattle.reader.specs.Index.{Indexed, tableOf, nodesIn}
+use Rattle.analysis.specs.Conditions.{NoteRoom}
 use Rattle.masks.specs.Hardening.{maxHardened}
 use Rattle.entries.specs.Writing.{Written}
 
@@ -43,3 +44,11 @@ pub record DecideReady (table index : List ℕ) (nodes : ℕ) (labels : Labellin
   pub isLabels : labels ≡ tableOf table .labels
   pub few : nodesIn table ≤ maxHardened
   pub room : nodesIn table ≤ length decisions
+
+-- what labelling a table that was read requires: its index, and memory for its expressions' variables and for notes that are all zero
+pub record LabelReady (table index named notes : List ℕ) (nodes : ℕ) : Type 0 where
+  pub indexed : Indexed table index
+  pub isNodes : nodes ≡ nodesIn table
+  pub namedFit : nodesIn table ≤ length named
+  pub notesFit : NoteRoom table notes
+  pub zeros : (p : ℕ) → getD notes p 0 ≡ 0

@@ -11,6 +11,7 @@ use hardener::tables::write_hardened;
 use masking::deciding::decide_all;
 use reader::Read;
 use reader::tables::read;
+use variables::collecting::name_all;
 ghost use Rattle.awhile.specs.Encoding.{tableBytes};
 ghost use Rattle.reader.specs.Index.{tableOf};
 ghost use Rattle.awhile.specs.Refusals.{got};
@@ -24,6 +25,9 @@ ghost use Rattle.entries.specs.Writing.{writing, hardenedIn};
 // The most nodes that are hardened: eight come out per node at most, and a table has no more than MAX_NODES.
 const MAX_HARDENED: usize = 512;
 
+// The analysis notes two words for each of them.
+const NOTE_WORDS: usize = 1024;
+
 // Labels a table that was read, and decides what is masked in it. The notes of the analysis are needed only here.
 fn decide_program(
     table: &[u8],
@@ -35,24 +39,11 @@ fn decide_program(
     requires { ⌜ DecideReady (now table) (now index) nodes labels (now decisions) ⌝ }
     ensures { λ _. ⌜ Decides (now (table .entry)) (now (decisions .exit)) ⌝ }
 {
-    let mut variable_notes = [0u64; MAX_HARDENED];
-    let mut array_notes = [0u32; MAX_HARDENED];
-    label_program(
-        table,
-        index,
-        &mut variable_notes,
-        &mut array_notes,
-        nodes,
-        labels,
-    );
-    decide_all(
-        table,
-        index,
-        &variable_notes,
-        &array_notes,
-        nodes,
-        &mut *decisions,
-    );
+    let mut named = [0u64; MAX_HARDENED];
+    let mut notes = [0u64; NOTE_WORDS];
+    name_all(table, index, nodes, &mut named);
+    label_program(table, index, &named, &mut notes, nodes, labels);
+    decide_all(table, index, &named, &notes, nodes, &mut *decisions);
 }
 
 // Decides on a table that was read, and writes its hardened form, if there is room for it.

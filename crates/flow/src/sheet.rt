@@ -2,103 +2,105 @@
 use crate::answer::answer_refusal;
 use crate::answer::answer_two;
 use analysis::program::label_program;
-use analysis::sheet::sheet_size;
-use analysis::sheet::write_sheet;
 use awhile::Labelling;
 use awhile::MAX_NODES;
 use awhile::Refusal;
 use reader::Read;
 use reader::tables::read;
+use sheets::sheet::sheet_fits;
+use sheets::sheet::write_sheet;
+use variables::collecting::name_all;
 ghost use Prim.Native.Nat.{_≤_};
 ghost use mathlib.Core.Path.{_≡_};
-ghost use lib.ListN.{length};
-ghost use lib.Seq.{sets};
+ghost use Rattle.awhile.specs.Refusals.{got};
 ghost use Rattle.reader.specs.Index.{Indexed, tableOf, nodesIn};
 ghost use Rattle.labels.specs.Sheet.{sheetBytes};
-ghost use Rattle.analysis.specs.Conditions.{Fresh};
 ghost use Rattle.entries.specs.Promises.{Sheets};
-ghost use Rattle.flow.specs.Writes.{Writes};
-ghost use Rattle.awhile.specs.Refusals.{got};
 ghost use Rattle.entries.specs.Writing.{writing};
+ghost use Rattle.flow.specs.Writes.{Writes, LabelReady};
 
-// A table with no more nodes is small.
+// A table with no more nodes is small. To clear notes for all nodes that a table can have takes longer than to label a small table.
 const FEW_NODES: usize = 512;
 
-// Labels a table that was read, on notes that are all zero, and writes its sheet, for which there is room.
-fn write_noted(
+const FEW_NOTES: usize = 1024;
+
+const MAX_NOTES: usize = 8192;
+
+// Labels a table that was read, in memory that is all zero, and writes its sheet, if there is room for it.
+fn sheet_in(
     table: &[u8],
     index: &[u16],
-    variables: &mut [u64],
-    arrays: &mut [u32],
+    named: &mut [u64],
+    notes: &mut [u64],
     nodes: usize,
     labels: Labelling,
     sheet: &mut [u8],
-)
-    requires { ⌜ Fresh (now table) (now index) (now variables) (now arrays) × (nodes ≡ nodesIn (now table)) × (labels ≡ tableOf (now table) .labels)
-        × (length (sheetBytes (tableOf (now table))) ≤ length (now sheet)) ⌝ }
-    ensures { λ _. ⌜ now (sheet .exit) ≡ sets (now (sheet .entry)) 0 (sheetBytes (tableOf (now (table .entry)))) ⌝ }
+    answer: &mut [u8],
+) -> u64
+    requires { ⌜ LabelReady (now table) (now index) (now named) (now notes) nodes ⌝ }
+    ensures { λ r. ⌜ Writes (writing (got (sheetBytes (tableOf (now (table .entry))) labels)) (now (sheet .entry)) (now (answer .entry))) r (now (sheet .exit)) (now (answer .exit)) ⌝ }
 {
-    let masks = label_program(table, index, &mut *variables, &mut *arrays, nodes, labels);
-    write_sheet(
-        table,
-        index,
-        &*variables,
-        &*arrays,
-        nodes,
-        masks,
-        &mut *sheet,
-    );
-}
-
-// The same with notes for few nodes. To clear the notes for all nodes that a table can have takes longer than to label a small table.
-fn write_few(table: &[u8], index: &[u16], nodes: usize, labels: Labelling, sheet: &mut [u8])
-    requires { ⌜ Indexed (now table) (now index) × (nodes ≡ nodesIn (now table)) × (labels ≡ tableOf (now table) .labels)
-        × (length (sheetBytes (tableOf (now table))) ≤ length (now sheet)) × (nodes ≤ 512) ⌝ }
-    ensures { λ _. ⌜ now (sheet .exit) ≡ sets (now (sheet .entry)) 0 (sheetBytes (tableOf (now (table .entry)))) ⌝ }
-{
-    let mut variables = [0u64; FEW_NODES];
-    let mut arrays = [0u32; FEW_NODES];
-    write_noted(
-        table,
-        index,
-        &mut variables,
-        &mut arrays,
-        nodes,
-        labels,
-        &mut *sheet,
-    );
-}
-
-// The same with notes for all nodes that a table can have.
-fn write_many(table: &[u8], index: &[u16], nodes: usize, labels: Labelling, sheet: &mut [u8])
-    requires { ⌜ Indexed (now table) (now index) × (nodes ≡ nodesIn (now table)) × (labels ≡ tableOf (now table) .labels)
-        × (length (sheetBytes (tableOf (now table))) ≤ length (now sheet)) ⌝ }
-    ensures { λ _. ⌜ now (sheet .exit) ≡ sets (now (sheet .entry)) 0 (sheetBytes (tableOf (now (table .entry)))) ⌝ }
-{
-    let mut variables = [0u64; MAX_NODES];
-    let mut arrays = [0u32; MAX_NODES];
-    write_noted(
-        table,
-        index,
-        &mut variables,
-        &mut arrays,
-        nodes,
-        labels,
-        &mut *sheet,
-    );
-}
-
-// Labels a table that was read, and writes its sheet, for which there is room.
-fn write_labels(table: &[u8], index: &[u16], nodes: usize, labels: Labelling, sheet: &mut [u8])
-    requires { ⌜ Indexed (now table) (now index) × (nodes ≡ nodesIn (now table)) × (labels ≡ tableOf (now table) .labels)
-        × (length (sheetBytes (tableOf (now table))) ≤ length (now sheet)) ⌝ }
-    ensures { λ _. ⌜ now (sheet .exit) ≡ sets (now (sheet .entry)) 0 (sheetBytes (tableOf (now (table .entry)))) ⌝ }
-{
-    if nodes <= FEW_NODES {
-        write_few(table, index, nodes, labels, &mut *sheet);
-    } else {
-        write_many(table, index, nodes, labels, &mut *sheet);
+    name_all(table, index, nodes, &mut *named);
+    let masks = label_program(table, index, &*named, &mut *notes, nodes, labels);
+    let room = sheet.len();
+    if sheet_fits(table, index, &*named, &*notes, nodes, room) {
+        let size = write_sheet(table, index, &*named, &*notes, nodes, masks, &mut *sheet);
+        answer_two(&mut *answer, 0, size as u64);
+        return 0;
     }
+    answer_refusal(&mut *answer, Refusal::ShortBuffer)
+}
+
+// The sheet of a small table.
+fn sheet_of_few(
+    table: &[u8],
+    index: &[u16],
+    nodes: usize,
+    labels: Labelling,
+    sheet: &mut [u8],
+    answer: &mut [u8],
+) -> u64
+    requires { ⌜ Indexed (now table) (now index) × (nodes ≡ nodesIn (now table)) × (nodes ≤ 512) ⌝ }
+    ensures { λ r. ⌜ Writes (writing (got (sheetBytes (tableOf (now (table .entry))) labels)) (now (sheet .entry)) (now (answer .entry))) r (now (sheet .exit)) (now (answer .exit)) ⌝ }
+{
+    let mut named = [0u64; FEW_NODES];
+    let mut notes = [0u64; FEW_NOTES];
+    sheet_in(
+        table,
+        index,
+        &mut named,
+        &mut notes,
+        nodes,
+        labels,
+        &mut *sheet,
+        &mut *answer,
+    )
+}
+
+// The sheet of any table.
+fn sheet_of_many(
+    table: &[u8],
+    index: &[u16],
+    nodes: usize,
+    labels: Labelling,
+    sheet: &mut [u8],
+    answer: &mut [u8],
+) -> u64
+    requires { ⌜ Indexed (now table) (now index) × (nodes ≡ nodesIn (now table)) ⌝ }
+    ensures { λ r. ⌜ Writes (writing (got (sheetBytes (tableOf (now (table .entry))) labels)) (now (sheet .entry)) (now (answer .entry))) r (now (sheet .exit)) (now (answer .exit)) ⌝ }
+{
+    let mut named = [0u64; MAX_NODES];
+    let mut notes = [0u64; MAX_NOTES];
+    sheet_in(
+        table,
+        index,
+        &mut named,
+        &mut notes,
+        nodes,
+        labels,
+        &mut *sheet,
+        &mut *answer,
+    )
 }
 
 // The answer for a table that was read: its sheet, if there is room for it.
@@ -110,16 +112,13 @@ fn answer_sheet(
     sheet: &mut [u8],
     answer: &mut [u8],
 ) -> u64
-    requires { ⌜ Indexed (now table) (now index) × (nodes ≡ nodesIn (now table)) × (labels ≡ tableOf (now table) .labels) ⌝ }
-    ensures { λ r. ⌜ Writes (writing (got (sheetBytes (tableOf (now (table .entry))))) (now (sheet .entry)) (now (answer .entry))) r (now (sheet .exit)) (now (answer .exit)) ⌝ }
+    requires { ⌜ Indexed (now table) (now index) × (nodes ≡ nodesIn (now table)) ⌝ }
+    ensures { λ r. ⌜ Writes (writing (got (sheetBytes (tableOf (now (table .entry))) labels)) (now (sheet .entry)) (now (answer .entry))) r (now (sheet .exit)) (now (answer .exit)) ⌝ }
 {
-    let size = sheet_size(table, index, nodes);
-    if sheet.len() < size {
-        return answer_refusal(&mut *answer, Refusal::ShortBuffer);
+    if nodes <= FEW_NODES {
+        return sheet_of_few(table, index, nodes, labels, &mut *sheet, &mut *answer);
     }
-    write_labels(table, index, nodes, labels, &mut *sheet);
-    answer_two(&mut *answer, 0, size as u64);
-    0
+    sheet_of_many(table, index, nodes, labels, &mut *sheet, &mut *answer)
 }
 
 // Writes the label sheet of a table into a lent buffer.

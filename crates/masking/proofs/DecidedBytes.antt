@@ -15,7 +15,6 @@ use Rattle.bytes_le.proofs.Numbers.{Below}
 use Rattle.awhile.specs.Language.{Com, skip, assign, sequence, if, while, read, write, noteOf, mapNotes}
 use Rattle.awhile.specs.Nodes.{form, sortOf, sameSort}
 use Rattle.awhile.specs.declared.Labelling.{Labelling}
-use Rattle.awhile.specs.Trees.{rootOf}
 use Rattle.awhile.specs.declared.Node.{Node}
 use Rattle.awhile.specs.declared.Node.the-variants.{If, While, Read, Write}
 use Rattle.awhile.specs.declared.Sort.{Sort}

@@ -6,7 +6,7 @@ use awhile::Node;
 use reader::lookup::command_at;
 use reader::lookup::is_command;
 use variables::meeting::named_label;
-ghost use Prim.Native.Nat.{_+_, _*_, _≤_, _<_};
+ghost use Prim.Native.Nat.{_+_, _*_, _<_};
 ghost use mathlib.Core.Bool.{cond, _||_};
 ghost use mathlib.Core.Bool.{not as negated};
 ghost use mathlib.Core.Path.{_≡_};

@@ -1,5 +1,5 @@
 -- What is noted of a table's expressions: one after the other, until those of all commands are.
-use Prim.Native.Nat.{ℕ, _+_, _<_, _≤_}
+use Prim.Native.Nat.{ℕ, _+_, _<_}
 use native.Mathlib.Decide.{ℕ-discrete}
 use native.Mathlib.Omega.{arith}
 use denote.Enum.Declared.{tagOf}
@@ -15,7 +15,7 @@ use Rattle.awhile.specs.declared.Node.{Node}
 use Rattle.awhile.proofs.Node.{the-type}
 use Rattle.awhile.specs.declared.Labelling.{Labelling}
 use Rattle.awhile.specs.declared.Sort.the-variants.{Numeric, Truth, Command}
-use Rattle.reader.specs.Index.{Indexed, nodesIn, nodeIn, numericIn, truthIn, OfSort}
+use Rattle.reader.specs.Index.{nodeIn, numericIn, truthIn, OfSort}
 use Rattle.reader.proofs.Index.{indexed-numeric, indexed-truth}
 use Rattle.labels.specs.Labellings.{labelOfA, labelOfB}
 use Rattle.variables.specs.Variables.{variablesOfA, variablesOfB, variablesOf, meet}

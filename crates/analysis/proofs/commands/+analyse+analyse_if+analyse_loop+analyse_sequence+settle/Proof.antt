@@ -1,21 +1,17 @@
 -- The analysis of commands: the answer and the notes of each are built from those of its parts, and a loop's passes settle.
 use borrow.Author.Needs.{needs}
 use denote.Ref.{now}
-use mathlib.Core.Bool.{Bool, _||_}
-use mathlib.Core.Path.{_≡_, refl, sym, ap, subst, _∙_}
+use mathlib.Core.Bool.{_||_}
+use mathlib.Core.Path.{_≡_, sym, ap, _∙_}
 use native.Mathlib.Omega.{arith}
 use Rattle.bytes_le.proofs.Numbers.{Below, slice-bytes}
-use Rattle.awhile.specs.Language.{while, noteOf}
 use Rattle.awhile.specs.Nodes.{sortOf}
-use Rattle.awhile.specs.declared.Labelling.{Labelling}
-use Rattle.reader.specs.Index.{nodeIn, truthIn, commandIn}
+use Rattle.reader.specs.Index.{truthIn, commandIn}
 use Rattle.reader.proofs.Index.{indexed-note}
-use Rattle.labels.specs.Analysis.{analyse as analyseOf}
 use Rattle.labels.specs.Labellings.{labelOfB, join}
 use Rattle.labels.specs.Rules.{publicAmong, declaredMarks, Within}
 use Rattle.analysis.specs.Notes.{noteIn}
 use Rattle.analysis.specs.Warm.{keptIn}
-use Rattle.analysis.specs.Conditions.{NoteRoom, Analysable, Analysed}
 use Rattle.analysis.proofs.CommandNotes.{NotedAt}
 use Rattle.analysis.proofs.CommandCases.{own-room, entry-noted, single-fits, single-answers, single-analysed, same-room}
 use Rattle.analysis.proofs.CommandCases.{sequence-first, sequence-second, sequence-left, if-named, if-first, if-second, if-left}

@@ -1,8 +1,5 @@
 -- `after_single` sets the label that the command sets.
-use mathlib.Core.Path.{_≡_, refl, sym, ap, subst, _∙_}
 use denote.Ref.{now}
-use Prim.Native.Nat.{ℕ}
-use native.Mathlib.Omega.{arith}
 use Rattle.analysis.proofs.CommandCases.{unnamed-after, assign-after, read-after, write-after}
 use borrow.Author.Needs.{needs}
 use Rattle.analysis.proofs.commands.after_single.Statement.{statement}

@@ -1,7 +1,6 @@
 -- `noted_as` compares both words with what `note` would store.
 use mathlib.Core.Bool.{true≢false}
-use mathlib.Core.Path.{_≡_, sym, _∙_}
-use native.Mathlib.Omega.{arith}
+use mathlib.Core.Path.{sym, _∙_}
 use borrow.Author.Tests.{eqb-true}
 use denote.Ref.{now}
 use Rattle.analysis.specs.Notes.{secondWord}

@@ -8,24 +8,21 @@ use borrow.Author.Needs.{needs}
 use Rattle.flow.proofs.harden.decide_program.Statement.{statement}
 use Rattle.flow.proofs.harden.decide_program.Tie as tie
 
-label-program-requires : tie.Need-label-program-requires
-label-program-requires c κs =
-    let ready = c .before .before .before .before .before .pre in
-    (fresh-zeros 512 (ready .indexed) (ready .few), ready .isNodes, ready .isLabels)
-
 returns : tie.Need-returns
 returns c =
-    let start = c .before .before .before .before .before .before .before .before .before .before .before .before .before .before in
-    let bytes = slice-bytes (now (start .args .table)) (c .before .before .before .before .before .before .before .before .before .before .before .before .before .shared-slice-known .given) in
-    all-decided bytes (start .pre .indexed) (c .before .before .decide-all .ensures) (omega (arith, start .pre .room, c .before .before .decide-all .kept)) (c .before .before .before .before .before .before .before .before .label-program .ensures .1 .notes)
+    let start = c .before .before .before .before .before .before .before .before .before .before .before .before .before .before .before .before in
+    let bytes = slice-bytes (now (start .args .table)) (c .before .before .before .before .before .before .before .before .before .before .before .before .before .before .before .shared-slice-known .given) in
+    all-decided bytes (start .pre .indexed) (c .before .before .decide-all .ensures) (omega (arith, start .pre .room, c .before .before .decide-all .kept)) (rw (start .pre .isLabels) at (c .before .before .before .before .before .before .before .label-program .ensures .1))
 
 pub decide-program-spec : {M : Type 1} → statement M
 decide-program-spec =
     tie.close
     (tie.spec
     (λ c. search needs)
+    (λ c κs. search needs)
     (λ c. search needs)
-    label-program-requires
+    (λ c. search needs)
+    (λ c κs. let ready = c .before .before .before .before .before .before .before .before .pre in (fresh-zeros 1024 (ready .indexed) (c .before .before .before .name-all .ensures) (omega (arith, ready .few)), ready .isNodes))
     (λ c. search needs)
     (λ c. search needs)
     (λ c κs. search needs)

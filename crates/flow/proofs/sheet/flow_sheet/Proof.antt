@@ -22,13 +22,13 @@ accepts d v a n c l e h =
 answer-sheet-requires : tie.Need-answer-sheet-requires
 answer-sheet-requires c κs =
     let a = accepts (c .before .before .before .before .before .before .before) _ _ _ _ _ _ (c .before .before .before .before .found2 .given .1) in
-    (a .indexed, a .isNodes, a .isLabels)
+    (a .indexed, a .isNodes)
 
 returns : tie.Need-returns
 unfolding sheetEntry
 returns c =
     let start = c .before .before .before .before .before .before .before .before .before .before .before .before .before in
-    entry-sheets (read-refused (λ t. got (sheetBytes t)) (now (start .args .table)) (now (start .args .sheet)) (now (start .args .answer)) (c .before .before .before .before .before .before .before .before .read .last .1 .0) (c .before .before .before .before .before .before .before .before .read .result) _ (c .before .before .before .before .before .before .before .before .read .ensures) (c .before .before .before .before .before .found .given .1)
+    entry-sheets (read-refused (λ t. got (sheetBytes t (t .labels))) (now (start .args .table)) (now (start .args .sheet)) (now (start .args .answer)) (c .before .before .before .before .before .before .before .before .read .last .1 .0) (c .before .before .before .before .before .before .before .before .read .result) _ (c .before .before .before .before .before .before .before .before .read .ensures) (c .before .before .before .before .before .found .given .1)
     (c .before .before .answer-refusal .ensures .0) (c .before .before .answer-refusal .ensures .1))
 
 returns-2 : tie.Need-returns-2
@@ -36,7 +36,7 @@ unfolding sheetEntry
 returns-2 c =
     let start = c .before .before .before .before .before .before .before .before .before .before .before .before .before .before .before .before .before in
     let a = accepts (c .before .before .before .before .before .before .before .before .before .before .before .before) _ _ _ _ _ _ (c .before .before .before .before .before .before .before .before .before .found2 .given .1) in
-    entry-sheets (read-accepted (λ t. got (sheetBytes t)) (now (start .args .table)) (now (start .args .sheet)) (now (start .args .answer)) (c .before .before .before .before .before .before .before .before .before .before .before .before .read .last .1 .0) (a .indexed) (c .before .before .before .before .answer-sheet .ensures))
+    entry-sheets (read-accepted (λ t. got (sheetBytes t (t .labels))) (now (start .args .table)) (now (start .args .sheet)) (now (start .args .answer)) (c .before .before .before .before .before .before .before .before .before .before .before .before .read .last .1 .0) (a .indexed) (rw (a .isLabels) at (c .before .before .before .before .answer-sheet .ensures)))
 
 pub flow-sheet-spec : {M : Type 1} → statement M
 flow-sheet-spec =

@@ -1,6 +1,6 @@
 -- `name_command` stores the variables of the one or two expressions that a command holds.
-use mathlib.Core.Path.{_≡_, refl, sym, ap, subst, _∙_}
-use mathlib.Core.List.{List, flatMap}
+use mathlib.Core.Path.{_≡_, sym, ap, subst, _∙_}
+use mathlib.Core.List.{flatMap}
 use native.Mathlib.Omega.{arith}
 use denote.Enum.Declared.{tagOf}
 use denote.Ref.{now}
@@ -8,7 +8,7 @@ use types.Run.{OneOf}
 use Prim.Native.Nat.{ℕ, _<_, _≤_}
 use lib.ListN.{length}
 use Rattle.bytes_le.proofs.Numbers.{slice-bytes}
-use Rattle.awhile.specs.Nodes.{form, sortOf}
+use Rattle.awhile.specs.Nodes.{form}
 use Rattle.awhile.specs.declared.Node.{Node}
 use Rattle.awhile.specs.declared.Sort.{Sort}
 use Rattle.awhile.proofs.Node.{the-type}

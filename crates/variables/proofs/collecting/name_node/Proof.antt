@@ -1,7 +1,6 @@
 -- `name_node` passes what is no command.
-use native.Mathlib.Omega.{arith}
 use mathlib.Core.Bool.{true, false, true≢false}
-use mathlib.Core.Path.{_≡_, sym, ap, _∙_}
+use mathlib.Core.Path.{sym, ap, _∙_}
 use denote.Ref.{now}
 use Rattle.awhile.specs.Nodes.{sortOf, sameSort}
 use Rattle.awhile.specs.declared.Sort.the-variants.{Command}

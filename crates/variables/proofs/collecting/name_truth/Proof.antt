@@ -1,6 +1,6 @@
 -- `name_truth` stores the variables of its node.
 use native.Mathlib.Omega.{arith}
-use mathlib.Core.Path.{_≡_, refl, sym, ap, _∙_}
+use mathlib.Core.Path.{sym, ap, _∙_}
 use denote.Ref.{now}
 use Prim.Native.Nat.{_<_}
 use lib.ListN.{length, set}

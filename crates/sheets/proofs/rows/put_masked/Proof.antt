@@ -1,0 +1,29 @@
+-- `put_masked` stores a head and masks.
+use Prim.Native.Nat.{_+_}
+use mathlib.Core.Path.{refl}
+use mathlib.Core.List.{_++_, flatMap}
+use denote.Ref.{now}
+use Rattle.bytes_le.specs.Numbers.{le}
+use Rattle.labels.specs.Sheet.{masks, fieldBytes, fieldsBytes, recordBytes}
+use Rattle.sheets.specs.Rows.{rowRecords, rowBytes}
+use Rattle.sheets.proofs.Stored.{stored-then}
+use borrow.Author.Needs.{needs}
+use Rattle.sheets.proofs.rows.put_masked.Statement.{statement}
+use Rattle.sheets.proofs.rows.put_masked.Tie as tie
+
+returns : tie.Need-returns
+unfolding rowBytes rowRecords recordBytes fieldsBytes fieldBytes flatMap le
+returns c =
+    let args = c .before .before .before .before .before .before .before .before .before .args in
+    stored-then (le 2 12 ++ (le 2 (args .kind) ++ le 2 (args .n))) (fieldBytes (masks (args .masks))) (now (args .out)) (args .at) (args .at + 6) refl
+    (c .before .before .before .before .before .before .put-head .ensures) (c .before .before .put-masks .ensures)
+
+pub put-masked-spec : {M : Type 1} → statement M
+put-masked-spec =
+    tie.close
+    (tie.spec
+    (λ c κs. search needs)
+    (λ c. search needs)
+    (λ c κs. search needs)
+    (λ c. search needs)
+    returns)

@@ -1,0 +1,45 @@
+-- A record as the code has it, what it stands for, and the sheet of a table by the notes that the analysis left.
+use Prim.Native.Nat.{ℕ}
+use mathlib.Core.List.{List, [], _∷_, flatMap}
+use Rattle.awhile.specs.Language.{mapNotes}
+use Rattle.awhile.specs.declared.Labelling.{Labelling}
+use Rattle.reader.specs.Index.{Indexed, nodesIn, commandIn}
+use Rattle.labels.specs.Sheet.{SheetRecord, recordOf, number, label, masks, recordBytes, commandRecords, sheetOf}
+use Rattle.variables.specs.Named.{Named}
+use Rattle.analysis.specs.Notes.{noteIn, notedProgram}
+use Rattle.analysis.specs.Conditions.{NoteRoom}
+use Rattle.sheets.specs.declared.rows.Row.{Row}
+use Rattle.sheets.specs.declared.rows.Row.the-variants.{Nothing, Masks, Label, Labels, LabelMasks}
+
+-- the record of node n
+unfoldable pub rowRecords : Row → (node : ℕ) → List SheetRecord
+rowRecords Nothing n = []
+rowRecords (Masks k l) n = recordOf k (number n ∷ masks l ∷ []) ∷ []
+rowRecords (Label k b) n = recordOf k (number n ∷ label b ∷ []) ∷ []
+rowRecords (Labels k a b) n = recordOf k (number n ∷ label a ∷ label b ∷ []) ∷ []
+rowRecords (LabelMasks k b l) n = recordOf k (number n ∷ label b ∷ masks l ∷ []) ∷ []
+
+-- its bytes, and how many they are
+unfoldable pub rowBytes : Row → (node : ℕ) → List ℕ
+rowBytes r n = flatMap recordBytes (rowRecords r n)
+
+unfoldable pub rowSize : Row → ℕ
+rowSize Nothing = 0
+rowSize (Masks k l) = 12
+rowSize (Label k b) = 8
+rowSize (Labels k a b) = 10
+rowSize (LabelMasks k b l) = 14
+
+-- the record of a node's command, by the notes
+unfoldable pub recordsIn : (table notes : List ℕ) → (node : ℕ) → List SheetRecord
+recordsIn table ns n = commandRecords (mapNotes (noteIn ns) (commandIn table n))
+
+-- the sheet of the program as it is noted, with this labelling after it
+unfoldable pub sheetIn : (table notes : List ℕ) → (final : Labelling) → List ℕ
+sheetIn table ns final = sheetOf (nodesIn table) (notedProgram table ns) final
+
+-- what the sheet is written from
+pub record Sheetable (table index named notes : List ℕ) : Type 0 where
+  pub indexed : Indexed table index
+  pub names : Named table named
+  pub notesFit : NoteRoom table notes

@@ -1,0 +1,178 @@
+// The record of a command, as data: its kind, and what stands behind its node's number. Its length and its bytes are read off it.
+use crate::fields::put_head;
+use crate::fields::put_label;
+use crate::fields::put_masks;
+use analysis::commands::read_label;
+use analysis::noting::noted_context;
+use analysis::noting::noted_labelling;
+use awhile::Labelling;
+use awhile::Node;
+use reader::lookup::command_at;
+use reader::lookup::is_command;
+use variables::meeting::named_label;
+ghost use Prim.Native.Nat.{_+_, _≤_, _<_};
+ghost use mathlib.Core.List.{_++_};
+ghost use mathlib.Core.Path.{_≡_};
+ghost use lib.ListN.{length};
+ghost use lib.Seq.{sets};
+ghost use Rattle.bytes_le.specs.Numbers.{le};
+ghost use Rattle.labels.specs.Sheet.{fieldBytes, label};
+ghost use Rattle.awhile.specs.declared.Sort.the-variants.{Command};
+ghost use Rattle.reader.specs.Index.{nodesIn, OfSort};
+ghost use Rattle.sheets.specs.Rows.{rowSize, rowBytes, Sheetable, recordsIn, rowRecords};
+
+pub enum Row {
+    // a command that has no record, or no command
+    Nothing,
+    Masks {
+        kind: usize,
+        masks: Labelling,
+    },
+    Label {
+        kind: usize,
+        secret: bool,
+    },
+    Labels {
+        kind: usize,
+        first: bool,
+        second: bool,
+    },
+    LabelMasks {
+        kind: usize,
+        secret: bool,
+        masks: Labelling,
+    },
+}
+
+// How many bytes a record has.
+pub fn row_size(row: Row) -> usize
+    ensures { λ r. ⌜ r ≡ rowSize row ⌝ }
+{
+    match row {
+        Row::Nothing => 0,
+        Row::Masks { .. } => 12,
+        Row::Label { .. } => 8,
+        Row::Labels { .. } => 10,
+        Row::LabelMasks { .. } => 14,
+    }
+}
+
+// A record with masks.
+fn put_masked(out: &mut [u8], at: usize, kind: usize, n: usize, masks: Labelling)
+    requires { ⌜ at + 12 ≤ length (now out) ⌝ }
+    ensures { λ _. ⌜ now (out .exit) ≡ sets (now (out .entry)) at (rowBytes (Row.Masks kind masks) n) ⌝ }
+{
+    put_head(&mut *out, at, 12, kind, n);
+    put_masks(&mut *out, at + 6, masks);
+}
+
+// A record of a length, up to its first label.
+fn put_labelled(out: &mut [u8], at: usize, size: usize, kind: usize, n: usize, secret: bool)
+    requires { ⌜ at + 8 ≤ length (now out) ⌝ }
+    ensures { λ _. ⌜ now (out .exit) ≡ sets (now (out .entry)) at (le 2 size ++ (le 2 kind ++ (le 2 n ++ fieldBytes (label secret)))) ⌝ }
+{
+    put_head(&mut *out, at, size, kind, n);
+    put_label(&mut *out, at + 6, secret);
+}
+
+// A record with two labels.
+fn put_labels(out: &mut [u8], at: usize, kind: usize, n: usize, first: bool, second: bool)
+    requires { ⌜ at + 10 ≤ length (now out) ⌝ }
+    ensures { λ _. ⌜ now (out .exit) ≡ sets (now (out .entry)) at (rowBytes (Row.Labels kind first second) n) ⌝ }
+{
+    put_labelled(&mut *out, at, 10, kind, n, first);
+    put_label(&mut *out, at + 8, second);
+}
+
+// A record with a label and masks.
+fn put_label_masks(out: &mut [u8], at: usize, kind: usize, n: usize, secret: bool, masks: Labelling)
+    requires { ⌜ at + 14 ≤ length (now out) ⌝ }
+    ensures { λ _. ⌜ now (out .exit) ≡ sets (now (out .entry)) at (rowBytes (Row.LabelMasks kind secret masks) n) ⌝ }
+{
+    put_labelled(&mut *out, at, 14, kind, n, secret);
+    put_masks(&mut *out, at + 8, masks);
+}
+
+// Writes the record of node n at an offset.
+pub fn put_row(out: &mut [u8], at: usize, n: usize, row: Row)
+    requires { ⌜ at + rowSize row ≤ length (now out) ⌝ }
+    ensures { λ _. ⌜ now (out .exit) ≡ sets (now (out .entry)) at (rowBytes row n) ⌝ }
+{
+    match row {
+        Row::Nothing => {}
+        Row::Masks { kind, masks } => put_masked(&mut *out, at, kind, n, masks),
+        Row::Label { kind, secret } => put_labelled(&mut *out, at, 8, kind, n, secret),
+        Row::Labels {
+            kind,
+            first,
+            second,
+        } => put_labels(&mut *out, at, kind, n, first, second),
+        Row::LabelMasks {
+            kind,
+            secret,
+            masks,
+        } => put_label_masks(&mut *out, at, kind, n, secret, masks),
+    }
+}
+
+// The record of the command of node n.
+fn command_row(table: &[u8], index: &[u16], named: &[u64], notes: &[u64], n: usize) -> Row
+    requires { ⌜ OfSort (now table) (now index) Command n × Sheetable (now table) (now index) (now named) (now notes) ⌝ }
+    ensures { λ r. ⌜ rowRecords r n ≡ recordsIn (now (table .entry)) (now (notes .entry)) n ⌝ }
+{
+    let node = command_at(table, index, n);
+    match node {
+        Node::Sequence { second, .. } => Row::Masks {
+            kind: 129,
+            masks: noted_labelling(notes, second),
+        },
+        Node::If { condition, .. } => {
+            let labels = noted_labelling(notes, n);
+            Row::Label {
+                kind: 130,
+                secret: named_label(named, labels, condition),
+            }
+        }
+        Node::While { condition, body } => {
+            // the condition is labelled by the settled masks, which enter the body
+            let masks = noted_labelling(notes, body);
+            Row::LabelMasks {
+                kind: 131,
+                secret: named_label(named, masks, condition),
+                masks,
+            }
+        }
+        Node::Read {
+            array,
+            index: cell,
+            ..
+        } => {
+            let labels = noted_labelling(notes, n);
+            let context = noted_context(notes, n);
+            Row::Labels {
+                kind: 132,
+                first: read_label(named, array, cell, context, labels),
+                second: named_label(named, labels, cell),
+            }
+        }
+        Node::Write { index: cell, .. } => {
+            let labels = noted_labelling(notes, n);
+            Row::Label {
+                kind: 133,
+                secret: named_label(named, labels, cell),
+            }
+        }
+        _ => Row::Nothing,
+    }
+}
+
+// The record of node n.
+pub fn row_at(table: &[u8], index: &[u16], named: &[u64], notes: &[u64], n: usize) -> Row
+    requires { ⌜ (n < nodesIn (now table)) × Sheetable (now table) (now index) (now named) (now notes) ⌝ }
+    ensures { λ r. ⌜ rowRecords r n ≡ recordsIn (now (table .entry)) (now (notes .entry)) n ⌝ }
+{
+    if is_command(table, index, n) {
+        return command_row(table, index, named, notes, n);
+    }
+    Row::Nothing
+}

@@ -1,0 +1,86 @@
+// The label sheet: the head with the final masks, then the records of the nodes by number.
+use crate::fields::put_head;
+use crate::fields::put_masks;
+use crate::rows::put_row;
+use crate::rows::row_at;
+use crate::rows::row_size;
+use awhile::Labelling;
+use bytes_le::put::put16;
+ghost use Prim.Native.Nat.{_+_, _≤_};
+ghost use mathlib.Core.Path.{_≡_};
+ghost use lib.ListN.{length};
+ghost use lib.Seq.{sets};
+ghost use lib.Dec.{leb};
+ghost use Rattle.awhile.specs.declared.Labelling.{Labelling};
+ghost use Rattle.labels.specs.Sheet.{recordBytes, headRecord};
+ghost use Rattle.reader.specs.Index.{nodesIn};
+ghost use Rattle.sheets.specs.Rows.{Sheetable, sheetIn};
+
+// How many bytes the sheet of a labelled table with so many nodes has.
+pub fn sheet_size(table: &[u8], index: &[u16], named: &[u64], notes: &[u64], count: usize) -> usize
+    requires { ⌜ Sheetable (now table) (now index) (now named) (now notes) × (count ≡ nodesIn (now table)) ⌝ }
+    ensures { λ r. ⌜ ((final : Labelling) → r ≡ length (sheetIn (now (table .entry)) (now (notes .entry)) final)) ⌝ }
+{
+    let mut size = 14;
+    let mut n = 0;
+    while n < count {
+        size += row_size(row_at(table, index, named, notes, n));
+        n += 1;
+    }
+    size
+}
+
+// Whether the sheet of a labelled table with so many nodes fits a buffer. No record has more than 14 bytes, so a large buffer is not measured against.
+pub fn sheet_fits(
+    table: &[u8],
+    index: &[u16],
+    named: &[u64],
+    notes: &[u64],
+    count: usize,
+    room: usize,
+) -> bool
+    requires { ⌜ Sheetable (now table) (now index) (now named) (now notes) × (count ≡ nodesIn (now table)) ⌝ }
+    ensures { λ r. ⌜ ((final : Labelling) → r ≡ leb (length (sheetIn (now (table .entry)) (now (notes .entry)) final)) room) ⌝ }
+{
+    if 14 + 14 * count <= room {
+        return true;
+    }
+    sheet_size(table, index, named, notes, count) <= room
+}
+
+// Writes the sheet's first record: so many nodes and the final masks.
+fn put_final(out: &mut [u8], count: usize, masks: Labelling)
+    requires { ⌜ 14 ≤ length (now out) ⌝ }
+    ensures { λ _. ⌜ now (out .exit) ≡ sets (now (out .entry)) 0 (recordBytes (headRecord count masks)) ⌝ }
+{
+    put_head(&mut *out, 0, 14, 128, 1);
+    put16(&mut *out, 6, count);
+    put_masks(&mut *out, 8, masks);
+}
+
+// Writes the sheet, from the notes of the analysis and its answer, and answers how many bytes it has.
+pub fn write_sheet(
+    table: &[u8],
+    index: &[u16],
+    named: &[u64],
+    notes: &[u64],
+    count: usize,
+    masks: Labelling,
+    out: &mut [u8],
+) -> usize
+    requires { ⌜ Sheetable (now table) (now index) (now named) (now notes) × (count ≡ nodesIn (now table))
+        × (length (sheetIn (now table) (now notes) masks) ≤ length (now out)) ⌝ }
+    ensures { λ r. ⌜ (now (out .exit) ≡ sets (now (out .entry)) 0 (sheetIn (now (table .entry)) (now (notes .entry)) masks))
+        × (r ≡ length (sheetIn (now (table .entry)) (now (notes .entry)) masks)) ⌝ }
+{
+    put_final(&mut *out, count, masks);
+    let mut at = 14;
+    let mut n = 0;
+    while n < count {
+        let row = row_at(table, index, named, notes, n);
+        put_row(&mut *out, at, n, row);
+        at += row_size(row);
+        n += 1;
+    }
+    at
+}
