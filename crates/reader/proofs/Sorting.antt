@@ -1,19 +1,19 @@
 -- Sorts and fields told apart: what the other way of a `let .. else` knows.
-use Prim.Native.Nat.{ℕ, _+_}
+use Prim.Native.Nat.{ℕ}
 use native.Mathlib.Omega.{arith}
 use mathlib.Core.Bool.{Bool, true, false, _&&_, and-true}
 use mathlib.Core.Logic.{⊎-elim}
 use mathlib.Core.Path.{_≡_, refl, ap, _∙_}
-use mathlib.Core.List.{List, [], _∷_, map}
+use mathlib.Core.List.{List, [], _∷_}
 use lib.ListN.{length, getD}
 use borrow.Author.Tests.{ltb-true}
 use types.Run.{OneOf}
 use denote.Enum.Declared.{tagOf}
-use Rattle.awhile.specs.Lists.{sum, all}
+use Rattle.awhile.specs.Lists.{all}
 use Rattle.awhile.specs.Refusals.{refused, got, check}
-use Rattle.awhile.specs.Nodes.{Field, word, child, form, fieldSize, sizeOf, sortOf, decodeAt, fieldInRange, inRange, sameSort, fieldSorted, sorted, fieldChildren}
+use Rattle.awhile.specs.Nodes.{Field, word, child, form, sizeOf, sortOf, decodeAt, fieldInRange, inRange, sameSort, fieldSorted, sorted, fieldChildren}
 use Rattle.awhile.specs.Tables.{framed, readNode}
-use Rattle.reader.specs.Reader.{checkedAs, firstRefusal, fieldOf, fieldsOf, formOf, NodeAs, passedNode, SortAt, SortsChecked, NodeChecked}
+use Rattle.reader.specs.Reader.{checkedAs, firstRefusal, fieldOf, fieldsOf, NodeAs, passedNode, SortAt, SortsChecked, NodeChecked}
 use Rattle.awhile.proofs.Lists.{all-head, all-tail, all-cons}
 use Rattle.awhile.proofs.Cases.{node-known, node-unknown}
 use Rattle.reader.proofs.Passing.{framed-refused, framed-passed-on}
@@ -24,7 +24,6 @@ use Rattle.reader.proofs.forms.Field as field
 use Rattle.reader.specs.declared.forms.Field.{Field as FieldRead}
 use Rattle.reader.specs.declared.forms.Field.the-variants.{Constant, Variable, Array, Child}
 use Rattle.reader.specs.declared.forms.Fields.{Fields}
-use Rattle.reader.specs.declared.forms.Form.{Form}
 use Rattle.awhile.specs.declared.Node.{Node}
 use Rattle.awhile.specs.declared.Node.the-variants.{Skip}
 use Rattle.awhile.specs.declared.Decoded.the-variants.{Known, Unknown}
@@ -121,20 +120,6 @@ module _ (s index : List ℕ) (at : ℕ) where
             both-checked _ _ _ _ _ (rw and-true at one)
             (rest .isChecked vs arrs ns leads (all-tail range f fs ranged));
       }
-
--- ---- what the form of a node says
-module _ (m : Node) (f : Form) (e : formOf f ≡ form m) where
-  -- its fields are the node's, so its record is as long as they say, and its sort is the node's
-  pub same-fields : fieldsOf (f .fields) ≡ form m .fields
-  same-fields = ap (λ g. g .fields) e
-
-  pub same-size : 4 + sum (map fieldSize (fieldsOf (f .fields))) ≡ sizeOf m
-  unfolding sizeOf
-  same-size = ap (λ fs. 4 + sum (map fieldSize fs)) same-fields
-
-  pub same-sort : f .sort ≡ sortOf m
-  unfolding sortOf
-  same-sort = ap (λ g. g .sort) e
 
 -- ---- what two checks say of a node
 module _ (m : Node) (size : ℕ) (fs : Fields) (long : size ≡ sizeOf m) (held : fieldsOf fs ≡ form m .fields) where

@@ -17,6 +17,7 @@ use Rattle.awhile.proofs.Lists.{sum-append, occurrences-append, flatMap-append}
 use Rattle.awhile.proofs.Cases.{nodes-next, nodes-refused}
 use Rattle.awhile.proofs.Records.{sizes-most}
 use Rattle.awhile.proofs.Accepted.{NodeRead, node-read}
+use Rattle.reader.proofs.RecordForms.{fields-few}
 use Rattle.reader.proofs.Searching.{up-to}
 use Rattle.reader.proofs.Tally.{getD-tally, occurrences-most, fields-children, fields-below, below-weaken}
 use Rattle.awhile.specs.declared.Node.{Node}
@@ -24,16 +25,7 @@ use Rattle.awhile.specs.declared.Node.the-variants.{Skip}
 use Rattle.awhile.specs.declared.Decoded.the-variants.{Known}
 use Rattle.awhile.specs.declared.Refusal.{Refusal}
 use Rattle.reader.specs.declared.forms.Fields.{Fields}
-use Rattle.reader.specs.declared.forms.Fields.the-variants.{Nothing, Word, One, Two, Three}
 use Rattle.reader.specs.declared.walk.NodeRead.the-variants.{Refused as NodeRefused, Node as NodeGot}
-
--- a record has three fields at most
-fields-few : (fs : Fields) → length (fieldsOf fs) ≤ 3
-fields-few Nothing = omega arith
-fields-few (Word n) = omega arith
-fields-few (One f) = omega arith
-fields-few (Two f g) = omega arith
-fields-few (Three f g h) = omega arith
 
 -- ---- what is kept of one node more
 module _ (ns : List Node) (m : Node) where

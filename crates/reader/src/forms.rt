@@ -40,6 +40,7 @@ pub enum Fields {
     },
 }
 
+// A record's kind, the sort of what it stands for, and its fields.
 pub struct Form {
     pub kind: usize,
     pub sort: Sort,
@@ -98,6 +99,7 @@ fn branch(sort: Sort, condition: usize, yes: usize, no: usize) -> Fields
     }
 }
 
+// A row of the list below.
 fn row(kind: usize, sort: Sort, fields: Fields) -> Form
     ensures { λ r. ⌜ formOf r ≡ row kind sort (fieldsOf fields) ⌝ }
 {

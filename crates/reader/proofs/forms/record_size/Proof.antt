@@ -1,21 +1,10 @@
 -- `record_size` sums the lengths of the fields, whatever they hold.
-use mathlib.Core.Path.{_≡_, refl}
 use Rattle.awhile.specs.Lists.{sum}
 use Rattle.awhile.specs.Nodes.{fieldSize}
-use Rattle.reader.specs.Reader.{fieldOf}
-use Rattle.reader.specs.declared.forms.Field.{Field}
-use Rattle.reader.specs.declared.forms.Field.the-variants.{Constant, Variable, Array, Child}
+use Rattle.reader.proofs.RecordForms.{two-bytes}
 use borrow.Author.Needs.{needs}
 use Rattle.reader.proofs.forms.record_size.Statement.{statement}
 use Rattle.reader.proofs.forms.record_size.Tie as tie
-
--- every field but a word has 2 bytes
-two-bytes : (f : Field) → fieldSize (fieldOf f) ≡ 2
-unfolding fieldSize
-two-bytes (Constant n) = refl
-two-bytes (Variable x) = refl
-two-bytes (Array a) = refl
-two-bytes (Child s n) = refl
 
 pub record-size-spec : {M : Type 1} → statement M
 unfolding sum fieldSize

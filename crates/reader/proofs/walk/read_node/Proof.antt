@@ -5,7 +5,8 @@ use denote.Ref.{now}
 use Rattle.awhile.specs.Nodes.{sizeOf}
 use Rattle.reader.specs.Reader.{passedNode, NodeChecked}
 use Rattle.awhile.proofs.Records.{head-fits}
-use Rattle.reader.proofs.Sorting.{same-fields, same-size, unknown-read, frame-refused-read, fields-read}
+use Rattle.reader.proofs.RecordForms.{same-fields, same-size}
+use Rattle.reader.proofs.Sorting.{unknown-read, frame-refused-read, fields-read}
 use borrow.Author.Needs.{needs}
 use Rattle.reader.proofs.walk.read_node.Statement.{statement}
 use Rattle.reader.proofs.walk.read_node.Tie as tie

@@ -1,6 +1,6 @@
 -- `sort_at` takes the sort of the record's kind: its fields have no say in it.
 use Rattle.reader.proofs.RecordKinds.{sort-by-kind, no-sort}
-use Rattle.reader.proofs.Sorting.{same-sort}
+use Rattle.reader.proofs.RecordForms.{same-sort}
 use borrow.Author.Needs.{needs}
 use Rattle.reader.proofs.walk.sort_at.Statement.{statement}
 use Rattle.reader.proofs.walk.sort_at.Tie as tie
