@@ -7,16 +7,18 @@ use lib.ListN.{length, length-append, length-take, length-drop}
 use lib.Seq.{sets, length-sets}
 use borrow.Rule.Slice.PartMut.{putMid, midOf}
 use Rattle.bytes_le.proofs.Stores.{sets-append}
-use Rattle.awhile.specs.Nodes.{sizeOf, nodeBytes}
+use Rattle.awhile.specs.Nodes.{form, sizeOf, nodeBytes}
 use Rattle.awhile.proofs.Lists.{flatMap-append}
 use Rattle.awhile.specs.declared.Node.{Node}
 use Rattle.copier.specs.Sizes.{Sized}
 use Rattle.copier.specs.Records.{recordOf, recordBytes, recordSize}
 use Rattle.copier.specs.Written.{Appended, AppendedRecord, Wrote, Room}
+use Rattle.reader.specs.Reader.{formOf}
+use Rattle.reader.specs.declared.forms.Form.{Form}
 use Rattle.copier.specs.declared.Record.{Record}
 use Rattle.copier.specs.declared.Size.{Size}
 use Rattle.copier.proofs.Lengths.{Counted, counted-node, counted-append}
-use Rattle.copier.proofs.NodeRecords.{record-bytes, record-size}
+use Rattle.copier.proofs.NodeRecords.{node-bytes, node-size}
 use Rattle.copier.proofs.Parts.{sets-rest}
 
 abbrev pub sizeIs : (nodes bytes : ℕ) → Size
@@ -85,13 +87,14 @@ module _ {ns : List Node} {l m : List ℕ} {s : Size} (w : Wrote ns l m s) where
         bytesCounted = rw (flatMap-append nodeBytes ns ms, length-append) (omega (arith, w .bytesCounted, v .bytesCounted));
       }
 
--- a record that is a node's
-pub appended-node : {i j : ℕ} {n : Node} {fields : Record} {l k : List ℕ} {r : Size} → fields ≡ recordOf n → AppendedRecord i j fields l k r → Appended i j n l k r
-appended-node {j = j} {n} {l = l} e a =
+-- a record that is a node's, made of its form
+pub appended-node : {i j : ℕ} {n : Node} {fields : Record} {l k : List ℕ} {r : Size} (f : Form) → formOf f ≡ form n → fields ≡ recordOf (f .kind) (f .fields)
+    → AppendedRecord i j fields l k r → Appended i j n l k r
+appended-node {j = j} {n} {l = l} f e is a =
     record {
-      stored = a .stored ∙ ap (sets l j) (ap recordBytes e ∙ record-bytes n);
+      stored = a .stored ∙ ap (sets l j) (ap recordBytes is ∙ node-bytes n f e);
       nodesCounted = a .nodesCounted;
-      bytesCounted = a .bytesCounted ∙ ap (λ i. j + i) (ap recordSize e ∙ record-size n);
+      bytesCounted = a .bytesCounted ∙ ap (λ i. j + i) (ap recordSize is ∙ node-size n f e);
     }
 
 -- the same node by another name

@@ -4,12 +4,13 @@ use mathlib.Core.List.{List, [], _∷_, _++_, flatMap}
 use mathlib.Core.Path.{_≡_}
 use lib.ListN.{length}
 use lib.Seq.{sets}
-use Rattle.awhile.specs.Nodes.{sizeOf, nodeBytes}
+use Rattle.awhile.specs.Nodes.{child, row, form, sizeOf, nodeBytes}
 use Rattle.awhile.specs.Encoding.{nodesOfA, binary, writeA}
 use Rattle.awhile.specs.Language.{AExp}
 use Rattle.awhile.specs.Tables.{maxNodes}
 use Rattle.awhile.specs.declared.Node.{Node}
-use Rattle.copier.specs.Records.{recordOf, recordOver, recordBytes, recordSize}
+use Rattle.awhile.specs.declared.Sort.the-variants.{Numeric}
+use Rattle.copier.specs.Records.{recordBytes, recordSize}
 use Rattle.copier.specs.declared.Pair.{Pair}
 use Rattle.copier.specs.declared.Record.{Record}
 use Rattle.copier.specs.declared.Size.{Size}
@@ -60,7 +61,7 @@ pub record WrotePair (from : ℕ) (a b : AExp) (before after : List ℕ) (answer
   pub leftIs : answer .left ≡ from + nodesOfA a - 1
   pub rightIs : answer .right ≡ from + nodesOfA a + nodesOfA b - 1
 
--- two numeric expressions and a node over both, whatever constructor makes the records of its kind
+-- two numeric expressions and a node over both, whatever constructor makes the nodes of its kind
 pub record WroteBinary (node : Node) (from : ℕ) (a b : AExp) (before after : List ℕ) (answer : Size) : Type 0 where
-  pub wrote : (f : ℕ → ℕ → Node) → ((i j : ℕ) → recordOf (f i j) ≡ recordOver node i j)
+  pub wrote : (f : ℕ → ℕ → Node) → ((i j : ℕ) → form (f i j) ≡ row (form node .kind) (form node .sort) (child Numeric i ∷ child Numeric j ∷ []))
       → Wrote (writeA from a ++ (writeA (from + nodesOfA a) b ++ (binary f from (nodesOfA a) (nodesOfA b) ∷ []))) before after answer

@@ -3,96 +3,78 @@ use crate::Record;
 use crate::Size;
 use awhile::Node;
 use bytes_le::put;
+use reader::forms::Field;
+use reader::forms::Fields;
+use reader::forms::Form;
+use reader::forms::form_of;
 ghost use Prim.Native.Nat.{_+_, _≤_, _<_, _^_};
 ghost use mathlib.Core.List.{_++_};
 ghost use mathlib.Core.Path.{_≡_};
 ghost use lib.ListN.{length};
 ghost use lib.Seq.{sets};
 ghost use Rattle.bytes_le.specs.Numbers.{le};
-ghost use Rattle.awhile.specs.Nodes.{sizeOf};
-ghost use Rattle.copier.specs.declared.Record.the-variants.{One, Two, Three};
-ghost use Rattle.copier.specs.Records.{recordOf, kindOf, recordOver, recordBytes, recordSize};
+ghost use Rattle.awhile.specs.Nodes.{form, sizeOf};
+ghost use Rattle.copier.specs.declared.Record.the-variants.{Two};
+ghost use Rattle.copier.specs.Records.{numberOf, recordOf, recordBytes, recordSize};
 ghost use Rattle.copier.specs.Written.{Appended, AppendedRecord};
 
-// A record of a kind with one field. And the same with two and three.
-fn one(kind: usize, first: usize) -> Record
-    ensures { λ r. ⌜ r ≡ One kind first ⌝ }
+// The number that a 2-byte field holds.
+fn number_of(field: Field) -> usize
+    ensures { λ r. ⌜ r ≡ numberOf field ⌝ }
 {
-    Record::One { kind, first }
-}
-
-fn two(kind: usize, first: usize, second: usize) -> Record
-    ensures { λ r. ⌜ r ≡ Two kind first second ⌝ }
-{
-    Record::Two {
-        kind,
-        first,
-        second,
+    match field {
+        Field::Constant { value } => value,
+        Field::Variable { variable } => variable,
+        Field::Array { array } => array,
+        Field::Child { node, .. } => node,
     }
 }
 
-fn three(kind: usize, first: usize, second: usize, third: usize) -> Record
-    ensures { λ r. ⌜ r ≡ Three kind first second third ⌝ }
+// The record of a form. A number's four bytes are two 2-byte fields.
+fn record_of(form: Form) -> Record
+    ensures { λ r. ⌜ r ≡ recordOf (form .kind) (form .fields) ⌝ }
 {
-    Record::Three {
-        kind,
-        first,
-        second,
-        third,
-    }
-}
-
-// A node's record by its kind and its 2-byte fields. A number's four bytes are two such fields.
-fn record_of(node: Node) -> Record
-    ensures { λ r. ⌜ r ≡ recordOf node ⌝ }
-{
-    match node {
-        Node::Number { value } => two(16, (value % 65536) as usize, (value / 65536) as usize),
-        Node::Variable { variable } => one(17, variable),
-        Node::Add { left, right } => two(18, left, right),
-        Node::Subtract { left, right } => two(19, left, right),
-        Node::Multiply { left, right } => two(20, left, right),
-        Node::Choice { condition, yes, no } => three(21, condition, yes, no),
-        Node::Constant { value } => one(32, value),
-        Node::Equal { left, right } => two(33, left, right),
-        Node::Less { left, right } => two(34, left, right),
-        Node::Not { truth } => one(35, truth),
-        Node::And { left, right } => two(36, left, right),
-        Node::Skip => Record::Bare { kind: 48 },
-        Node::Assign { variable, value } => two(49, variable, value),
-        Node::Sequence { first, second } => two(50, first, second),
-        Node::If { condition, yes, no } => three(51, condition, yes, no),
-        Node::While { condition, body } => two(52, condition, body),
-        Node::Read {
-            variable,
-            array,
-            index,
-        } => three(53, variable, array, index),
-        Node::Write {
-            array,
-            index,
-            value,
-        } => three(54, array, index, value),
-    }
-}
-
-// A record's kind.
-fn kind_of(fields: Record) -> usize
-    ensures { λ r. ⌜ r ≡ kindOf fields ⌝ }
-{
+    let kind = form.kind;
+    let fields = form.fields;
     match fields {
-        Record::Bare { kind } => kind,
-        Record::One { kind, .. } => kind,
-        Record::Two { kind, .. } => kind,
-        Record::Three { kind, .. } => kind,
+        Fields::Nothing => Record::Bare { kind },
+        Fields::Word { value } => Record::Two {
+            kind,
+            first: (value % 65536) as usize,
+            second: (value / 65536) as usize,
+        },
+        Fields::One { first } => Record::One {
+            kind,
+            first: number_of(first),
+        },
+        Fields::Two { first, second } => Record::Two {
+            kind,
+            first: number_of(first),
+            second: number_of(second),
+        },
+        Fields::Three {
+            first,
+            second,
+            third,
+        } => Record::Three {
+            kind,
+            first: number_of(first),
+            second: number_of(second),
+            third: number_of(third),
+        },
     }
 }
 
 // The record of a node's kind over two other children.
 pub fn record_over(node: Node, left: usize, right: usize) -> Record
-    ensures { λ r. ⌜ r ≡ recordOver node left right ⌝ }
+    ensures { λ r. ⌜ r ≡ Two (form node .kind) left right ⌝ }
 {
-    two(kind_of(record_of(node)), left, right)
+    let form = form_of(node);
+    Record::Two {
+        kind: form.kind,
+        first: left,
+        second: right,
+    }
 }
 
 // A record's length and kind.
@@ -163,5 +145,5 @@ pub fn append(out: &mut [u8], nodes: usize, bytes: usize, node: Node) -> Size
     requires { ⌜ nodes < 2 ^ 32 ⌝ }
     ensures { λ r. ⌜ Appended nodes bytes node (now (out .entry)) (now (out .exit)) r ⌝ }
 {
-    append_record(out, nodes, bytes, record_of(node))
+    append_record(out, nodes, bytes, record_of(form_of(node)))
 }

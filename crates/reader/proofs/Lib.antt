@@ -10,4 +10,5 @@ pub mod Searching
 pub mod Answering
 pub mod Turns
 pub mod Again
+pub mod RecordForms
 pub mod RecordKinds

@@ -1,5 +1,5 @@
 -- The kind of a record tells its node's sort; and of a sort, the kind tells which node it is and how long its record is.
-use Prim.Native.Nat.{ℕ, zero, suc, _+_, _-_, _≤_, _<_}
+use Prim.Native.Nat.{ℕ, zero, suc, _+_, _-_, _≤_}
 use native.Mathlib.Omega.{arith}
 use mathlib.Core.Bool.{Bool, true, false, cond}
 use mathlib.Core.Path.{_≡_, refl, subst}
@@ -55,6 +55,39 @@ node-of-kind k f g h w =
     (kind-case k 53 _ _ (λ e. e)
     (kind-case k 54 _ _ (λ e. e) tt)))))))))))))))))
 
+-- ---- what is decoded of a kind has one sort, whatever its fields hold
+abbrev Alike : Decoded → Decoded → Type 0
+Alike (Known m) (Known n) = sortOf m ≡ sortOf n
+Alike (Known m) Unknown = ⊥
+Alike Unknown (Known n) = ⊥
+Alike Unknown Unknown = Unit
+
+alike-case : (b : Bool) (x y z w : Decoded) → Alike x y → Alike z w → Alike (cond b x z) (cond b y w)
+alike-case true x y z w p q = p
+alike-case false x y z w p q = q
+
+kinds-alike : (k f g h w a b c d : ℕ) → Alike (nodeOf k f g h w) (nodeOf k a b c d)
+unfolding nodeOf sortOf form
+kinds-alike k f g h w a b c d =
+    alike-case (eqb k 16) _ _ _ _ refl
+    (alike-case (eqb k 17) _ _ _ _ refl
+    (alike-case (eqb k 18) _ _ _ _ refl
+    (alike-case (eqb k 19) _ _ _ _ refl
+    (alike-case (eqb k 20) _ _ _ _ refl
+    (alike-case (eqb k 21) _ _ _ _ refl
+    (alike-case (eqb k 32) _ _ _ _ refl
+    (alike-case (eqb k 33) _ _ _ _ refl
+    (alike-case (eqb k 34) _ _ _ _ refl
+    (alike-case (eqb k 35) _ _ _ _ refl
+    (alike-case (eqb k 36) _ _ _ _ refl
+    (alike-case (eqb k 48) _ _ _ _ refl
+    (alike-case (eqb k 49) _ _ _ _ refl
+    (alike-case (eqb k 50) _ _ _ _ refl
+    (alike-case (eqb k 51) _ _ _ _ refl
+    (alike-case (eqb k 52) _ _ _ _ refl
+    (alike-case (eqb k 53) _ _ _ _ refl
+    (alike-case (eqb k 54) _ _ _ _ refl tt)))))))))))))))))
+
 -- ---- the kinds of a sort stand side by side
 abbrev firstKind : Sort → ℕ
 firstKind Numeric = 16
@@ -108,32 +141,18 @@ module _ (s : List ℕ) (at : ℕ) where
   decoded-range : (n : Node) → decodeAt s at ≡ Known n → KindOf (sortOf n) (leAt 2 s (at + 2))
   decoded-range n d = rw (decoded-kind n d) (kind-of n)
 
-  -- kinds below 32 are those of numbers
-  pub sort-numeric : leAt 2 s (at + 2) < 32 → SortAt s at Numeric
-  sort-numeric low = record { isSort = λ n d. go (sortOf n) (decoded-range n d) }
-    where
-      go : (t : Sort) → KindOf t (leAt 2 s (at + 2)) → Numeric ≡ t
-      go Numeric r = refl
-      go Truth r = absurd (omega (arith, r .0))
-      go Command r = absurd (omega (arith, r .0))
+  -- what the record's kind makes with any fields has the sort of its node
+  module _ (k : ℕ) (read : k ≡ leAt 2 s (at + 2)) (d : Decoded) (made : d ≡ nodeOf k 0 0 0 0) where
+    same-kind : Alike d (decodeAt s at)
+    unfolding decodeAt
+    same-kind = rw (made, read) (kinds-alike (leAt 2 s (at + 2)) 0 0 0 0 _ _ _ _)
 
-  -- those from 32 up and below 48 are those of truths
-  pub sort-truth : 32 ≤ leAt 2 s (at + 2) → leAt 2 s (at + 2) < 48 → SortAt s at Truth
-  sort-truth high low = record { isSort = λ n d. go (sortOf n) (decoded-range n d) }
-    where
-      go : (t : Sort) → KindOf t (leAt 2 s (at + 2)) → Truth ≡ t
-      go Numeric r = absurd (omega (arith, r .1))
-      go Truth r = refl
-      go Command r = absurd (omega (arith, r .0))
+    pub sort-by-kind : (m : Node) → d ≡ Known m → SortAt s at (sortOf m)
+    sort-by-kind m e = record { isSort = λ n there. rw (e, there) at same-kind }
 
-  -- and all others are those of commands
-  pub sort-command : 48 ≤ leAt 2 s (at + 2) → SortAt s at Command
-  sort-command high = record { isSort = λ n d. go (sortOf n) (decoded-range n d) }
-    where
-      go : (t : Sort) → KindOf t (leAt 2 s (at + 2)) → Command ≡ t
-      go Numeric r = absurd (omega (arith, r .1))
-      go Truth r = absurd (omega (arith, r .1))
-      go Command r = refl
+    -- and where it makes none no node stands
+    pub no-sort : (r : Sort) → d ≡ Unknown → SortAt s at r
+    no-sort r e = record { isSort = λ n there. absurd (rw (e, there) at same-kind) }
 
   -- ---- the node of a record, by its kind
   module _ (n : Node) (there : NodeAt s at n) where

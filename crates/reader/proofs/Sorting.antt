@@ -1,10 +1,10 @@
 -- Sorts and fields told apart: what the other way of a `let .. else` knows.
-use Prim.Native.Nat.{ℕ, zero, suc}
+use Prim.Native.Nat.{ℕ}
 use native.Mathlib.Omega.{arith}
 use mathlib.Core.Bool.{Bool, true, false, _&&_, and-true}
 use mathlib.Core.Logic.{⊎-elim}
-use mathlib.Core.Path.{_≡_, refl, _∙_}
-use mathlib.Core.List.{List, [], _∷_, flatMap}
+use mathlib.Core.Path.{_≡_, refl, ap, _∙_}
+use mathlib.Core.List.{List, [], _∷_}
 use lib.ListN.{length, getD}
 use borrow.Author.Tests.{ltb-true}
 use types.Run.{OneOf}
@@ -13,17 +13,17 @@ use Rattle.awhile.specs.Lists.{all}
 use Rattle.awhile.specs.Refusals.{refused, got, check}
 use Rattle.awhile.specs.Nodes.{Field, word, child, form, sizeOf, sortOf, decodeAt, fieldInRange, inRange, sameSort, fieldSorted, sorted, fieldChildren}
 use Rattle.awhile.specs.Tables.{framed, readNode}
-use Rattle.reader.specs.Reader.{checkedAs, firstRefusal, fieldOf, fieldsOf, padded, NodeAs, passedNode, SortAt, SortsChecked, NodeChecked}
+use Rattle.reader.specs.Reader.{checkedAs, firstRefusal, fieldOf, fieldsOf, NodeAs, passedNode, SortAt, SortsChecked, NodeChecked}
 use Rattle.awhile.proofs.Lists.{all-head, all-tail, all-cons}
 use Rattle.awhile.proofs.Cases.{node-known, node-unknown}
 use Rattle.reader.proofs.Passing.{framed-refused, framed-passed-on}
 use Rattle.awhile.specs.declared.Sort.{Sort}
 use Rattle.awhile.proofs.Sort as sort
 use Rattle.awhile.specs.declared.Sort.the-variants.{Numeric, Truth, Command}
-use Rattle.reader.proofs.fields.Field as field
-use Rattle.reader.specs.declared.fields.Field.{Field as FieldRead}
-use Rattle.reader.specs.declared.fields.Field.the-variants.{Word, Constant, Variable, Array, Child}
-use Rattle.reader.specs.declared.fields.Fields.{Fields}
+use Rattle.reader.proofs.forms.Field as field
+use Rattle.reader.specs.declared.forms.Field.{Field as FieldRead}
+use Rattle.reader.specs.declared.forms.Field.the-variants.{Constant, Variable, Array, Child}
+use Rattle.reader.specs.declared.forms.Fields.{Fields}
 use Rattle.awhile.specs.declared.Node.{Node}
 use Rattle.awhile.specs.declared.Node.the-variants.{Skip}
 use Rattle.awhile.specs.declared.Decoded.the-variants.{Known, Unknown}
@@ -55,22 +55,20 @@ not-command Truth h = refl
 not-command Command h = absurd (⊎-elim (λ e. omega arith) (λ e. omega arith) h)
 
 -- a field that is a child is not one of the others
-never-child : (s : Sort) (n : ℕ) → OneOf (0 ∷ 1 ∷ 2 ∷ 3 ∷ []) (tagOf field.the-type (Child s n)) → ⊥
-never-child s n h = ⊎-elim (λ e. omega arith) (λ r. ⊎-elim (λ e. omega arith) (λ q. ⊎-elim (λ e. omega arith) (λ e. omega arith) q) r) h
+never-child : (s : Sort) (n : ℕ) → OneOf (0 ∷ 1 ∷ 2 ∷ []) (tagOf field.the-type (Child s n)) → ⊥
+never-child s n h = ⊎-elim (λ e. omega arith) (λ r. ⊎-elim (λ e. omega arith) (λ e. omega arith) r) h
 
 -- another field asks for no sort
-not-child : (f : FieldRead) → OneOf (0 ∷ 1 ∷ 2 ∷ 3 ∷ []) (tagOf field.the-type f) → (ns : List Node) → fieldSorted ns (fieldOf f) ≡ true
+not-child : (f : FieldRead) → OneOf (0 ∷ 1 ∷ 2 ∷ []) (tagOf field.the-type f) → (ns : List Node) → fieldSorted ns (fieldOf f) ≡ true
 unfolding fieldSorted
-not-child (Word n) h ns = refl
 not-child (Constant n) h ns = refl
 not-child (Variable x) h ns = refl
 not-child (Array a) h ns = refl
 not-child (Child s n) h ns = absurd (never-child s n h)
 
 -- and names no child
-pub no-children : (f : FieldRead) → OneOf (0 ∷ 1 ∷ 2 ∷ 3 ∷ []) (tagOf field.the-type f) → fieldChildren (fieldOf f) ≡ []
+pub no-children : (f : FieldRead) → OneOf (0 ∷ 1 ∷ 2 ∷ []) (tagOf field.the-type f) → fieldChildren (fieldOf f) ≡ []
 unfolding fieldChildren
-no-children (Word n) h = refl
 no-children (Constant n) h = refl
 no-children (Variable x) h = refl
 no-children (Array a) h = refl
@@ -85,9 +83,18 @@ both-checked a b r false q e f = rw e
 
 module _ (s index : List ℕ) (at : ℕ) where
   -- a field that names no child passes
-  pub none-checked : (f : FieldRead) → OneOf (0 ∷ 1 ∷ 2 ∷ 3 ∷ []) (tagOf field.the-type f) → SortsChecked s index at (fieldOf f ∷ []) Passed
+  pub none-checked : (f : FieldRead) → OneOf (0 ∷ 1 ∷ 2 ∷ []) (tagOf field.the-type f) → SortsChecked s index at (fieldOf f ∷ []) Passed
   unfolding all checkedAs check
   none-checked f other = record { isChecked = λ vs arrs ns leads ranged. rw (not-child f other ns) }
+
+  -- no fields pass, and a word does
+  pub nothing-checked : SortsChecked s index at [] Passed
+  unfolding all checkedAs check
+  nothing-checked = record { isChecked = λ vs arrs ns leads ranged. refl }
+
+  pub word-checked : (n : ℕ) → SortsChecked s index at (word n ∷ []) Passed
+  unfolding all checkedAs check fieldSorted
+  word-checked n = record { isChecked = λ vs arrs ns leads ranged. refl }
 
   -- a child whose record is found by the index passes where it is of the wanted sort
   pub child-checked : (wanted found : Sort) (node : ℕ) (a : Checked) → SortAt s (getD index node 0) found
@@ -114,24 +121,8 @@ module _ (s index : List ℕ) (at : ℕ) where
             (rest .isChecked vs arrs ns leads (all-tail range f fs ranged));
       }
 
--- ---- fields and the words after them
-module _ (test : Field → Bool) (words : test (word 0) ≡ true) where
-  -- a test that words pass holds of padded fields where it holds of the fields
-  pub padded-all : (count : ℕ) (fs : List Field) → all test (padded count fs) ≡ all test fs
-  unfolding all
-  padded-all zero fs = refl
-  padded-all (suc count) [] = rw (words, padded-all count [])
-  padded-all (suc count) (f ∷ fs) = rw (padded-all count fs)
-
--- padded fields name the same children
-pub padded-children : (count : ℕ) (fs : List Field) → flatMap fieldChildren (padded count fs) ≡ flatMap fieldChildren fs
-unfolding flatMap fieldChildren
-padded-children zero fs = refl
-padded-children (suc count) [] = padded-children count []
-padded-children (suc count) (f ∷ fs) = rw (padded-children count fs)
-
 -- ---- what two checks say of a node
-module _ (m : Node) (size : ℕ) (fs : Fields) (long : size ≡ sizeOf m) (held : fieldsOf fs ≡ padded 3 (form m .fields)) where
+module _ (m : Node) (size : ℕ) (fs : Fields) (long : size ≡ sizeOf m) (held : fieldsOf fs ≡ form m .fields) where
   node-checked : (a b : Checked) (x y : Refusal) (p q : Bool) → a ≡ checkedAs (check p x (got tt)) → (p ≡ true → b ≡ checkedAs (check q y (got tt)))
       → NodeAs (check p x (check q y (got m))) (passedNode size fs (firstRefusal a b))
   unfolding checkedAs passedNode firstRefusal check
@@ -150,14 +141,14 @@ module _ (s index : List ℕ) (vs arrs n at : ℕ) where
     pub frame-refused-read : (x : Refusal) → checkedAs (framed s at (sizeOf m) (got tt)) ≡ Refused x → NodeChecked s index vs arrs n at (NodeRefused x)
     frame-refused-read x e = record { isRead = λ before counted leads nodes. node-known _ _ _ _ _ d ∙ framed-refused _ _ _ _ _ e }
 
-    module _ (e : checkedAs (framed s at (sizeOf m) (got tt)) ≡ Passed) (fs : Fields) (f : fieldsOf fs ≡ padded 3 (form m .fields)) where
+    module _ (e : checkedAs (framed s at (sizeOf m) (got tt)) ≡ Passed) (fs : Fields) (f : fieldsOf fs ≡ form m .fields) where
       range-same : all (fieldInRange vs arrs n) (fieldsOf fs) ≡ inRange vs arrs n m
-      unfolding inRange fieldInRange
-      range-same = rw f (padded-all (fieldInRange vs arrs n) refl 3 (form m .fields))
+      unfolding inRange
+      range-same = ap (all (fieldInRange vs arrs n)) f
 
       sorts-same : (before : List Node) → all (fieldSorted before) (fieldsOf fs) ≡ sorted before m
-      unfolding sorted fieldSorted
-      sorts-same before = rw f (padded-all (fieldSorted before) refl 3 (form m .fields))
+      unfolding sorted
+      sorts-same before = ap (all (fieldSorted before)) f
 
       -- what is read depends on its fields
       framed-read : (before : List Node) → length before ≡ n → (nodes : ℕ)

@@ -109,6 +109,11 @@ pub tally-no-fields : (counts : List ℕ) → counts ≡ tally counts (flatMap f
 unfolding tally flatMap
 tally-no-fields counts = refl
 
+-- nor does a word
+pub tally-word : (counts : List ℕ) (n : ℕ) → counts ≡ tally counts (flatMap fieldChildren (word n ∷ []))
+unfolding tally flatMap fieldChildren
+tally-word counts n = refl
+
 -- the child that a field names has its count
 pub child-inside : (bound : ℕ) (s : Sort) (n : ℕ) → allBelow bound (fieldChildren (child s n)) ≡ true → n < bound
 unfolding allBelow fieldChildren

@@ -9,7 +9,7 @@ use lib.Seq.{getD-set-same, getD-set-other, getD-at, take-append-le, take-at}
 use Rattle.bytes_le.proofs.Numbers.{Below}
 use Rattle.awhile.specs.Lists.{sum, all, occurrences}
 use Rattle.awhile.specs.Refusals.{refused, got}
-use Rattle.awhile.specs.Nodes.{form, sizeOf, decodeAt, fieldInRange, inRange, fieldChildren, childrenOf}
+use Rattle.awhile.specs.Nodes.{sizeOf, decodeAt, fieldInRange, inRange, fieldChildren, childrenOf}
 use Rattle.awhile.specs.Tables.{Header, maxNodes, nodesStart, readNode, readNodes, usesOf}
 use Rattle.reader.specs.Reader.{fieldsOf, tally, allBelow, CountsBelow, Kept, NodeKnown, NodeChecked}
 use Rattle.reader.specs.Walk.{NodesLeft}
@@ -17,14 +17,14 @@ use Rattle.awhile.proofs.Lists.{sum-append, occurrences-append, flatMap-append}
 use Rattle.awhile.proofs.Cases.{nodes-next, nodes-refused}
 use Rattle.awhile.proofs.Records.{sizes-most}
 use Rattle.awhile.proofs.Accepted.{NodeRead, node-read}
+use Rattle.reader.proofs.RecordForms.{fields-few}
 use Rattle.reader.proofs.Searching.{up-to}
-use Rattle.reader.proofs.Sorting.{padded-all, padded-children}
 use Rattle.reader.proofs.Tally.{getD-tally, occurrences-most, fields-children, fields-below, below-weaken}
 use Rattle.awhile.specs.declared.Node.{Node}
 use Rattle.awhile.specs.declared.Node.the-variants.{Skip}
 use Rattle.awhile.specs.declared.Decoded.the-variants.{Known}
 use Rattle.awhile.specs.declared.Refusal.{Refusal}
-use Rattle.reader.specs.declared.fields.Fields.{Fields}
+use Rattle.reader.specs.declared.forms.Fields.{Fields}
 use Rattle.reader.specs.declared.walk.NodeRead.the-variants.{Refused as NodeRefused, Node as NodeGot}
 
 -- ---- what is kept of one node more
@@ -127,14 +127,13 @@ module _ (s : List ℕ) (vs arrs nodes : ℕ) where
 
         same-children : flatMap fieldChildren (fieldsOf fs) ≡ childrenOf m
         unfolding childrenOf
-        same-children = rw (was-read .isFields) (padded-children 3 (form m .fields))
+        same-children = ap (flatMap fieldChildren) (was-read .isFields)
 
         -- its children are among the nodes before it
         pub children-inside : (bound : ℕ) → nodes ≤ bound → allBelow bound (flatMap fieldChildren (fieldsOf fs)) ≡ true
-        unfolding inRange fieldInRange
+        unfolding inRange
         children-inside bound wide =
-            let ranged : all (fieldInRange vs arrs n) (fieldsOf fs) ≡ true =
-            rw (was-read .isFields, padded-all (fieldInRange vs arrs n) refl 3 (form m .fields)) (rw (h .counted) at (known .fits .ranged)) in
+            let ranged : all (fieldInRange vs arrs n) (fieldsOf fs) ≡ true = rw (was-read .isFields) (rw (h .counted) at (known .fits .ranged)) in
             below-weaken n bound (flatMap fieldChildren (fieldsOf fs)) (omega arith) (fields-below vs arrs n (fieldsOf fs) ranged)
 
         -- a record that was read is one node more
@@ -157,7 +156,7 @@ module _ (s : List ℕ) (vs arrs nodes : ℕ) where
                   (flatMap fieldChildren (fieldsOf fs)) same-children (children-inside (length uses) longUses) (known .there .decoded));
               children =
                   rw (flatMap-append, length-append, append-nil, ← same-children)
-                  (omega (arith, h .children, fields-children (fieldsOf fs)));
+                  (omega (arith, h .children, fields-children (fieldsOf fs), fields-few fs));
               few = omega arith;
             }
 

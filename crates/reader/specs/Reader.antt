@@ -1,5 +1,5 @@
 -- What the parts of the reader answer, given what the definitions of reading do.
-use Prim.Native.Nat.{ℕ, zero, suc, _+_, _-_, _<_}
+use Prim.Native.Nat.{ℕ, _+_, _-_, _<_}
 use mathlib.Core.Bool.{Bool, true, false}
 use mathlib.Core.Path.{_≡_}
 use lib.ListN.{length, getD, set, take}
@@ -7,7 +7,7 @@ use lib.Dec.{ltb}
 use mathlib.Core.List.{List, [], _∷_, map}
 use Rattle.awhile.specs.Lists.{sum, all}
 use Rattle.awhile.specs.Refusals.{Answer, refused, got, check}
-use Rattle.awhile.specs.Nodes.{Field, word, constant, variable, array, child, form, sizeOf, sortOf, decodeAt, fieldInRange, fieldSorted}
+use Rattle.awhile.specs.Nodes.{Field, word, constant, variable, array, child, Form, row, form, sizeOf, sortOf, decodeAt, fieldInRange, fieldSorted}
 use Rattle.awhile.specs.Tables.{Header, readNode, usesOf, inOrder, allInOrder}
 use Rattle.reader.specs.declared.checks.Checked.{Checked}
 use Rattle.reader.specs.declared.checks.Checked.the-variants.{Refused as CheckRefused, Passed}
@@ -27,9 +27,11 @@ use Rattle.reader.specs.declared.uses.Broken.{Broken}
 use Rattle.reader.specs.declared.uses.Broken.the-variants.{At, Nowhere}
 use Rattle.reader.specs.declared.walk.NodeRead.{NodeRead}
 use Rattle.reader.specs.declared.walk.NodeRead.the-variants.{Refused as NodeRefused, Node as NodeGot}
-use Rattle.reader.specs.declared.fields.Field.{Field as FieldRead}
-use Rattle.reader.specs.declared.fields.Field.the-variants.{Word, Constant, Variable, Array, Child}
-use Rattle.reader.specs.declared.fields.Fields.{Fields}
+use Rattle.reader.specs.declared.forms.Field.{Field as FieldRead}
+use Rattle.reader.specs.declared.forms.Field.the-variants.{Constant, Variable, Array, Child}
+use Rattle.reader.specs.declared.forms.Fields.{Fields}
+use Rattle.reader.specs.declared.forms.Fields.the-variants.{Nothing, Word, One, Two, Three}
+use Rattle.reader.specs.declared.forms.Form.{Form as FormRead}
 
 -- a check that passes or refuses
 unfoldable pub checkedAs : Answer (Unit {0}) → Checked
@@ -56,24 +58,25 @@ unfoldable pub countAs : Answer ℕ → CountRead
 countAs (refused r) = CountRefused r
 countAs (got n) = CountGot n
 
--- ---- the fields of a record
+-- ---- the form of a record
 -- the field that the code's field is
 abbrev pub fieldOf : FieldRead → Field
-fieldOf (Word n) = word n
 fieldOf (Constant n) = constant n
 fieldOf (Variable x) = variable x
 fieldOf (Array a) = array a
 fieldOf (Child s n) = child s n
 
--- the three fields that the code has of a record
+-- the fields that the code's fields are
 abbrev pub fieldsOf : Fields → List Field
-fieldsOf fs = fieldOf (fs .first) ∷ fieldOf (fs .second) ∷ fieldOf (fs .third) ∷ []
+fieldsOf Nothing = []
+fieldsOf (Word n) = word n ∷ []
+fieldsOf (One f) = fieldOf f ∷ []
+fieldsOf (Two f g) = fieldOf f ∷ fieldOf g ∷ []
+fieldsOf (Three f g h) = fieldOf f ∷ fieldOf g ∷ fieldOf h ∷ []
 
--- fields with words 0 after them, up to a number: of a word nothing is asked
-abbrev pub padded : (count : ℕ) → List Field → List Field
-padded zero fs = fs
-padded (suc count) [] = word 0 ∷ padded count []
-padded (suc count) (f ∷ fs) = f ∷ padded count fs
+-- the form that the code's form is
+abbrev pub formOf : FormRead → Form
+formOf f = row (f .kind) (f .sort) (fieldsOf (f .fields))
 
 -- ---- the nodes
 -- a node that was read: how long its record is, and what its fields hold
@@ -81,7 +84,7 @@ pub record NodeKnown (a : Answer Node) (size : ℕ) (fs : Fields) : Type 0 where
   pub node : Node
   pub isNode : a ≡ got node
   pub isSize : size ≡ sizeOf node
-  pub isFields : fieldsOf fs ≡ padded 3 (form node .fields)
+  pub isFields : fieldsOf fs ≡ form node .fields
 
 -- one node record
 abbrev pub NodeAs : Answer Node → NodeRead → Type 0

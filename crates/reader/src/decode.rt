@@ -1,7 +1,7 @@
-// A node's record: what it decodes to and how long it is.
+// A node's record: what it decodes to.
 ghost use Prim.Native.Nat.{_+_, _^_, _<_};
 ghost use mathlib.Core.Path.{_≡_};
-ghost use Rattle.awhile.specs.Nodes.{nodeOf, decodeAt, sizeOf};
+ghost use Rattle.awhile.specs.Nodes.{nodeOf, decodeAt};
 use awhile::Decoded;
 use awhile::Node;
 use bytes_le::get;
@@ -70,30 +70,4 @@ pub fn decode_at(table: &[u8], at: usize) -> Decoded
     let h = get::u16_at(table, at + 8);
     let w = get::u32_at(table, at + 4);
     node_of(kind, f, g, h, w)
-}
-
-// The byte length of a node's record.
-pub fn size_of(node: Node) -> usize
-    ensures { λ r. ⌜ r ≡ sizeOf node ⌝ }
-{
-    match node {
-        Node::Number { .. } => 8,
-        Node::Variable { .. } => 6,
-        Node::Add { .. } => 8,
-        Node::Subtract { .. } => 8,
-        Node::Multiply { .. } => 8,
-        Node::Choice { .. } => 10,
-        Node::Constant { .. } => 6,
-        Node::Equal { .. } => 8,
-        Node::Less { .. } => 8,
-        Node::Not { .. } => 6,
-        Node::And { .. } => 8,
-        Node::Skip => 4,
-        Node::Assign { .. } => 8,
-        Node::Sequence { .. } => 8,
-        Node::If { .. } => 10,
-        Node::While { .. } => 8,
-        Node::Read { .. } => 10,
-        Node::Write { .. } => 10,
-    }
 }

@@ -5,7 +5,7 @@ use awhile::Refusal;
 pub mod checks;
 pub mod declarations;
 pub mod decode;
-pub mod fields;
+pub mod forms;
 pub mod lookup;
 pub mod reader;
 pub mod records;

@@ -6,8 +6,8 @@ ghost use mathlib.Core.List.{flatMap};
 ghost use lib.ListN.{length};
 ghost use Rattle.awhile.specs.Nodes.{fieldChildren};
 ghost use Rattle.reader.specs.Reader.{fieldOf, fieldsOf, tally, allBelow, CountsBelow, OrderSearched};
-use crate::fields::Field;
-use crate::fields::Fields;
+use crate::forms::Field;
+use crate::forms::Fields;
 use awhile::Sort;
 
 // One use more of the child that a field names, if it names one.
@@ -26,12 +26,24 @@ pub fn count_fields(uses: &mut [u16], fields: Fields)
     requires { ⌜ (allBelow (length (now uses)) (flatMap fieldChildren (fieldsOf fields)) ≡ true) × CountsBelow 65533 (now uses) ⌝ }
     ensures { λ _. ⌜ now (uses .exit) ≡ tally (now (uses .entry)) (flatMap fieldChildren (fieldsOf fields)) ⌝ }
 {
-    let first = fields.first;
-    let second = fields.second;
-    let third = fields.third;
-    count_field(&mut *uses, first);
-    count_field(&mut *uses, second);
-    count_field(&mut *uses, third);
+    match fields {
+        Fields::Nothing => {}
+        Fields::Word { .. } => {}
+        Fields::One { first } => count_field(uses, first),
+        Fields::Two { first, second } => {
+            count_field(&mut *uses, first);
+            count_field(uses, second);
+        }
+        Fields::Three {
+            first,
+            second,
+            third,
+        } => {
+            count_field(&mut *uses, first);
+            count_field(&mut *uses, second);
+            count_field(uses, third);
+        }
+    }
 }
 
 // A node that is not in order, or that there is none.

@@ -13,9 +13,9 @@ ghost use Rattle.awhile.specs.declared.Refusal.the-variants.{OutOfRange, WrongS
 use crate::checks;
 use crate::checks::Checked;
 use crate::decode;
-use crate::fields;
-use crate::fields::Field;
-use crate::fields::Fields;
+use crate::forms;
+use crate::forms::Field;
+use crate::forms::Fields;
 use awhile::Decoded;
 use awhile::Refusal;
 use awhile::Sort;
@@ -43,14 +43,12 @@ pub fn sort_at(table: &[u8], at: usize) -> Sort
     requires { ⌜ at + 8 < 2 ^ 64 ⌝ }
     ensures { λ r. ⌜ SortAt (now (table .entry)) at r ⌝ }
 {
-    let kind = get::u16_at(table, at + 2);
-    if kind < 32 {
-        return Sort::Numeric;
-    }
-    if kind < 48 {
-        return Sort::Truth;
-    }
-    Sort::Command
+    // whatever its fields hold, a node of a kind has the same sort
+    let Decoded::Known { node } = decode::node_of(get::u16_at(table, at + 2), 0, 0, 0, 0) else {
+        return Sort::Command;
+    };
+    let form = forms::form_of(node);
+    form.sort
 }
 
 // A child's sort is the wanted one; where it is not, reading stops at the parent's record.
@@ -97,7 +95,7 @@ fn check_field(table: &[u8], index: &[u16], field: Field, at: usize) -> Checked
 fn check_ranges(fields: Fields, variables: usize, arrays: usize, n: usize, at: usize) -> Checked
     ensures { λ r. ⌜ r ≡ checkedAs (check (all (fieldInRange variables arrays n) (fieldsOf fields)) (OutOfRange at) (got tt)) ⌝ }
 {
-    if fields::in_range(fields, variables, arrays, n) {
+    if forms::in_range(fields, variables, arrays, n) {
         return Checked::Passed;
     }
     Checked::Refused {
@@ -109,14 +107,26 @@ fn check_ranges(fields: Fields, variables: usize, arrays: usize, n: usize, at: u
 fn check_sorts(table: &[u8], index: &[u16], fields: Fields, at: usize) -> Checked
     ensures { λ r. ⌜ SortsChecked (now (table .entry)) (now (index .entry)) at (fieldsOf fields) r ⌝ }
 {
-    let first = fields.first;
-    let second = fields.second;
-    let third = fields.third;
-    let later = checks::first_refusal(
-        check_field(table, index, second, at),
-        check_field(table, index, third, at),
-    );
-    checks::first_refusal(check_field(table, index, first, at), later)
+    match fields {
+        Fields::Nothing => Checked::Passed,
+        Fields::Word { .. } => Checked::Passed,
+        Fields::One { first } => check_field(table, index, first, at),
+        Fields::Two { first, second } => checks::first_refusal(
+            check_field(table, index, first, at),
+            check_field(table, index, second, at),
+        ),
+        Fields::Three {
+            first,
+            second,
+            third,
+        } => {
+            let later = checks::first_refusal(
+                check_field(table, index, second, at),
+                check_field(table, index, third, at),
+            );
+            checks::first_refusal(check_field(table, index, first, at), later)
+        }
+    }
 }
 
 // Why a record of no kind is refused: its head is cut, or it is the wrong record.
@@ -148,11 +158,12 @@ pub fn read_node(
             refusal: refuse_kind(table, at),
         };
     };
-    let size = decode::size_of(node);
+    let form = forms::form_of(node);
+    let fields = form.fields;
+    let size = forms::record_size(fields);
     if let Checked::Refused { refusal } = checks::frame(table, at, size) {
         return NodeRead::Refused { refusal };
     }
-    let fields = fields::fields_of(node);
     let ranges = check_ranges(fields, variables, arrays, n, at);
     let sorts = check_sorts(table, index, fields, at);
     if let Checked::Refused { refusal } = checks::first_refusal(ranges, sorts) {

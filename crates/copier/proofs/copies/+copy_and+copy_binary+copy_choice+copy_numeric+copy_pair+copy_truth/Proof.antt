@@ -13,6 +13,9 @@ use Rattle.awhile.specs.declared.Node.the-variants.{Add, Subtract, Multiply, Co
 use Rattle.awhile.proofs.Unnamed.{never-numeric, never-truth}
 use Rattle.reader.specs.Index.{numericIn, truthIn}
 use Rattle.reader.proofs.Index.{Parts}
+use Rattle.reader.specs.declared.forms.Field.the-variants.{Child}
+use Rattle.reader.specs.declared.forms.Fields.the-variants.{Two}
+use Rattle.awhile.specs.declared.Sort.the-variants.{Numeric}
 use Rattle.copier.specs.Records.{recordSize}
 use Rattle.copier.specs.Sizes.{bytesOfA, bytesOfB}
 use Rattle.copier.specs.Written.{Room}
@@ -205,7 +208,7 @@ unfolding nodesOfA nodesOfB bytesOfA bytesOfB writeA writeB binary sizeOf form f
     (λ c κs. search needs)
     (λ c κs. let r = pair-room (c .before .before .before .before .copy-pair .ensures) (c .before .before .before .before .before .before .before .before .before .pre .1 .1) in (omega (arith, r .0, ap recordSize (c .before .record-over .ensures)), r .1))
     (λ c. search needs)
-    (λ c. record { wrote = λ f made. pair-parent f (c .before .before .before .before .before .before .before .copy-pair .ensures) (appended-node (c .before .before .before .before .record-over .ensures ∙ sym (made _ _)) (c .before .before .append-record .ensures)) }))
+    (λ c. record { wrote = λ f made. pair-parent f (c .before .before .before .before .before .before .before .copy-pair .ensures) (appended-node (record { kind = _; sort = _; fields = Two (Child Numeric _) (Child Numeric _) }) (sym (made _ _)) (c .before .before .before .before .record-over .ensures) (c .before .before .append-record .ensures)) }))
     (λ t. copy-choice-lts.spec (copy-choice-calls t) (copy-choice-at t) copy-choice.Post
     -- the condition, and what is left behind it
     (λ c κs. let s = c .before .before .before .before in (first-of-pair (s .args .condition) (max (s .args .yes) (s .args .no)) 1 (s .pre .0), (s .pre .1 .0 .0, room-first (s .pre .1 .1) (omega arith) (omega arith))))

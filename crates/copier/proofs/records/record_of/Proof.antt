@@ -1,4 +1,4 @@
--- `record_of` is `recordOf`, kind by kind: first what each arm's call asks, then what each arm answers.
+-- `record_of` is `recordOf`, shape by shape: first what each arm asks, then what each arm answers.
 use borrow.Author.Needs.{needs}
 use Rattle.copier.proofs.records.record_of.Statement.{statement}
 use Rattle.copier.proofs.records.record_of.Tie as tie
@@ -7,39 +7,13 @@ pub record-of-spec : {M : Type 1} → statement M
 record-of-spec =
     tie.close
     (tie.spec
-    (λ c. search needs) (λ c. search needs) (λ c. search needs) (λ c κs. search needs)
-    (λ c. search needs) (λ c κs. search needs)
-    (λ c. search needs) (λ c κs. search needs)
-    (λ c. search needs) (λ c κs. search needs)
-    (λ c. search needs) (λ c κs. search needs)
-    (λ c. search needs) (λ c κs. search needs)
-    (λ c. search needs) (λ c κs. search needs)
-    (λ c. search needs) (λ c κs. search needs)
-    (λ c. search needs) (λ c κs. search needs)
-    (λ c. search needs) (λ c κs. search needs)
-    (λ c. search needs) (λ c κs. search needs)
     (λ c. search needs)
+    (λ c. search needs) (λ c. search needs) (λ c. search needs)
     (λ c. search needs) (λ c κs. search needs)
-    (λ c. search needs) (λ c κs. search needs)
-    (λ c. search needs) (λ c κs. search needs)
-    (λ c. search needs) (λ c κs. search needs)
-    (λ c. search needs) (λ c κs. search needs)
-    (λ c. search needs) (λ c κs. search needs)
-    (λ c. rw (c .before .before .node .given .1) (c .two .ensures))
-    (λ c. rw (c .before .before .node2 .given .1) (c .one .ensures))
-    (λ c. rw (c .before .before .node3 .given .1) (c .two2 .ensures))
-    (λ c. rw (c .before .before .node4 .given .1) (c .two3 .ensures))
-    (λ c. rw (c .before .before .node5 .given .1) (c .two4 .ensures))
-    (λ c. rw (c .before .before .node6 .given .1) (c .three .ensures))
-    (λ c. rw (c .before .before .node7 .given .1) (c .one2 .ensures))
-    (λ c. rw (c .before .before .node8 .given .1) (c .two5 .ensures))
-    (λ c. rw (c .before .before .node9 .given .1) (c .two6 .ensures))
-    (λ c. rw (c .before .before .node10 .given .1) (c .one3 .ensures))
-    (λ c. rw (c .before .before .node11 .given .1) (c .two7 .ensures))
+    (λ c. search needs) (λ c κs. search needs) (λ c κs. search needs)
+    (λ c. search needs) (λ c κs. search needs) (λ c κs. search needs) (λ c κs. search needs)
     (λ c. rw (c .enum-told .given .1))
-    (λ c. rw (c .before .before .node12 .given .1) (c .two8 .ensures))
-    (λ c. rw (c .before .before .node13 .given .1) (c .two9 .ensures))
-    (λ c. rw (c .before .before .node14 .given .1) (c .three2 .ensures))
-    (λ c. rw (c .before .before .node15 .given .1) (c .two10 .ensures))
-    (λ c. rw (c .before .before .node16 .given .1) (c .three3 .ensures))
-    (λ c. rw (c .before .before .node17 .given .1) (c .three4 .ensures)))
+    (λ c. rw (c .before .fields .given .1))
+    (λ c. rw (c .before .before .fields2 .given .1, c .number-of .ensures))
+    (λ c. rw (c .before .before .before .fields3 .given .1, c .before .number-of2 .ensures, c .number-of3 .ensures))
+    (λ c. rw (c .before .before .before .before .fields4 .given .1, c .before .before .number-of4 .ensures, c .before .number-of5 .ensures, c .number-of6 .ensures)))

@@ -1,12 +1,14 @@
--- `sort_at` takes the sort by the kind: those of numbers are the lowest, those of commands the highest.
-use native.Mathlib.Omega.{arith}
+-- `sort_at` takes the sort of the record's kind: its fields have no say in it.
+use Rattle.reader.proofs.RecordKinds.{sort-by-kind, no-sort}
+use Rattle.reader.proofs.RecordForms.{same-sort}
 use borrow.Author.Needs.{needs}
-use Rattle.reader.proofs.RecordKinds.{sort-numeric, sort-truth, sort-command}
 use Rattle.reader.proofs.walk.sort_at.Statement.{statement}
 use Rattle.reader.proofs.walk.sort_at.Tie as tie
 
 returns-2 : tie.Need-returns-2
-returns-2 c = sort-truth _ _ (omega (arith, c .before .before .u16-at .ensures .0, c .before .if1 .left)) (omega (arith, c .before .before .u16-at .ensures .0, c .if2 .taken))
+returns-2 c =
+    let node = c .before .before .node .given in
+    rw (same-sort (node .0 .0) (c .form-of .result) (c .form-of .ensures)) (sort-by-kind _ _ _ (c .before .before .before .before .before .u16-at .ensures .0) _ (c .before .before .before .before .node-of .ensures) _ (node .1))
 
 pub sort-at-spec : {M : Type 1} → statement M
 sort-at-spec =
@@ -14,6 +16,9 @@ sort-at-spec =
     (tie.spec
     (λ c. search needs)
     (λ c κs. search needs)
-    (λ c. sort-numeric _ _ (omega (arith, c .before .u16-at .ensures .0, c .if1 .taken)))
-    returns-2
-    (λ c. sort-command _ _ (omega (arith, c .before .before .u16-at .ensures .0, c .if2 .left))))
+    (λ c κs. search needs)
+    (λ c. search needs)
+    (λ c. search needs)
+    (λ c. no-sort _ _ _ (c .before .before .before .u16-at .ensures .0) _ (c .before .before .node-of .ensures) _ (c .enum-told .given .1))
+    (λ c κs. search needs)
+    returns-2)

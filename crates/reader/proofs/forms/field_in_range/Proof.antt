@@ -1,8 +1,8 @@
 -- `field_in_range` makes the test that each field asks for.
 use Rattle.awhile.specs.Nodes.{fieldInRange}
 use borrow.Author.Needs.{needs}
-use Rattle.reader.proofs.fields.field_in_range.Statement.{statement}
-use Rattle.reader.proofs.fields.field_in_range.Tie as tie
+use Rattle.reader.proofs.forms.field_in_range.Statement.{statement}
+use Rattle.reader.proofs.forms.field_in_range.Tie as tie
 
 pub field-in-range-spec : {M : Type 1} → statement M
 unfolding fieldInRange
@@ -13,8 +13,6 @@ field-in-range-spec =
     (λ c. search needs)
     (λ c. search needs)
     (λ c. search needs)
-    (λ c. search needs)
-    (λ c. rw (c .enum-told .given .1))
     (λ c. rw (c .before .field .given .1))
     (λ c. rw (c .before .field2 .given .1))
     (λ c. rw (c .before .field3 .given .1))
