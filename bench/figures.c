@@ -103,7 +103,7 @@ static void figures_of_sizes(void)
     enum { COUNT = sizeof sizes / sizeof *sizes };
     print_timing_head("Time against the number of nodes (8 generated tables of each size)", "N");
     for (unsigned i = 0; i < COUNT; i++)
-        print_timing("reading (a sheet call refused by 23)", sizes[i], time_samples(ENTRY_SHEET, sizes[i], 0));
+        print_timing("reading (a run refused by 20)", sizes[i], time_samples(ENTRY_RUN, sizes[i], 0));
     for (unsigned i = 0; i < COUNT; i++)
         print_timing("labelling", sizes[i], time_samples(ENTRY_SHEET, sizes[i], FLOW_SHEET_BYTES));
     for (unsigned i = 0; i < COUNT && sizes[i] <= FLOW_MAX_HARDENED_NODES; i++)
