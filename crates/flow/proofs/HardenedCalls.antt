@@ -18,8 +18,7 @@ use Rattle.awhile.specs.declared.Refusal.{Refusal}
 use Rattle.awhile.specs.declared.Refusal.the-variants.{TooManyNodes, NoFreeVariable}
 use Rattle.masks.specs.Hardening.{hardenedTable, maxHardened}
 use Rattle.masking.specs.Deciding.{Decides}
-use Rattle.hardener.specs.Output.{Measurable, Measured, Writable}
-use Rattle.copier.specs.declared.Size.{Size}
+use Rattle.hardener.specs.Output.{Measurable, Writable}
 use Rattle.entries.specs.Answers.{answered, refusalNumbers}
 use Rattle.flow.specs.Writes.{HardenReady, HasHardened}
 use Rattle.flow.specs.Writes.{Writes}
@@ -77,16 +76,15 @@ module _ {s index : List ℕ} {v a n : ℕ} {l : Labelling} (ready : HardenReady
         few = has .few;
       }
 
-  pub writable : {ds out : List ℕ} {root : ℕ} {size : Size} → Measurable s index ds a root → Measured s size → size .bytes ≤ length out
-      → Writable s index ds v a root (size .nodes) l out
-  writable m measured h =
+  pub writable : {ds out : List ℕ} {root : ℕ} → Measurable s index ds a root → length (tableBytes (hardenedTable (tableOf s))) ≤ length out
+      → Writable s index ds v a root l out
+  writable m fits =
       record {
         indexed = m .indexed;
         decided = m .decided;
         numbers = record { isVariables = ready .isVariables; isArrays = ready .isArrays; isRoot = m .isRoot; isLabels = ready .isLabels };
-        isNodes = measured .nodesCounted;
-        few = measured .few;
-        fits = omega (arith, measured .bytesCounted);
+        few = m .few;
+        fits = fits;
       }
 
 -- ---- a table that has its hardened form

@@ -6,7 +6,7 @@ use awhile::Labelling;
 use awhile::MAX_NODES;
 use awhile::MAX_VARIABLES;
 use awhile::Refusal;
-use hardener::tables::measure_hardened;
+use hardener::tables::hardened_fits;
 use hardener::tables::write_hardened;
 use masking::deciding::decide_all;
 use reader::Read;
@@ -64,23 +64,22 @@ fn write_masked(
     let mut decisions = [0u8; MAX_HARDENED];
     decide_program(table, index, nodes, labels, &mut decisions);
     let root = nodes - 1;
-    let size = measure_hardened(table, index, &decisions, arrays, root);
-    if out.len() < size.bytes {
-        return answer_refusal(&mut *answer, Refusal::ShortBuffer);
+    let room = out.len();
+    if hardened_fits(table, index, &decisions, arrays, root, room) {
+        let size = write_hardened(
+            table,
+            index,
+            &decisions,
+            variables,
+            arrays,
+            labels,
+            root,
+            &mut *out,
+        );
+        answer_two(&mut *answer, 0, size as u64);
+        return 0;
     }
-    write_hardened(
-        table,
-        index,
-        &decisions,
-        variables,
-        arrays,
-        labels,
-        root,
-        size.nodes,
-        &mut *out,
-    );
-    answer_two(&mut *answer, 0, size.bytes as u64);
-    0
+    answer_refusal(&mut *answer, Refusal::ShortBuffer)
 }
 
 // The answer for a table that was read: too many nodes come first, then no free variable number, then the buffer.

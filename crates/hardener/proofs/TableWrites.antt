@@ -1,12 +1,12 @@
 -- The hardened table written record by record: array counts one behind the other, then the whole.
-use Prim.Native.Nat.{ℕ, _+_, _-_, _*_, _^_, _≤_, _<_}
+use Prim.Native.Nat.{ℕ, suc, _+_, _-_, _*_, _^_, _≤_, _<_}
 use native.Mathlib.Numerals.{add-one}
 use native.Mathlib.Omega.{arith}
 use mathlib.Core.List.{List, [], _∷_, _++_, flatMap, append-nil}
 use mathlib.Core.Path.{_≡_, refl, sym, ap, subst, _∙_}
-use lib.ListN.{length, getD, take, length-append, length-take, length-drop}
+use lib.ListN.{length, getD, set, take, length-append, length-take, length-drop}
 use lib.Pow.{pow-mono}
-use lib.Seq.{sets, length-sets, take-suc, length-take-le}
+use lib.Seq.{sets, set-comm, length-sets, take-suc, length-take-le}
 use Rattle.bytes_le.specs.Numbers.{le, leAt}
 use Rattle.bytes_le.proofs.Numbers.{Below, length-le}
 use Rattle.bytes_le.proofs.Stores.{sets-append}
@@ -25,15 +25,15 @@ use Rattle.masks.specs.Hardening.{hardenedProgram, tableOfHardened, hardenedTab
 use Rattle.masking.specs.Deciding.{decisionIn, decidedIn, Decides}
 use Rattle.masking.specs.InMemory.{hardenedIn, Hardenable}
 use Rattle.masking.proofs.DecidedProgram.{program-hardened, program-large}
-use Rattle.hardener.specs.Output.{Measurable, Measured, Writable, WroteTable}
-use Rattle.copier.specs.Sizes.{bytesOf, Sized}
+use Rattle.hardener.specs.Output.{Measurable, Writable, WroteTable}
+use Rattle.copier.specs.Sizes.{bytesOf}
 use Rattle.copier.specs.Written.{Room, Wrote}
 use Rattle.copier.specs.declared.Size.{Size}
 use Rattle.copier.specs.Records.{recordBytes}
 use Rattle.copier.specs.declared.Record.the-variants.{One}
-use Rattle.copier.proofs.Lengths.{counted-C}
+use Rattle.copier.proofs.Lengths.{counted-C, bytes-C}
 use Rattle.copier.proofs.Parts.{sets-rest}
-use Rattle.copier.proofs.Writers.{sizeIs, restOf, withRest}
+use Rattle.copier.proofs.Writers.{restOf, withRest, wrote-sized}
 use Rattle.awhile.proofs.Size.{root-size}
 use Rattle.masks.proofs.Growth.{hardened-size, nodesOf-mapped}
 use Rattle.hardener.proofs.CommandSizes.{any-flag}
@@ -91,17 +91,27 @@ length-labels : (l : Labelling) → length (labelsBytes l) ≡ 10
 unfolding labelsBytes
 length-labels l = simp (length-append, length-le)
 
--- four runs of bytes, one behind the other
+-- a store in front of a run of bytes may come before it as well
+set-sooner : (ys l : List ℕ) (i j x : ℕ) → i < j → set (sets l j ys) i x ≡ sets (set l i x) j ys
+set-sooner [] l i j x less = refl
+set-sooner (y ∷ ys) l i j x less =
+    set-sooner ys (set l j y) i (suc j) x (omega arith) ∙ ap (λ k. sets k (suc j) ys) (set-comm l j i y x (λ e. absurd (omega arith)))
+
+sets-sooner : (xs ys l : List ℕ) (i j : ℕ) → i + length xs ≤ j → sets (sets l j ys) i xs ≡ sets (sets l i xs) j ys
+sets-sooner [] ys l i j front = refl
+sets-sooner (x ∷ xs) ys l i j front =
+    ap (λ k. sets k (suc i) xs) (set-sooner ys l i j x (omega arith)) ∙ sets-sooner xs ys (set l i x) (suc i) j (omega arith)
+
+-- three runs of bytes, one behind the other, and then the run in front of them
 four-runs : (l h b c n : List ℕ) (a : ℕ) → length h ≡ 10 → length b ≡ 10 → length c ≡ 6 * a
-    → sets (sets (sets (sets l 0 h) 10 b) 20 c) (20 + 6 * a) n ≡ sets l 0 (h ++ (b ++ (c ++ n)))
+    → sets (sets (sets (sets l 10 b) 20 c) (20 + 6 * a) n) 0 h ≡ sets l 0 (h ++ (b ++ (c ++ n)))
 four-runs l h b c n a p q r =
     let e : 20 + 6 * a ≡ 20 + length c = omega arith in
     let f : 20 ≡ 10 + length b = omega arith in
     let g : 10 ≡ 0 + length h = omega arith in
-    ap (λ i. sets (sets (sets (sets l 0 h) 10 b) 20 c) i n) e
-    ∙ sym (sets-append c n (sets (sets l 0 h) 10 b) 20)
-    ∙ ap (λ i. sets (sets (sets l 0 h) 10 b) i (c ++ n)) f
-    ∙ sym (sets-append b (c ++ n) (sets l 0 h) 10)
+    ap (λ i. sets (sets (sets (sets l 10 b) 20 c) i n) 0 h) e
+    ∙ ap (λ k. sets k 0 h) (sym (sets-append c n (sets l 10 b) 20) ∙ ap (λ i. sets (sets l 10 b) i (c ++ n)) f ∙ sym (sets-append b (c ++ n) l 10))
+    ∙ sets-sooner h (b ++ (c ++ n)) l 0 10 (omega arith)
     ∙ ap (λ i. sets (sets l 0 h) i (b ++ (c ++ n))) g
     ∙ sym (sets-append h (b ++ (c ++ n)) l 0)
 
@@ -143,9 +153,9 @@ module _ {table index ds : List ℕ} (bytes : Below 256 table) (indexed : Indexe
       }
 
   -- at most 8 nodes come out per node put in
-  root-few : nodesIn table ≤ maxHardened → nodesOf (hardenedIn table ds 0 root) ≤ maxNodes
+  root-grown : nodesOf (hardenedIn table ds 0 root) ≤ 8 * nodesIn table
   unfolding hardenedIn decidedIn nodesIn
-  root-few few =
+  root-grown =
       let d : Com Decision = decidedIn table ds root in
       omega (
         arith,
@@ -155,19 +165,22 @@ module _ {table index ds : List ℕ} (bytes : Below 256 table) (indexed : Indexe
         root-size (tableOf table) (indexed-well-formed table index bytes indexed),
       )
 
-module _ {table index ds : List ℕ} {v a root nodes : ℕ} {labels : Labelling} {out : List ℕ} (bytes : Below 256 table)
-    (w : Writable table index ds v a root nodes labels out) where
+  root-few : nodesIn table ≤ maxHardened → nodesOf (hardenedIn table ds 0 root) ≤ maxNodes
+  root-few few = omega (arith, root-grown)
+
+module _ {table index ds : List ℕ} {v a root : ℕ} {labels : Labelling} {out : List ℕ} (bytes : Below 256 table)
+    (w : Writable table index ds v a root labels out) where
   written-root : hardenedIn table ds v root ≡ hardenedProgram (tableOf table)
   written-root = ap (λ f. hardenedIn table ds f root) (w .numbers .isVariables) ∙ root-hardened bytes (w .indexed) (w .decided) root (w .numbers .isRoot)
 
   -- the bytes of the hardened table
   pub whole-bytes : tableBytes (hardenedTable (tableOf table))
-      ≡ headerBytes (v + 1) a nodes ++ (labelsBytes labels ++ (flatMap countBytes (tableOf table .counts) ++ flatMap nodeBytes (writeC 0 (hardenedIn table ds v root))))
+      ≡ headerBytes (v + 1) a (nodesOf (hardenedIn table ds v root)) ++ (labelsBytes labels ++ (flatMap countBytes (tableOf table .counts) ++ flatMap nodeBytes (writeC 0 (hardenedIn table ds v root))))
   unfolding tableBytes hardenedTable tableOfHardened
   whole-bytes =
       let t = tableOf table in
       let p = hardenedProgram t in
-      let n : nodes ≡ length (writeC 0 p) = w .isNodes ∙ sym (counted-C 0 p .nodesAre) in
+      let n : nodesOf p ≡ length (writeC 0 p) = sym (counted-C 0 p .nodesAre) in
       rw (written-root, w .numbers .isVariables, w .numbers .isArrays, w .numbers .isLabels, n)
 
   -- and how many
@@ -194,36 +207,55 @@ module _ {table index ds : List ℕ} {v a root nodes : ℕ} {labels : Labelling}
   pub written-hardenable : Hardenable table index ds root
   written-hardenable = root-hardenable bytes (w .indexed) (w .decided) root (w .numbers .isRoot)
 
+  -- so many nodes come out that a table may have them
+  pub written-few : nodesOf (hardenedIn table ds v root) ≤ maxNodes
+  unfolding hardenedIn
+  written-few =
+      omega (arith, root-few bytes (w .indexed) (w .decided) root (w .numbers .isRoot) (w .few), any-flag 0 v (decidedIn table ds root) .nodesSame)
+
   -- room for the nodes, behind the declarations
   pub nodes-room : (m : List ℕ) → length m ≡ length out
       → Room 0 (nodesOf (hardenedIn table ds v root)) (bytesOf (hardenedIn table ds v root)) (restOf (20 + 6 * a) m)
   nodes-room m same =
       record {
-        numbers = omega (arith, w .few, w .isNodes, ap nodesOf written-root);
+        numbers = omega (arith, written-few);
         fits = simp (length-take, length-drop) (omega (arith, whole-fits));
       }
 
-  -- header, labels, arrays and nodes make the table
-  pub whole-written : {l m k rest : List ℕ} {s : Size} → l ≡ sets out 0 (headerBytes (v + 1) a nodes) → m ≡ sets l 10 (labelsBytes labels)
-      → k ≡ sets m 20 (flatMap countBytes (tableOf table .counts)) → Wrote (writeC 0 (hardenedIn table ds v root)) (restOf (20 + 6 * a) k) rest s
-      → WroteTable table out (withRest (20 + 6 * a) k rest) (20 + 6 * a + s .bytes)
-  whole-written {l} {m} {k} {rest} {s} p q r n =
-      let h = headerBytes (v + 1) a nodes in
+  -- the nodes behind the declarations, as one store
+  nodes-stored : (m : List ℕ) {rest : List ℕ} {s : Size} → length m ≡ length out → Wrote (writeC 0 (hardenedIn table ds v root)) (restOf (20 + 6 * a) m) rest s
+      → withRest (20 + 6 * a) m rest ≡ sets m (20 + 6 * a) (flatMap nodeBytes (writeC 0 (hardenedIn table ds v root)))
+  nodes-stored m same n =
+      let ns = flatMap nodeBytes (writeC 0 (hardenedIn table ds v root)) in
+      let there : 20 + 6 * a + length ns ≤ length m = omega (arith, whole-fits, counted-C 0 (hardenedIn table ds v root) .bytesAre) in
+      ap (withRest (20 + 6 * a) m) (n .stored) ∙ sets-rest m (20 + 6 * a) ns there
+
+  -- they leave room for the header in front of them
+  pub header-room : (m : List ℕ) {rest : List ℕ} {s : Size} → length m ≡ length out → Wrote (writeC 0 (hardenedIn table ds v root)) (restOf (20 + 6 * a) m) rest s
+      → 10 ≤ length (withRest (20 + 6 * a) m rest)
+  header-room m same n =
+      omega (arith, whole-fits, ap length (nodes-stored m same n) ∙ length-sets m (20 + 6 * a) (flatMap nodeBytes (writeC 0 (hardenedIn table ds v root))))
+
+  -- labels, arrays and nodes, and the header in front of them, make the table
+  pub whole-written : {l m rest k : List ℕ} {s : Size} → l ≡ sets out 10 (labelsBytes labels) → m ≡ sets l 20 (flatMap countBytes (tableOf table .counts))
+      → Wrote (writeC 0 (hardenedIn table ds v root)) (restOf (20 + 6 * a) m) rest s → k ≡ sets (withRest (20 + 6 * a) m rest) 0 (headerBytes (v + 1) a (s .nodes))
+      → WroteTable table out k (20 + 6 * a + s .bytes)
+  whole-written {l} {m} {rest} {k} {s} p q n r =
+      let h = headerBytes (v + 1) a (nodesOf (hardenedIn table ds v root)) in
       let b = labelsBytes labels in
       let c = flatMap countBytes (tableOf table .counts) in
       let ns = flatMap nodeBytes (writeC 0 (hardenedIn table ds v root)) in
-      let counted = counted-C 0 (hardenedIn table ds v root) .bytesAre in
-      let same : length k ≡ length out =
-      ap length r ∙ length-sets m 20 c ∙ ap length q ∙ length-sets l 10 b ∙ ap length p ∙ length-sets out 0 h in
-      let there : 20 + 6 * a + length ns ≤ length k = omega (arith, whole-fits) in
+      let counted = counted-C 0 (hardenedIn table ds v root) in
+      let came : s .nodes ≡ nodesOf (hardenedIn table ds v root) = wrote-sized n counted .nodesCounted in
+      let same : length m ≡ length out = ap length q ∙ length-sets l 20 c ∙ ap length p ∙ length-sets out 10 b in
       record {
         stored =
-            ap (withRest (20 + 6 * a) k) (n .stored)
-            ∙ sets-rest k (20 + 6 * a) ns there
-            ∙ ap (λ x. sets x (20 + 6 * a) ns) (r ∙ ap (λ x. sets x 20 c) (q ∙ ap (λ x. sets x 10 b) p))
-            ∙ four-runs out h b c ns a (length-header (v + 1) a nodes) (length-labels labels) (omega (arith, length-counts (tableOf table .counts), w .numbers .isArrays))
+            r
+            ∙ ap (λ i. sets (withRest (20 + 6 * a) m rest) 0 (headerBytes (v + 1) a i)) came
+            ∙ ap (λ x. sets x 0 h) (nodes-stored m same n ∙ ap (λ x. sets x (20 + 6 * a) ns) (q ∙ ap (λ x. sets x 20 c) p))
+            ∙ four-runs out h b c ns a (length-header (v + 1) a (nodesOf (hardenedIn table ds v root))) (length-labels labels) (omega (arith, length-counts (tableOf table .counts), w .numbers .isArrays))
             ∙ ap (sets out 0) (sym whole-bytes);
-        counted = omega (arith, whole-length, n .bytesCounted);
+        counted = omega (arith, whole-length, n .bytesCounted, counted .bytesAre);
       }
 
 -- ---- measuring the hardened table
@@ -234,17 +266,24 @@ module _ {table index ds : List ℕ} {a root : ℕ} (bytes : Below 256 table) (m
   pub measured-few : nodesOf (hardenedIn table ds 0 root) ≤ maxNodes
   measured-few = root-few bytes (m .indexed) (m .decided) root (m .isRoot) (m .few)
 
-  pub measured-sized : {s : Size} → Sized (nodesOf (hardenedIn table ds 0 root)) (bytesOf (hardenedIn table ds 0 root)) s
-      → Measured table (sizeIs (s .nodes) (20 + 6 * a + s .bytes))
+  -- how long the hardened table is, by its root
+  pub measured-length : length (tableBytes (hardenedTable (tableOf table))) ≡ 20 + 6 * a + bytesOf (hardenedIn table ds 0 root)
   unfolding hardenedIn
-  measured-sized s =
+  measured-length =
       let same = any-flag 0 (tableOf table .variables) (decidedIn table ds root) in
       let whole = root-hardened bytes (m .indexed) (m .decided) root (m .isRoot) in
-      record {
-        nodesCounted = omega (arith, s .nodesCounted, same .nodesSame, ap nodesOf whole);
-        bytesCounted = omega (arith, s .bytesCounted, same .bytesSame, ap bytesOf whole, table-length (tableOf table), m .isArrays);
-        few = omega (arith, s .nodesCounted, measured-few);
-      }
+      omega (arith, same .bytesSame, ap bytesOf whole, table-length (tableOf table), m .isArrays)
+
+  -- at most 80 bytes come out per node put in
+  pub measured-short : length (tableBytes (hardenedTable (tableOf table))) ≤ 20 + 6 * a + 80 * (root + 1)
+  measured-short =
+      omega (
+        arith,
+        measured-length,
+        bytes-C (hardenedIn table ds 0 root) .short,
+        root-grown bytes (m .indexed) (m .decided) root (m .isRoot),
+        m .isRoot,
+      )
 
   pub measured-arrays : a ≤ maxArrays
   measured-arrays = omega (arith, m .isArrays, indexed-well-formed table index bytes (m .indexed) .declared .arraysFit)

@@ -4,13 +4,11 @@ use mathlib.Core.List.{List}
 use mathlib.Core.Path.{_≡_}
 use lib.ListN.{length}
 use lib.Seq.{sets}
-use Rattle.awhile.specs.Encoding.{nodesOf, tableBytes}
+use Rattle.awhile.specs.Encoding.{tableBytes}
 use Rattle.reader.specs.Index.{Indexed, tableOf, nodesIn}
-use Rattle.awhile.specs.Tables.{maxNodes}
 use Rattle.awhile.specs.declared.Labelling.{Labelling}
-use Rattle.masks.specs.Hardening.{hardenedProgram, hardenedTable, maxHardened}
+use Rattle.masks.specs.Hardening.{hardenedTable, maxHardened}
 use Rattle.masking.specs.Deciding.{Decides}
-use Rattle.copier.specs.declared.Size.{Size}
 
 -- the numbers of a table that was read
 pub record Numbers (table : List ℕ) (variables arrays root : ℕ) (labels : Labelling) : Type 0 where
@@ -19,13 +17,11 @@ pub record Numbers (table : List ℕ) (variables arrays root : ℕ) (labels : La
   pub isRoot : root + 1 ≡ nodesIn table
   pub isLabels : labels ≡ tableOf table .labels
 
-pub record Writable (table index decisions : List ℕ) (variables arrays root nodes : ℕ) (labels : Labelling) (out : List ℕ) : Type 0 where
+pub record Writable (table index decisions : List ℕ) (variables arrays root : ℕ) (labels : Labelling) (out : List ℕ) : Type 0 where
   pub indexed : Indexed table index
   pub decided : Decides table decisions
   pub numbers : Numbers table variables arrays root labels
-  -- as many nodes as come out
-  pub isNodes : nodes ≡ nodesOf (hardenedProgram (tableOf table))
-  pub few : nodes ≤ maxNodes
+  pub few : nodesIn table ≤ maxHardened
   pub fits : length (tableBytes (hardenedTable (tableOf table))) ≤ length out
 
 -- the table is written at the front, and its length answered
@@ -40,9 +36,3 @@ pub record Measurable (table index decisions : List ℕ) (arrays root : ℕ) : T
   pub isArrays : arrays ≡ length (tableOf table .counts)
   pub isRoot : root + 1 ≡ nodesIn table
   pub few : nodesIn table ≤ maxHardened
-
--- what measuring answers: how many nodes and bytes the hardened table has, of nodes no more than a table may have
-pub record Measured (table : List ℕ) (answer : Size) : Type 0 where
-  pub nodesCounted : answer .nodes ≡ nodesOf (hardenedProgram (tableOf table))
-  pub bytesCounted : answer .bytes ≡ length (tableBytes (hardenedTable (tableOf table)))
-  pub few : answer .nodes ≤ maxNodes

@@ -5,17 +5,18 @@ use awhile::Labelling;
 use bytes_le::get;
 use bytes_le::put;
 use copier::Record;
-use copier::Size;
 use copier::records::put_record;
 ghost use Prim.Native.Nat.{_+_, _*_, _^_, _≤_, _<_};
 ghost use mathlib.Core.List.{flatMap};
 ghost use mathlib.Core.Path.{_≡_};
 ghost use lib.ListN.{length};
 ghost use lib.Seq.{sets};
-ghost use Rattle.awhile.specs.Encoding.{headerBytes, labelsBytes, countBytes};
+ghost use lib.Dec.{leb};
+ghost use Rattle.awhile.specs.Encoding.{headerBytes, labelsBytes, countBytes, tableBytes};
 ghost use Rattle.reader.specs.Index.{tableOf};
 ghost use Rattle.awhile.specs.Tables.{accepted, readTable, maxArrays};
-ghost use Rattle.hardener.specs.Output.{Measurable, Measured, Writable, WroteTable};
+ghost use Rattle.masks.specs.Hardening.{hardenedTable};
+ghost use Rattle.hardener.specs.Output.{Measurable, Writable, WroteTable};
 
 // The header record.
 fn put_header(variables: usize, arrays: usize, nodes: usize, out: &mut [u8])
@@ -62,25 +63,27 @@ fn put_counts(table: &[u8], arrays: usize, out: &mut [u8])
     }
 }
 
-// How many nodes and bytes the hardened table has.
-pub fn measure_hardened(
+// Whether the hardened table fits a buffer. At most 8 nodes of at most 10 bytes come out per node put in, so a large buffer is not measured against.
+pub fn hardened_fits(
     table: &[u8],
     index: &[u16],
     decisions: &[u8],
     count: usize,
     root: usize,
-) -> Size
+    room: usize,
+) -> bool
     requires { ⌜ Measurable (now table) (now index) (now decisions) count root ⌝ }
-    ensures { λ r. ⌜ Measured (now (table .entry)) r ⌝ }
+    ensures { λ r. ⌜ r ≡ leb (length (tableBytes (hardenedTable (tableOf (now (table .entry)))))) room ⌝ }
 {
-    let size = harden_size(table, index, decisions, root);
-    Size {
-        nodes: size.nodes,
-        bytes: 20 + 6 * count + size.bytes,
+    let declarations = 20 + 6 * count;
+    if declarations + 80 * (root + 1) <= room {
+        return true;
     }
+    let size = harden_size(table, index, decisions, root);
+    declarations + size.bytes <= room
 }
 
-// The hardened table at the front of a slice, from its root and from how many nodes come out. The answer is its byte length.
+// The hardened table at the front of a slice, from its root. The header is written last: it says how many nodes came out. The answer is the table's byte length.
 pub fn write_hardened(
     table: &[u8],
     index: &[u16],
@@ -89,17 +92,16 @@ pub fn write_hardened(
     count: usize,
     labels: Labelling,
     root: usize,
-    nodes: usize,
     out: &mut [u8],
 ) -> usize
-    requires { ⌜ Writable (now table) (now index) (now decisions) declared count root nodes labels (now out) ⌝ }
+    requires { ⌜ Writable (now table) (now index) (now decisions) declared count root labels (now out) ⌝ }
     ensures { λ r. ⌜ WroteTable (now (table .entry)) (now (out .entry)) (now (out .exit)) r ⌝ }
 {
-    // the flag is one variable more
-    put_header(declared + 1, count, nodes, &mut *out);
     put_labels(labels, &mut *out);
     put_counts(table, count, &mut *out);
     let at = 20 + 6 * count;
     let size = harden_command(table, index, decisions, declared, root, 0, &mut out[at..]);
+    // the flag is one variable more
+    put_header(declared + 1, count, size.nodes, &mut *out);
     at + size.bytes
 }

@@ -1,9 +1,10 @@
--- `write_masked` decides on the program, measures what comes out, and writes it where it fits.
+-- `write_masked` decides on the program, and writes what comes out where it fits.
 use native.Mathlib.Omega.{arith}
 use denote.Ref.{now}
 use mathlib.Core.List.{[], _∷_}
-use mathlib.Core.Path.{ap, _∙_}
+use mathlib.Core.Path.{sym, ap, _∙_}
 use Prim.Native.Nat.{_-_}
+use borrow.Author.Tests.{leb-true, leb-false}
 use Rattle.bytes_le.proofs.Numbers.{slice-bytes}
 use Rattle.awhile.specs.Encoding.{tableBytes}
 use Rattle.reader.specs.Index.{tableOf}
@@ -29,25 +30,24 @@ decided d =
     let start = d .before .before .before .before .before .before in
     measurable (start .pre .0) (slice-bytes (now (start .args .table)) (d .before .before .before .before .before .shared-slice-known .given)) (d .decide-program .ensures) (start .pre .1)
 
-measure-hardened-requires : tie.Need-measure-hardened-requires
-measure-hardened-requires c κs = decided (c .before .before)
+hardened-fits-requires : tie.Need-hardened-fits-requires
+hardened-fits-requires c κs = decided (c .before .before)
+
+write-hardened-requires : tie.Need-write-hardened-requires
+write-hardened-requires c κs = writable (c .before .before .before .before .before .before .before .before .before .before .before .before .pre .0) (decided (c .before .before .before .before .before .before)) (leb-true _ _ (sym (c .before .before .before .hardened-fits .ensures) ∙ c .before .before .if1 .taken))
 
 returns : tie.Need-returns
 returns c =
-    let start = c .before .before .before .before .before .before .before .before .before .before .before .before .before .before .before in
-    writes-nothing (tableBytes (hardenedTable (tableOf (now (start .args .table))))) (now (start .args .out)) (now (start .args .answer)) (omega (arith, c .before .before .before .before .if1 .taken, c .before .before .before .before .before .before .measure-hardened .ensures .bytesCounted))
-    (c .before .before .answer-refusal .ensures .0) (c .before .before .answer-refusal .ensures .1)
-
-write-hardened-requires : tie.Need-write-hardened-requires
-write-hardened-requires c κs =
-    writable (c .before .before .before .before .before .before .before .before .before .before .before .before .before .pre .0) (decided (c .before .before .before .before .before .before .before)) (c .before .before .before .before .measure-hardened .ensures) (omega (arith, c .before .before .if1 .left))
+    let args = c .before .before .before .before .before .before .before .before .before .before .before .before .before .before .before .before .before .before .before .args in
+    let wrote = c .before .before .before .before .before .before .write-hardened .ensures in
+    writes-all (tableBytes (hardenedTable (tableOf (now (args .table))))) (now (args .out)) (now (args .answer)) (leb-true _ _ (sym (c .before .before .before .before .before .before .before .before .before .before .hardened-fits .ensures) ∙ c .before .before .before .before .before .before .before .before .before .if1 .taken)) (wrote .stored)
+    (c .before .before .answer-two .ensures ∙ ap (λ k. answered (0 ∷ k ∷ []) (now (args .answer))) (wrote .counted))
 
 returns-2 : tie.Need-returns-2
 returns-2 c =
-    let start = c .before .before .before .before .before .before .before .before .before .before .before .before .before .before .before .before .before .before .before .before in
-    let size = c .before .before .before .before .before .before .before .before .before .before .before .measure-hardened .ensures .bytesCounted in
-    writes-all (tableBytes (hardenedTable (tableOf (now (start .args .table))))) (now (start .args .out)) (now (start .args .answer)) (omega (arith, c .before .before .before .before .before .before .before .before .before .if1 .left, size)) (c .before .before .before .before .before .before .write-hardened .ensures .stored)
-    (c .before .before .answer-two .ensures ∙ ap (λ k. answered (0 ∷ k ∷ []) (now (start .args .answer))) size)
+    let args = c .before .before .before .before .before .before .before .before .before .before .before .before .before .before .args in
+    writes-nothing (tableBytes (hardenedTable (tableOf (now (args .table))))) (now (args .out)) (now (args .answer)) (leb-false _ _ (sym (c .before .before .before .before .before .hardened-fits .ensures) ∙ c .before .before .before .before .if1 .left))
+    (c .before .before .answer-refusal .ensures .0) (c .before .before .answer-refusal .ensures .1)
 
 pub write-masked-spec : {M : Type 1} → statement M
 write-masked-spec =
@@ -57,13 +57,13 @@ write-masked-spec =
     (λ c κs. search needs)
     sub-root
     (λ c. search needs)
-    measure-hardened-requires
-    (λ c κs. search needs)
-    (λ c. search needs)
-    returns
+    hardened-fits-requires
     (λ c. search needs)
     write-hardened-requires
     (λ c κs. search needs)
     (λ c. search needs)
+    (λ c. search needs)
+    returns
+    (λ c κs. search needs)
     (λ c. search needs)
     returns-2)
