@@ -20,7 +20,7 @@ fn quad(a: u8, b: u8, c: u8, d: u8) -> u32
 }
 
 // How many bytes stand from an offset on. No offset is too large to ask, and one comparison then tells whether a number is whole.
-fn bytes_from(s: &[u8], at: usize) -> usize
+pub fn bytes_from(s: &[u8], at: usize) -> usize
     ensures { λ r. ⌜ r ≡ length (now (s .entry)) - at ⌝ }
 {
     let n = s.len();

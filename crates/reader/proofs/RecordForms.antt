@@ -30,6 +30,15 @@ fields-few (One f) = omega arith
 fields-few (Two f g) = omega arith
 fields-few (Three f g h) = omega arith
 
+-- and at most 10 bytes
+pub fields-short : (fs : Fields) → 4 + sum (map fieldSize (fieldsOf fs)) ≤ 10
+unfolding sum fieldSize
+fields-short Nothing = omega arith
+fields-short (Word n) = omega arith
+fields-short (One f) = rw two-bytes (omega arith)
+fields-short (Two f g) = simp two-bytes (omega arith)
+fields-short (Three f g h) = simp two-bytes (omega arith)
+
 module _ (m : Node) (f : Form) (e : formOf f ≡ form m) where
   -- its fields are the node's, so its record is as long as they say, and its sort is the node's
   pub same-fields : fieldsOf (f .fields) ≡ form m .fields

@@ -3,7 +3,7 @@ use Prim.Native.Nat.{ℕ}
 use native.Mathlib.Omega.{arith}
 use mathlib.Core.Bool.{Bool, true, false, _&&_, and-true}
 use mathlib.Core.Logic.{⊎-elim}
-use mathlib.Core.Path.{_≡_, refl, ap, _∙_}
+use mathlib.Core.Path.{_≡_, refl, sym, _∙_}
 use mathlib.Core.List.{List, [], _∷_}
 use lib.ListN.{length, getD}
 use borrow.Author.Tests.{ltb-true}
@@ -13,10 +13,9 @@ use Rattle.awhile.specs.Lists.{all}
 use Rattle.awhile.specs.Refusals.{refused, got, check}
 use Rattle.awhile.specs.Nodes.{Field, word, child, form, sizeOf, sortOf, decodeAt, fieldInRange, inRange, sameSort, fieldSorted, sorted, fieldChildren}
 use Rattle.awhile.specs.Tables.{framed, readNode}
-use Rattle.reader.specs.Reader.{checkedAs, firstRefusal, fieldOf, fieldsOf, NodeAs, passedNode, SortAt, SortsChecked, NodeChecked}
+use Rattle.reader.specs.Reader.{checkedAs, tested, firstRefusal, fieldOf, fieldsOf, NodeAs, passedNode, wholeAs, SortAt, SortsThen, RecordChecked, NodeChecked}
 use Rattle.awhile.proofs.Lists.{all-head, all-tail, all-cons}
 use Rattle.awhile.proofs.Cases.{node-known, node-unknown}
-use Rattle.reader.proofs.Passing.{framed-refused, framed-passed-on}
 use Rattle.awhile.specs.declared.Sort.{Sort}
 use Rattle.awhile.proofs.Sort as sort
 use Rattle.awhile.specs.declared.Sort.the-variants.{Numeric, Truth, Command}
@@ -74,61 +73,146 @@ no-children (Variable x) h = refl
 no-children (Array a) h = refl
 no-children (Child s n) h = absurd (never-child s n h)
 
--- ---- two checks in their order
-both-checked : (a b : Checked) (r : Refusal) (p q : Bool) → a ≡ checkedAs (check p r (got tt)) → b ≡ checkedAs (check q r (got tt))
-    → firstRefusal a b ≡ checkedAs (check (p && q) r (got tt))
-unfolding checkedAs check firstRefusal
-both-checked a b r true q e f = rw e f
-both-checked a b r false q e f = rw e
+-- ---- checks in their order
+-- where both pass, each did
+first-passed : (a b : Checked) → firstRefusal a b ≡ Passed → a ≡ Passed
+unfolding firstRefusal
+first-passed (Refused r) b e = e
+first-passed Passed b e = refl
 
+second-passed : (a b : Checked) → firstRefusal a b ≡ Passed → b ≡ Passed
+unfolding firstRefusal
+second-passed (Refused r) b e = cc
+second-passed Passed b e = e
+
+test-passed : (p : Bool) (r : Refusal) → tested p r ≡ Passed → p ≡ true
+unfolding checkedAs check
+test-passed true r e = refl
+test-passed false r e = cc
+
+-- what was refused stays refused
+pub refused-first : (a b : Checked) (r : Refusal) → a ≡ Refused r → a ≡ firstRefusal a b
+unfolding firstRefusal
+refused-first a b r e = rw e
+
+-- two tests with one refusal are one
+tests-joined : (a : Checked) (p q : Bool) (r : Refusal) → firstRefusal (firstRefusal a (tested p r)) (tested q r) ≡ firstRefusal a (tested (p && q) r)
+unfolding firstRefusal checkedAs check
+tests-joined (Refused x) p q r = refl
+tests-joined Passed true q r = refl
+tests-joined Passed false q r = refl
+
+-- a test that passes changes nothing
+test-true : (a : Checked) (r : Refusal) → a ≡ firstRefusal a (tested true r)
+unfolding firstRefusal checkedAs check
+test-true (Refused x) r = refl
+test-true Passed r = refl
+
+-- ---- all ranges
+module _ (vs arrs n at : ℕ) where
+  -- one field after the other
+  unfoldable pub rangesThen : Checked → List Field → Checked
+  rangesThen a [] = a
+  rangesThen a (f ∷ fs) = rangesThen (firstRefusal a (tested (fieldInRange vs arrs n f) (OutOfRange at))) fs
+
+  ranges-all : (a : Checked) (fs : List Field) → rangesThen a fs ≡ firstRefusal a (tested (all (fieldInRange vs arrs n) fs) (OutOfRange at))
+  unfolding all rangesThen
+  ranges-all a [] = test-true a (OutOfRange at)
+  ranges-all a (f ∷ fs) =
+      ranges-all (firstRefusal a (tested (fieldInRange vs arrs n f) (OutOfRange at))) fs
+      ∙ tests-joined a (fieldInRange vs arrs n f) (all (fieldInRange vs arrs n) fs) (OutOfRange at)
+
+-- ---- all sorts
 module _ (s index : List ℕ) (at : ℕ) where
+  pub refused-then : (earlier : Checked) (fs : List Field) (r : Refusal) → earlier ≡ Refused r → SortsThen s index at earlier fs earlier
+  refused-then earlier fs r e = record { isThen = λ vs arrs ns leads ranged. refused-first earlier _ r e }
+
+  -- no fields leave it as it was
+  pub nothing-then : (earlier : Checked) → SortsThen s index at earlier [] earlier
+  unfolding all
+  nothing-then earlier = record { isThen = λ vs arrs ns leads ranged. test-true earlier (WrongSort at) }
+
+  pub word-then : (earlier : Checked) (n : ℕ) → SortsThen s index at earlier (word n ∷ []) earlier
+  unfolding all fieldSorted
+  word-then earlier n = record { isThen = λ vs arrs ns leads ranged. test-true earlier (WrongSort at) }
+
   -- a field that names no child passes
-  pub none-checked : (f : FieldRead) → OneOf (0 ∷ 1 ∷ 2 ∷ []) (tagOf field.the-type f) → SortsChecked s index at (fieldOf f ∷ []) Passed
-  unfolding all checkedAs check
-  none-checked f other = record { isChecked = λ vs arrs ns leads ranged. rw (not-child f other ns) }
-
-  -- no fields pass, and a word does
-  pub nothing-checked : SortsChecked s index at [] Passed
-  unfolding all checkedAs check
-  nothing-checked = record { isChecked = λ vs arrs ns leads ranged. refl }
-
-  pub word-checked : (n : ℕ) → SortsChecked s index at (word n ∷ []) Passed
-  unfolding all checkedAs check fieldSorted
-  word-checked n = record { isChecked = λ vs arrs ns leads ranged. refl }
+  pub none-then : (earlier : Checked) (f : FieldRead) → earlier ≡ Passed → OneOf (0 ∷ 1 ∷ 2 ∷ []) (tagOf field.the-type f) → SortsThen s index at earlier (fieldOf f ∷ []) Passed
+  unfolding all checkedAs check firstRefusal
+  none-then earlier f e other = record { isThen = λ vs arrs ns leads ranged. rw (e, not-child f other ns) }
 
   -- a child whose record is found by the index passes where it is of the wanted sort
-  pub child-checked : (wanted found : Sort) (node : ℕ) (a : Checked) → SortAt s (getD index node 0) found
-      → a ≡ checkedAs (check (sameSort found wanted) (WrongSort at) (got tt)) → SortsChecked s index at (child wanted node ∷ []) a
-  unfolding all fieldSorted fieldInRange
-  child-checked wanted found node a there e =
+  pub child-then : (earlier : Checked) (wanted found : Sort) (node : ℕ) (a : Checked) → earlier ≡ Passed → SortAt s (getD index node 0) found
+      → a ≡ tested (sameSort found wanted) (WrongSort at) → SortsThen s index at earlier (child wanted node ∷ []) a
+  unfolding all fieldSorted fieldInRange firstRefusal
+  child-then earlier wanted found node a passed there e =
       record {
-        isChecked = λ vs arrs ns leads ranged.
-            let below = ltb-true node (length ns) (all-head (fieldInRange vs arrs (length ns)) (child wanted node) [] ranged) in
+        isThen = λ vs arrs ns leads ranged.
+            let below = ltb-true node (length ns) (all-head (fieldInRange vs arrs (length ns)) (child wanted node) [] (ranged passed)) in
             let same : found ≡ sortOf (getD ns node Skip) = there .isSort (getD ns node Skip) (leads .decoded node below) in
-            rw (and-true, ← same) e;
+            rw (passed, and-true, ← same) e;
       }
 
   -- a field is checked before the others
-  pub sorts-checked : (f : Field) (fs : List Field) (a b : Checked) → SortsChecked s index at (f ∷ []) a → SortsChecked s index at fs b
-      → SortsChecked s index at (f ∷ fs) (firstRefusal a b)
+  pub sorts-then : (f : Field) (fs : List Field) (earlier a r : Checked) → SortsThen s index at earlier (f ∷ []) a → SortsThen s index at a fs r
+      → SortsThen s index at earlier (f ∷ fs) r
   unfolding all
-  sorts-checked f fs a b h rest =
+  sorts-then f fs earlier a r h rest =
       record {
-        isChecked = λ vs arrs ns leads ranged.
+        isThen = λ vs arrs ns leads ranged.
             let range = fieldInRange vs arrs (length ns) in
-            let one = h .isChecked vs arrs ns leads (all-cons range f [] (all-head range f fs ranged) refl) in
-            both-checked _ _ _ _ _ (rw and-true at one)
-            (rest .isChecked vs arrs ns leads (all-tail range f fs ranged));
+            let one : a ≡ firstRefusal earlier (tested (all (fieldSorted ns) (f ∷ [])) (WrongSort at)) = h .isThen vs arrs ns leads (λ p. all-cons range f [] (all-head range f fs (ranged p)) refl) in
+            rest .isThen vs arrs ns leads (λ p. all-tail range f fs (ranged (first-passed _ _ (sym one ∙ p))))
+            ∙ rw (one, and-true) (tests-joined earlier (fieldSorted ns f) (all (fieldSorted ns) fs) (WrongSort at));
       }
 
--- ---- what two checks say of a node
-module _ (m : Node) (size : ℕ) (fs : Fields) (long : size ≡ sizeOf m) (held : fieldsOf fs ≡ form m .fields) where
-  node-checked : (a b : Checked) (x y : Refusal) (p q : Bool) → a ≡ checkedAs (check p x (got tt)) → (p ≡ true → b ≡ checkedAs (check q y (got tt)))
-      → NodeAs (check p x (check q y (got m))) (passedNode size fs (firstRefusal a b))
-  unfolding checkedAs passedNode firstRefusal check
-  node-checked a b x y true true e f = rw (e, f refl) (record { node = m; isNode = refl; isSize = long; isFields = held })
-  node-checked a b x y true false e f = rw (e, f refl) refl
-  node-checked a b x y false q e f = rw e refl
+-- ---- a whole record
+-- the frame, the ranges and the sorts are tests in a row
+module _ (x y z u v : Refusal) where
+  in-a-row : (a b c p q : Bool) → firstRefusal (firstRefusal (checkedAs (check a x (check b y (check c z (got tt))))) (tested p u)) (tested q v)
+      ≡ checkedAs (check a x (check b y (check c z (check p u (check q v (got tt))))))
+  unfolding checkedAs check firstRefusal
+  in-a-row true true true true q = refl
+  in-a-row true true true false q = refl
+  in-a-row true true false p q = refl
+  in-a-row true false c p q = refl
+  in-a-row false b c p q = refl
+
+  -- and what they say of a node is what is read
+  module _ (m : Node) (size : ℕ) (fs : Fields) (long : size ≡ sizeOf m) (held : fieldsOf fs ≡ form m .fields) where
+    row-read : (a b c p q : Bool) (r : Checked) → r ≡ checkedAs (check a x (check b y (check c z (check p u (check q v (got tt))))))
+        → NodeAs (check a x (check b y (check c z (check p u (check q v (got m)))))) (passedNode size fs r)
+    unfolding checkedAs check passedNode
+    row-read true true true true true r e = rw e (record { node = m; isNode = refl; isSize = long; isFields = held })
+    row-read true true true true false r e = rw e refl
+    row-read true true true false q r e = rw e refl
+    row-read true true false p q r e = rw e refl
+    row-read true false c p q r e = rw e refl
+    row-read false b c p q r e = rw e refl
+
+module _ (s index : List ℕ) (vs arrs n at : ℕ) (fs : List Field) where
+  -- its frame, then all ranges, then all sorts
+  pub record-checked : (whole ranges r : Checked) → whole ≡ wholeAs s at fs → ranges ≡ rangesThen vs arrs n at whole fs → SortsThen s index at ranges fs r
+      → RecordChecked s index vs arrs n at fs r
+  unfolding framed
+  record-checked whole ranges r w g h =
+      record {
+        isChecked = λ before counted leads.
+            let range = all (fieldInRange vs arrs n) fs in
+            let ranged : ranges ≡ firstRefusal (wholeAs s at fs) (tested range (OutOfRange at)) = g ∙ ranges-all vs arrs n at whole fs ∙ rw w in
+            h .isThen vs arrs before leads (λ p. rw counted (test-passed range (OutOfRange at) (second-passed _ _ (sym ranged ∙ p))))
+            ∙ rw ranged (in-a-row _ _ _ _ _ _ _ _ _ _);
+      }
+
+-- a record without fields, and one with a word, have only a frame
+module _ (s index : List ℕ) (vs arrs n at : ℕ) (whole : Checked) where
+  pub nothing-checked : whole ≡ wholeAs s at [] → RecordChecked s index vs arrs n at [] whole
+  unfolding rangesThen
+  nothing-checked w = record-checked _ _ _ _ _ _ _ _ _ _ w refl (nothing-then _ _ _ whole)
+
+  pub word-checked : (v : ℕ) → whole ≡ wholeAs s at (word v ∷ []) → RecordChecked s index vs arrs n at (word v ∷ []) whole
+  unfolding rangesThen fieldInRange
+  word-checked v w = record-checked _ _ _ _ _ _ _ _ _ _ w (test-true whole (OutOfRange at)) (word-then _ _ _ whole v)
 
 -- ---- a node's record, read with an index of the nodes before
 module _ (s index : List ℕ) (vs arrs n at : ℕ) where
@@ -136,34 +220,13 @@ module _ (s index : List ℕ) (vs arrs n at : ℕ) where
   pub unknown-read : (x : Refusal) → decodeAt s at ≡ Unknown → framed s at 0 (got Skip) ≡ refused x → NodeChecked s index vs arrs n at (NodeRefused x)
   unknown-read x d e = record { isRead = λ before counted leads nodes. node-unknown _ _ _ _ d ∙ e }
 
-  module _ (m : Node) (d : decodeAt s at ≡ Known m) where
-    -- of a kind, but its frame is refused
-    pub frame-refused-read : (x : Refusal) → checkedAs (framed s at (sizeOf m) (got tt)) ≡ Refused x → NodeChecked s index vs arrs n at (NodeRefused x)
-    frame-refused-read x e = record { isRead = λ before counted leads nodes. node-known _ _ _ _ _ d ∙ framed-refused _ _ _ _ _ e }
-
-    module _ (e : checkedAs (framed s at (sizeOf m) (got tt)) ≡ Passed) (fs : Fields) (f : fieldsOf fs ≡ form m .fields) where
-      range-same : all (fieldInRange vs arrs n) (fieldsOf fs) ≡ inRange vs arrs n m
-      unfolding inRange
-      range-same = ap (all (fieldInRange vs arrs n)) f
-
-      sorts-same : (before : List Node) → all (fieldSorted before) (fieldsOf fs) ≡ sorted before m
-      unfolding sorted
-      sorts-same before = ap (all (fieldSorted before)) f
-
-      -- what is read depends on its fields
-      framed-read : (before : List Node) → length before ≡ n → (nodes : ℕ)
-          → readNode (record { variables = vs; arrays = arrs; nodes = nodes }) s at before
-          ≡ check (all (fieldInRange vs arrs n) (fieldsOf fs)) (OutOfRange at) (check (all (fieldSorted before) (fieldsOf fs)) (WrongSort at) (got m))
-      framed-read before counted nodes =
-          node-known _ _ _ _ _ d ∙ framed-passed-on _ _ _ _ e ∙ rw (counted, range-same, sorts-same before)
-
-      -- ranges come before sorts
-      pub fields-read : (size : ℕ) → size ≡ sizeOf m → (ranges sorts : Checked) → ranges ≡ checkedAs (check (all (fieldInRange vs arrs n) (fieldsOf fs)) (OutOfRange at) (got tt))
-          → SortsChecked s index at (fieldsOf fs) sorts → NodeChecked s index vs arrs n at (passedNode size fs (firstRefusal ranges sorts))
-      fields-read size long ranges sorts r h =
-          record {
-            isRead = λ before counted leads nodes.
-                rw (framed-read before counted nodes)
-                (node-checked m size fs long f _ _ _ _ _ _ r
-                (λ within. h .isChecked vs arrs before leads (rw counted within)));
-          }
+  -- of a kind: what the tests of its record say
+  pub record-read : (m : Node) → decodeAt s at ≡ Known m → (size : ℕ) (fs : Fields) → size ≡ sizeOf m → fieldsOf fs ≡ form m .fields
+      → (r : Checked) → RecordChecked s index vs arrs n at (fieldsOf fs) r → NodeChecked s index vs arrs n at (passedNode size fs r)
+  unfolding framed inRange sorted sizeOf
+  record-read m d size fs long held r h =
+      record {
+        isRead = λ before counted leads nodes.
+            rw (node-known _ _ _ _ _ d, counted)
+            (row-read _ _ _ _ _ m size fs long held _ _ _ _ _ r (h .isChecked before counted leads ∙ rw held));
+      }

@@ -7,8 +7,8 @@ use lib.Dec.{ltb}
 use mathlib.Core.List.{List, [], _∷_, map}
 use Rattle.awhile.specs.Lists.{sum, all}
 use Rattle.awhile.specs.Refusals.{Answer, refused, got, check}
-use Rattle.awhile.specs.Nodes.{Field, word, constant, variable, array, child, Form, row, form, sizeOf, sortOf, decodeAt, fieldInRange, fieldSorted}
-use Rattle.awhile.specs.Tables.{Header, readNode, usesOf, inOrder, allInOrder}
+use Rattle.awhile.specs.Nodes.{Field, word, constant, variable, array, child, Form, row, form, fieldSize, sizeOf, sortOf, decodeAt, fieldInRange, fieldSorted}
+use Rattle.awhile.specs.Tables.{Header, framed, readNode, usesOf, inOrder, allInOrder}
 use Rattle.reader.specs.declared.checks.Checked.{Checked}
 use Rattle.reader.specs.declared.checks.Checked.the-variants.{Refused as CheckRefused, Passed}
 use Rattle.reader.specs.declared.declarations.HeaderRead.{HeaderRead}
@@ -22,7 +22,8 @@ use Rattle.awhile.specs.declared.Sort.{Sort}
 use Rattle.awhile.specs.declared.Node.{Node}
 use Rattle.awhile.specs.declared.Node.the-variants.{Skip}
 use Rattle.awhile.specs.declared.Decoded.the-variants.{Known}
-use Rattle.awhile.specs.declared.Refusal.the-variants.{WrongSort}
+use Rattle.awhile.specs.declared.Refusal.{Refusal}
+use Rattle.awhile.specs.declared.Refusal.the-variants.{OutOfRange, WrongSort}
 use Rattle.reader.specs.declared.uses.Broken.{Broken}
 use Rattle.reader.specs.declared.uses.Broken.the-variants.{At, Nowhere}
 use Rattle.reader.specs.declared.walk.NodeRead.{NodeRead}
@@ -37,6 +38,10 @@ use Rattle.reader.specs.declared.forms.Form.{Form as FormRead}
 unfoldable pub checkedAs : Answer (Unit {0}) → Checked
 checkedAs (refused r) = CheckRefused r
 checkedAs (got w) = Passed
+
+-- a test alone: it passes, or this is why it refuses
+abbrev pub tested : Bool → Refusal → Checked
+tested passes r = checkedAs (check passes r (got tt))
 
 -- of two checks in their order, what the first that refuses says
 unfoldable pub firstRefusal : Checked → Checked → Checked
@@ -104,10 +109,22 @@ pub record SortAt (s : List ℕ) (at : ℕ) (r : Sort) : Type 0 where
 pub record Leads (s index : List ℕ) (ns : List Node) : Type 0 where
   pub decoded : (i : ℕ) → i < length ns → decodeAt s (getD index i 0) ≡ Known (getD ns i Skip)
 
--- whether the children that fields name are of the wanted sorts, by an index of the nodes before
-pub record SortsChecked (s index : List ℕ) (at : ℕ) (fs : List Field) (r : Checked) : Type 0 where
-  pub isChecked : (vs arrs : ℕ) (ns : List Node) → Leads s index ns → all (fieldInRange vs arrs (length ns)) fs ≡ true
-      → r ≡ checkedAs (check (all (fieldSorted ns) fs) (WrongSort at) (got tt))
+-- whether a record with these fields stands whole at an offset
+abbrev pub wholeAs : List ℕ → (at : ℕ) → List Field → Checked
+wholeAs s at fs = checkedAs (framed s at (4 + sum (map fieldSize fs)) (got tt))
+
+-- unless something was refused so far: whether the children that fields name are of the wanted sorts, by an index of the nodes before
+pub record SortsThen (s index : List ℕ) (at : ℕ) (earlier : Checked) (fs : List Field) (r : Checked) : Type 0 where
+  pub isThen : (vs arrs : ℕ) (ns : List Node) → Leads s index ns → (earlier ≡ Passed → all (fieldInRange vs arrs (length ns)) fs ≡ true)
+      → r ≡ firstRefusal earlier (tested (all (fieldSorted ns) fs) (WrongSort at))
+
+-- a record with these fields is tested in the order of `readNode`: its frame, all ranges, all sorts
+pub record RecordChecked (s index : List ℕ) (vs arrs n at : ℕ) (fs : List Field) (r : Checked) : Type 0 where
+  pub isChecked : (before : List Node) → length before ≡ n → Leads s index before
+      → r ≡ checkedAs (framed s at (4 + sum (map fieldSize fs))
+      (check (all (fieldInRange vs arrs n) fs) (OutOfRange at)
+      (check (all (fieldSorted before) fs) (WrongSort at)
+      (got tt))))
 
 -- what reading the next node answers, by an index of the nodes before
 pub record NodeChecked (s index : List ℕ) (vs arrs n at : ℕ) (r : NodeRead) : Type 0 where

@@ -3,7 +3,7 @@ ghost use Prim.Native.Nat.{_+_, _^_, _<_};
 ghost use mathlib.Core.Path.{_≡_};
 ghost use Rattle.awhile.specs.Refusals.{got};
 ghost use Rattle.awhile.specs.Tables.{framed, lengthOfKind};
-ghost use Rattle.reader.specs.Reader.{checkedAs, firstRefusal};
+ghost use Rattle.reader.specs.Reader.{checkedAs};
 use awhile::Refusal;
 use bytes_le::get;
 
@@ -11,16 +11,6 @@ use bytes_le::get;
 pub enum Checked {
     Refused { refusal: Refusal },
     Passed,
-}
-
-// Of two tests in their order: what the first that refuses says.
-pub fn first_refusal(first: Checked, second: Checked) -> Checked
-    ensures { λ r. ⌜ r ≡ firstRefusal first second ⌝ }
-{
-    match first {
-        Checked::Refused { refusal } => Checked::Refused { refusal },
-        Checked::Passed => second,
-    }
 }
 
 // Whether a record of the wanted length stands whole at an offset: 1 (head), 2, 1 (body).

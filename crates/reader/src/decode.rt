@@ -59,15 +59,26 @@ pub fn node_of(kind: usize, f: usize, g: usize, h: usize, w: u32) -> Decoded
     Decoded::Known { node }
 }
 
-// What the record at an offset decodes to, whatever its length says. Offsets past the end read as zeros.
+// What the record at an offset decodes to, whatever its length says. Offsets past the end read as zeros. No record has more than 10 bytes, so
+// but at the end of a table one test tells that all fields are there.
 pub fn decode_at(table: &[u8], at: usize) -> Decoded
     requires { ⌜ at + 8 < 2 ^ 64 ⌝ }
     ensures { λ r. ⌜ r ≡ decodeAt (now (table .entry)) at ⌝ }
 {
-    let kind = get::u16_at(table, at + 2);
-    let f = get::u16_at(table, at + 4);
-    let g = get::u16_at(table, at + 6);
-    let h = get::u16_at(table, at + 8);
-    let w = get::u32_at(table, at + 4);
-    node_of(kind, f, g, h, w)
+    if 10 <= get::bytes_from(table, at) {
+        return node_of(
+            get::whole_u16(table, at + 2),
+            get::whole_u16(table, at + 4),
+            get::whole_u16(table, at + 6),
+            get::whole_u16(table, at + 8),
+            get::whole_u32(table, at + 4),
+        );
+    }
+    node_of(
+        get::u16_at(table, at + 2),
+        get::u16_at(table, at + 4),
+        get::u16_at(table, at + 6),
+        get::u16_at(table, at + 8),
+        get::u32_at(table, at + 4),
+    )
 }

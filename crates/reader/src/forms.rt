@@ -2,8 +2,8 @@
 // its length, the ranges and sorts that it asks for, its children, and its bytes.
 ghost use Prim.Native.Nat.{_+_};
 ghost use mathlib.Core.Path.{_≡_};
-ghost use mathlib.Core.List.{[], _∷_, map};
-ghost use Rattle.awhile.specs.Lists.{sum, all};
+ghost use mathlib.Core.List.{map};
+ghost use Rattle.awhile.specs.Lists.{sum};
 ghost use Rattle.awhile.specs.Nodes.{form, row, fieldSize, fieldInRange};
 ghost use Rattle.reader.specs.Reader.{fieldOf, fieldsOf, formOf};
 ghost use Rattle.awhile.specs.declared.Sort.the-variants.{Truth};
@@ -190,7 +190,7 @@ pub fn record_size(fields: Fields) -> usize
 }
 
 // A variable, an array or a child that a field names is one that there is; a constant is 0 or 1.
-fn field_in_range(field: Field, variables: usize, arrays: usize, parent: usize) -> bool
+pub fn in_range(field: Field, variables: usize, arrays: usize, parent: usize) -> bool
     ensures { λ r. ⌜ r ≡ fieldInRange variables arrays parent (fieldOf field) ⌝ }
 {
     match field {
@@ -198,37 +198,5 @@ fn field_in_range(field: Field, variables: usize, arrays: usize, parent: usize) 
         Field::Variable { variable } => variable < variables,
         Field::Array { array } => array < arrays,
         Field::Child { node, .. } => node < parent,
-    }
-}
-
-// Two fields are in range.
-fn two_in_range(first: Field, second: Field, variables: usize, arrays: usize, parent: usize) -> bool
-    ensures { λ r. ⌜ r ≡ all (fieldInRange variables arrays parent) (fieldOf first ∷ fieldOf second ∷ []) ⌝ }
-{
-    if !field_in_range(first, variables, arrays, parent) {
-        return false;
-    }
-    field_in_range(second, variables, arrays, parent)
-}
-
-// All fields are in range.
-pub fn in_range(fields: Fields, variables: usize, arrays: usize, parent: usize) -> bool
-    ensures { λ r. ⌜ r ≡ all (fieldInRange variables arrays parent) (fieldsOf fields) ⌝ }
-{
-    match fields {
-        Fields::Nothing => true,
-        Fields::Word { .. } => true,
-        Fields::One { first } => field_in_range(first, variables, arrays, parent),
-        Fields::Two { first, second } => two_in_range(first, second, variables, arrays, parent),
-        Fields::Three {
-            first,
-            second,
-            third,
-        } => {
-            if !field_in_range(first, variables, arrays, parent) {
-                return false;
-            }
-            two_in_range(second, third, variables, arrays, parent)
-        }
     }
 }

@@ -3,13 +3,13 @@ ghost use Prim.Native.Nat.{_+_, _^_, _<_};
 ghost use mathlib.Core.Path.{_≡_};
 ghost use mathlib.Core.List.{[], _∷_};
 ghost use lib.ListN.{getD};
-ghost use Rattle.awhile.specs.Refusals.{refused, got, check};
-ghost use Rattle.awhile.specs.Lists.{all};
+ghost use Rattle.awhile.specs.Refusals.{refused, got};
 ghost use Rattle.awhile.specs.Nodes.{fieldInRange, sameSort};
 ghost use Rattle.awhile.specs.Tables.{framed};
-ghost use Rattle.reader.specs.Reader.{checkedAs, fieldOf, fieldsOf, SortAt, SortsChecked, NodeChecked};
+ghost use Rattle.reader.specs.Reader.{fieldOf, fieldsOf, tested, firstRefusal, wholeAs, SortAt, SortsThen, RecordChecked, NodeChecked};
 ghost use Rattle.awhile.specs.declared.Node.the-variants.{Skip};
 ghost use Rattle.awhile.specs.declared.Refusal.the-variants.{OutOfRange, WrongSort};
+ghost use Rattle.reader.specs.declared.forms.Fields.the-variants.{One, Two, Three};
 use crate::checks;
 use crate::checks::Checked;
 use crate::decode;
@@ -53,7 +53,7 @@ pub fn sort_at(table: &[u8], at: usize) -> Sort
 
 // A child's sort is the wanted one; where it is not, reading stops at the parent's record.
 fn check_sort(sort: Sort, wanted: Sort, at: usize) -> Checked
-    ensures { λ r. ⌜ r ≡ checkedAs (check (sameSort sort wanted) (WrongSort at) (got tt)) ⌝ }
+    ensures { λ r. ⌜ r ≡ tested (sameSort sort wanted) (WrongSort at) ⌝ }
 {
     match wanted {
         Sort::Numeric => {
@@ -81,21 +81,29 @@ fn check_sort(sort: Sort, wanted: Sort, at: usize) -> Checked
     Checked::Passed
 }
 
-// A child that a field names is of the wanted sort.
-fn check_field(table: &[u8], index: &[u16], field: Field, at: usize) -> Checked
-    ensures { λ r. ⌜ SortsChecked (now (table .entry)) (now (index .entry)) at (fieldOf field ∷ []) r ⌝ }
+// A record with these fields stands whole at an offset.
+fn check_frame(table: &[u8], at: usize, fields: Fields) -> Checked
+    requires { ⌜ at + 10 < 2 ^ 64 ⌝ }
+    ensures { λ r. ⌜ r ≡ wholeAs (now (table .entry)) at (fieldsOf fields) ⌝ }
 {
-    let Field::Child { sort, node } = field else {
-        return Checked::Passed;
-    };
-    check_sort(sort_at(table, offset_at(index, node)), sort, at)
+    checks::frame(table, at, forms::record_size(fields))
 }
 
-// The fields name variables, arrays and nodes that there are.
-fn check_ranges(fields: Fields, variables: usize, arrays: usize, n: usize, at: usize) -> Checked
-    ensures { λ r. ⌜ r ≡ checkedAs (check (all (fieldInRange variables arrays n) (fieldsOf fields)) (OutOfRange at) (got tt)) ⌝ }
+// Unless something was refused before: what a field names is one that there is.
+fn then_range(
+    earlier: Checked,
+    field: Field,
+    variables: usize,
+    arrays: usize,
+    n: usize,
+    at: usize,
+) -> Checked
+    ensures { λ r. ⌜ r ≡ firstRefusal earlier (tested (fieldInRange variables arrays n (fieldOf field)) (OutOfRange at)) ⌝ }
 {
-    if forms::in_range(fields, variables, arrays, n) {
+    let Checked::Passed = earlier else {
+        return earlier;
+    };
+    if forms::in_range(field, variables, arrays, n) {
         return Checked::Passed;
     }
     Checked::Refused {
@@ -103,29 +111,120 @@ fn check_ranges(fields: Fields, variables: usize, arrays: usize, n: usize, at: u
     }
 }
 
-// All children that the fields name are of the wanted sorts.
-fn check_sorts(table: &[u8], index: &[u16], fields: Fields, at: usize) -> Checked
-    ensures { λ r. ⌜ SortsChecked (now (table .entry)) (now (index .entry)) at (fieldsOf fields) r ⌝ }
+// Unless something was refused before: a child that a field names is of the wanted sort.
+fn then_sort(earlier: Checked, table: &[u8], index: &[u16], field: Field, at: usize) -> Checked
+    ensures { λ r. ⌜ SortsThen (now (table .entry)) (now (index .entry)) at earlier (fieldOf field ∷ []) r ⌝ }
+{
+    let Checked::Passed = earlier else {
+        return earlier;
+    };
+    let Field::Child { sort, node } = field else {
+        return Checked::Passed;
+    };
+    check_sort(sort_at(table, offset_at(index, node)), sort, at)
+}
+
+// A record of one field, of two, of three: its frame, then all ranges, then all sorts.
+fn check_one(
+    table: &[u8],
+    index: &[u16],
+    variables: usize,
+    arrays: usize,
+    n: usize,
+    at: usize,
+    first: Field,
+) -> Checked
+    requires { ⌜ at + 10 < 2 ^ 64 ⌝ }
+    ensures { λ r. ⌜ RecordChecked (now (table .entry)) (now (index .entry)) variables arrays n at (fieldsOf (One first)) r ⌝ }
+{
+    let whole = check_frame(table, at, Fields::One { first });
+    let ranges = then_range(whole, first, variables, arrays, n, at);
+    then_sort(ranges, table, index, first, at)
+}
+
+fn check_two(
+    table: &[u8],
+    index: &[u16],
+    variables: usize,
+    arrays: usize,
+    n: usize,
+    at: usize,
+    first: Field,
+    second: Field,
+) -> Checked
+    requires { ⌜ at + 10 < 2 ^ 64 ⌝ }
+    ensures { λ r. ⌜ RecordChecked (now (table .entry)) (now (index .entry)) variables arrays n at (fieldsOf (Two first second)) r ⌝ }
+{
+    let whole = check_frame(table, at, Fields::Two { first, second });
+    let range = then_range(whole, first, variables, arrays, n, at);
+    let ranges = then_range(range, second, variables, arrays, n, at);
+    let sort = then_sort(ranges, table, index, first, at);
+    then_sort(sort, table, index, second, at)
+}
+
+fn check_three(
+    table: &[u8],
+    index: &[u16],
+    variables: usize,
+    arrays: usize,
+    n: usize,
+    at: usize,
+    first: Field,
+    second: Field,
+    third: Field,
+) -> Checked
+    requires { ⌜ at + 10 < 2 ^ 64 ⌝ }
+    ensures { λ r. ⌜ RecordChecked (now (table .entry)) (now (index .entry)) variables arrays n at (fieldsOf (Three first second third)) r ⌝ }
+{
+    let whole = check_frame(
+        table,
+        at,
+        Fields::Three {
+            first,
+            second,
+            third,
+        },
+    );
+    let range = then_range(whole, first, variables, arrays, n, at);
+    let both = then_range(range, second, variables, arrays, n, at);
+    let ranges = then_range(both, third, variables, arrays, n, at);
+    let sort = then_sort(ranges, table, index, first, at);
+    let sorts = then_sort(sort, table, index, second, at);
+    then_sort(sorts, table, index, third, at)
+}
+
+// A record with these fields passes all tests of its own. How many fields there are is told apart first, and once: each way then knows its length.
+fn check_record(
+    table: &[u8],
+    index: &[u16],
+    variables: usize,
+    arrays: usize,
+    n: usize,
+    at: usize,
+    fields: Fields,
+) -> Checked
+    requires { ⌜ at + 10 < 2 ^ 64 ⌝ }
+    ensures { λ r. ⌜ RecordChecked (now (table .entry)) (now (index .entry)) variables arrays n at (fieldsOf fields) r ⌝ }
 {
     match fields {
-        Fields::Nothing => Checked::Passed,
-        Fields::Word { .. } => Checked::Passed,
-        Fields::One { first } => check_field(table, index, first, at),
-        Fields::Two { first, second } => checks::first_refusal(
-            check_field(table, index, first, at),
-            check_field(table, index, second, at),
+        Fields::Nothing => check_frame(table, at, Fields::Nothing),
+        Fields::Word { value } => check_frame(table, at, Fields::Word { value }),
+        Fields::One { first } => check_one(table, index, variables, arrays, n, at, first),
+        Fields::Two { first, second } => check_two(
+            table,
+            index,
+            variables,
+            arrays,
+            n,
+            at,
+            first,
+            second,
         ),
         Fields::Three {
             first,
             second,
             third,
-        } => {
-            let later = checks::first_refusal(
-                check_field(table, index, second, at),
-                check_field(table, index, third, at),
-            );
-            checks::first_refusal(check_field(table, index, first, at), later)
-        }
+        } => check_three(table, index, variables, arrays, n, at, first, second, third),
     }
 }
 
@@ -141,7 +240,7 @@ fn refuse_kind(table: &[u8], at: usize) -> Refusal
     }
 }
 
-// The record of node n, by an index of the nodes before it: its kind and frame, its fields' ranges, its children's sorts.
+// The record of node n, by an index of the nodes before it: its kind, then its frame, its fields' ranges and its children's sorts.
 pub fn read_node(
     table: &[u8],
     index: &[u16],
@@ -160,14 +259,12 @@ pub fn read_node(
     };
     let form = forms::form_of(node);
     let fields = form.fields;
-    let size = forms::record_size(fields);
-    if let Checked::Refused { refusal } = checks::frame(table, at, size) {
+    let checked = check_record(table, index, variables, arrays, n, at, fields);
+    if let Checked::Refused { refusal } = checked {
         return NodeRead::Refused { refusal };
     }
-    let ranges = check_ranges(fields, variables, arrays, n, at);
-    let sorts = check_sorts(table, index, fields, at);
-    if let Checked::Refused { refusal } = checks::first_refusal(ranges, sorts) {
-        return NodeRead::Refused { refusal };
+    NodeRead::Node {
+        size: forms::record_size(fields),
+        fields,
     }
-    NodeRead::Node { size, fields }
 }
