@@ -1,5 +1,5 @@
 -- The sheet as its first record and the records of the nodes, and how long they are.
-use Prim.Native.Nat.{ℕ, zero, suc, _+_, _*_, _≤_}
+use Prim.Native.Nat.{ℕ, zero, suc, _+_, _*_, _≤_, _<_}
 use native.Mathlib.Decide.{ℕ-discrete}
 use native.Mathlib.Numerals.{add-one}
 use native.Mathlib.Omega.{arith}
@@ -16,7 +16,7 @@ use Rattle.reader.specs.Index.{Indexed, nodesIn, commandIn}
 use Rattle.labels.specs.Annotation.{Entry}
 use Rattle.labels.specs.Sheet.{fieldBytes, fieldsBytes, recordBytes, commandRecords, recordsAt, recordsBelow, headRecord, sheetRecords, sheetOf}
 use Rattle.analysis.specs.Notes.{noteIn, notedProgram}
-use Rattle.sheets.specs.Rows.{rowRecords, rowBytes, rowSize, recordsIn, sheetIn}
+use Rattle.sheets.specs.Rows.{rowRecords, rowBytes, rowSize, RowPut, recordsIn, rowsIn, sheetIn}
 use Rattle.sheets.specs.declared.rows.Row.{Row}
 use Rattle.sheets.specs.declared.rows.Row.the-variants.{Nothing, Masks, Label, Labels, LabelMasks}
 use Rattle.sheets.proofs.Stored.{stored-then}
@@ -74,13 +74,37 @@ bytes-grow a n (suc m) h = go (ℕ-discrete n (suc m)) (bytes-grow a n m)
     go (yes e) r = rw e (omega arith)
     go (no e) r = omega (arith, r (omega arith), longer)
 
+-- ---- a record is written where it fits
+module _ (out : List ℕ) (at : ℕ) (r : Row) (n : ℕ) where
+  pub row-beyond : length out < at + rowSize r → RowPut out at r n out (at + rowSize r)
+  row-beyond short = record { ends = refl; stored = λ h. absurd (omega (arith, short, h)) }
+
+  pub row-stored : {out′ : List ℕ} → out′ ≡ sets out at (rowBytes r n) → RowPut out at r n out′ (at + rowSize r)
+  row-stored e = record { ends = refl; stored = λ h. e }
+
+-- no record takes no room
+pub nothing-stored : (out : List ℕ) (at n : ℕ) → RowPut out at Nothing n out at
+unfolding rowSize rowBytes rowRecords flatMap
+nothing-stored out at n = record { ends = omega arith; stored = λ h. refl }
+
+-- so where all fit, the next stands behind those before
+pub rows-next : (a : Com Entry) (n m at end : ℕ) (r : Row) → rowRecords r n ≡ recordsAt a n → n < m → (l out out′ : List ℕ) → length out ≡ length l
+    → at ≡ 14 + length (bytesBelow a n) → RowPut out at r n out′ end
+    → (14 + length (bytesBelow a m) ≤ length l → out ≡ sets l 14 (bytesBelow a n))
+    → (14 + length (bytesBelow a m) ≤ length l → out′ ≡ sets l 14 (bytesBelow a (n + 1)))
+rows-next a n m at end r own lower l out out′ kept here put before fits =
+    let later = bytes-grow a (n + 1) m (omega arith) in
+    stored-then (bytesBelow a n) (rowBytes r n) l 14 at (sym here) (before fits) (put .stored (omega (arith, fits, later, length-next a n r own, here, kept)))
+    ∙ ap (sets l 14) (sym (bytes-next a n r own))
+
 -- ---- the whole sheet
 module _ (table ns : List ℕ) (final : Labelling) where
   sheet-split : recordBytes (headRecord (nodesIn table) final) ++ bytesBelow (notedProgram table ns) (nodesIn table) ≡ sheetIn table ns final
   unfolding sheetIn sheetOf sheetRecords flatMap
   sheet-split = refl
 
-  pub sheet-length : length (sheetIn table ns final) ≡ 14 + length (bytesBelow (notedProgram table ns) (nodesIn table))
+  pub sheet-length : length (sheetIn table ns final) ≡ 14 + length (rowsIn table ns)
+  unfolding rowsIn
   sheet-length =
       ap length (sym sheet-split)
       ∙ length-append (recordBytes (headRecord (nodesIn table) final)) (bytesBelow (notedProgram table ns) (nodesIn table))
@@ -88,7 +112,8 @@ module _ (table ns : List ℕ) (final : Labelling) where
 
   -- the first record stored, and the others behind it
   pub sheet-stored : (l : List ℕ) {m n : List ℕ} → m ≡ sets l 0 (recordBytes (headRecord (nodesIn table) final))
-      → n ≡ sets m 14 (bytesBelow (notedProgram table ns) (nodesIn table)) → n ≡ sets l 0 (sheetIn table ns final)
+      → n ≡ sets m 14 (rowsIn table ns) → n ≡ sets l 0 (sheetIn table ns final)
+  unfolding rowsIn
   sheet-stored l p q =
       stored-then (recordBytes (headRecord (nodesIn table) final)) (bytesBelow (notedProgram table ns) (nodesIn table)) l 0 14
       (omega (arith, head-length (nodesIn table) final)) p q
@@ -117,4 +142,5 @@ module _ {table index : List ℕ} (bytes : Below 256 table) (indexed : Indexed t
       omega (arith, below-short n (omega arith), rw add-one at (ap length (below-next a n) ∙ length-append (bytesBelow a n) (flatMap recordBytes (recordsAt a n))))
 
   pub sheet-short : (final : Labelling) → length (sheetIn table ns final) ≤ 14 + 14 * nodesIn table
+  unfolding rowsIn
   sheet-short final = let all : nodesIn table ≤ nodesIn table = omega arith in omega (arith, sheet-length table ns final, below-short (nodesIn table) all)

@@ -1,10 +1,13 @@
 -- A record as the code has it, what it stands for, and the sheet of a table by the notes that the analysis left.
-use Prim.Native.Nat.{ℕ}
+use Prim.Native.Nat.{ℕ, _+_, _≤_}
 use mathlib.Core.List.{List, [], _∷_, flatMap}
+use mathlib.Core.Path.{_≡_}
+use lib.ListN.{length}
+use lib.Seq.{sets}
 use Rattle.awhile.specs.Language.{mapNotes}
 use Rattle.awhile.specs.declared.Labelling.{Labelling}
 use Rattle.reader.specs.Index.{Indexed, nodesIn, commandIn}
-use Rattle.labels.specs.Sheet.{SheetRecord, recordOf, number, label, masks, recordBytes, commandRecords, sheetOf}
+use Rattle.labels.specs.Sheet.{SheetRecord, recordOf, number, label, masks, recordBytes, commandRecords, recordsBelow, sheetOf}
 use Rattle.variables.specs.Named.{Named}
 use Rattle.analysis.specs.Notes.{noteIn, notedProgram}
 use Rattle.analysis.specs.Conditions.{NoteRoom}
@@ -30,9 +33,23 @@ rowSize (Label k b) = 8
 rowSize (Labels k a b) = 10
 rowSize (LabelMasks k b l) = 14
 
+-- a record at an offset: written where it fits whole, and where it ends
+pub record RowPut (out : List ℕ) (at : ℕ) (r : Row) (node : ℕ) (out′ : List ℕ) (end : ℕ) : Type 0 where
+  pub ends : end ≡ at + rowSize r
+  pub stored : at + rowSize r ≤ length out → out′ ≡ sets out at (rowBytes r node)
+
 -- the record of a node's command, by the notes
 unfoldable pub recordsIn : (table notes : List ℕ) → (node : ℕ) → List SheetRecord
 recordsIn table ns n = commandRecords (mapNotes (noteIn ns) (commandIn table n))
+
+-- the records of all nodes of the program as it is noted
+unfoldable pub rowsIn : (table notes : List ℕ) → List ℕ
+rowsIn table ns = flatMap recordBytes (recordsBelow (notedProgram table ns) (nodesIn table))
+
+-- these bytes are written behind the head's 14 where they fit, and they end there
+pub record RowsPut (rows out out′ : List ℕ) (end : ℕ) : Type 0 where
+  pub ends : end ≡ 14 + length rows
+  pub stored : 14 + length rows ≤ length out → out′ ≡ sets out 14 rows
 
 -- the sheet of the program as it is noted, with this labelling after it
 unfoldable pub sheetIn : (table notes : List ℕ) → (final : Labelling) → List ℕ

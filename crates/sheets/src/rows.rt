@@ -1,4 +1,4 @@
-// The record of a command, as data: its kind, and what stands behind its node's number. Its length and its bytes are read off it.
+// The record of a command, as data: its kind, and what stands behind its node's number. Its bytes are read off it.
 use crate::fields::put_head;
 use crate::fields::put_label;
 use crate::fields::put_masks;
@@ -10,7 +10,7 @@ use awhile::Node;
 use reader::lookup::command_at;
 use reader::lookup::is_command;
 use variables::meeting::named_label;
-ghost use Prim.Native.Nat.{_+_, _≤_, _<_};
+ghost use Prim.Native.Nat.{_+_, _^_, _≤_, _<_};
 ghost use mathlib.Core.List.{_++_};
 ghost use mathlib.Core.Path.{_≡_};
 ghost use lib.ListN.{length};
@@ -19,7 +19,7 @@ ghost use Rattle.bytes_le.specs.Numbers.{le};
 ghost use Rattle.labels.specs.Sheet.{fieldBytes, label};
 ghost use Rattle.awhile.specs.declared.Sort.the-variants.{Command};
 ghost use Rattle.reader.specs.Index.{nodesIn, OfSort};
-ghost use Rattle.sheets.specs.Rows.{rowSize, rowBytes, Sheetable, recordsIn, rowRecords};
+ghost use Rattle.sheets.specs.Rows.{RowPut, Sheetable, recordsIn, rowRecords};
 
 pub enum Row {
     // a command that has no record, or no command
@@ -44,26 +44,18 @@ pub enum Row {
     },
 }
 
-// How many bytes a record has.
-pub fn row_size(row: Row) -> usize
-    ensures { λ r. ⌜ r ≡ rowSize row ⌝ }
+// A record with masks, where it fits whole; the answer is where it ends, or would end.
+fn put_masked(out: &mut [u8], at: usize, kind: usize, n: usize, masks: Labelling) -> usize
+    requires { ⌜ at + 14 < 2 ^ 64 ⌝ }
+    ensures { λ r. ⌜ RowPut (now (out .entry)) at (Row.Masks kind masks) n (now (out .exit)) r ⌝ }
 {
-    match row {
-        Row::Nothing => 0,
-        Row::Masks { .. } => 12,
-        Row::Label { .. } => 8,
-        Row::Labels { .. } => 10,
-        Row::LabelMasks { .. } => 14,
+    let end = at + 12;
+    if out.len() < end {
+        return end;
     }
-}
-
-// A record with masks.
-fn put_masked(out: &mut [u8], at: usize, kind: usize, n: usize, masks: Labelling)
-    requires { ⌜ at + 12 ≤ length (now out) ⌝ }
-    ensures { λ _. ⌜ now (out .exit) ≡ sets (now (out .entry)) at (rowBytes (Row.Masks kind masks) n) ⌝ }
-{
     put_head(&mut *out, at, 12, kind, n);
     put_masks(&mut *out, at + 6, masks);
+    end
 }
 
 // A record of a length, up to its first label.
@@ -75,38 +67,66 @@ fn put_labelled(out: &mut [u8], at: usize, size: usize, kind: usize, n: usize, s
     put_label(&mut *out, at + 6, secret);
 }
 
-// A record with two labels.
-fn put_labels(out: &mut [u8], at: usize, kind: usize, n: usize, first: bool, second: bool)
-    requires { ⌜ at + 10 ≤ length (now out) ⌝ }
-    ensures { λ _. ⌜ now (out .exit) ≡ sets (now (out .entry)) at (rowBytes (Row.Labels kind first second) n) ⌝ }
+// The same for a record with a label, with two, and with a label and masks.
+fn put_one(out: &mut [u8], at: usize, kind: usize, n: usize, secret: bool) -> usize
+    requires { ⌜ at + 14 < 2 ^ 64 ⌝ }
+    ensures { λ r. ⌜ RowPut (now (out .entry)) at (Row.Label kind secret) n (now (out .exit)) r ⌝ }
 {
+    let end = at + 8;
+    if out.len() < end {
+        return end;
+    }
+    put_labelled(&mut *out, at, 8, kind, n, secret);
+    end
+}
+
+fn put_two(out: &mut [u8], at: usize, kind: usize, n: usize, first: bool, second: bool) -> usize
+    requires { ⌜ at + 14 < 2 ^ 64 ⌝ }
+    ensures { λ r. ⌜ RowPut (now (out .entry)) at (Row.Labels kind first second) n (now (out .exit)) r ⌝ }
+{
+    let end = at + 10;
+    if out.len() < end {
+        return end;
+    }
     put_labelled(&mut *out, at, 10, kind, n, first);
     put_label(&mut *out, at + 8, second);
+    end
 }
 
-// A record with a label and masks.
-fn put_label_masks(out: &mut [u8], at: usize, kind: usize, n: usize, secret: bool, masks: Labelling)
-    requires { ⌜ at + 14 ≤ length (now out) ⌝ }
-    ensures { λ _. ⌜ now (out .exit) ≡ sets (now (out .entry)) at (rowBytes (Row.LabelMasks kind secret masks) n) ⌝ }
+fn put_label_masks(
+    out: &mut [u8],
+    at: usize,
+    kind: usize,
+    n: usize,
+    secret: bool,
+    masks: Labelling,
+) -> usize
+    requires { ⌜ at + 14 < 2 ^ 64 ⌝ }
+    ensures { λ r. ⌜ RowPut (now (out .entry)) at (Row.LabelMasks kind secret masks) n (now (out .exit)) r ⌝ }
 {
+    let end = at + 14;
+    if out.len() < end {
+        return end;
+    }
     put_labelled(&mut *out, at, 14, kind, n, secret);
     put_masks(&mut *out, at + 8, masks);
+    end
 }
 
-// Writes the record of node n at an offset.
-pub fn put_row(out: &mut [u8], at: usize, n: usize, row: Row)
-    requires { ⌜ at + rowSize row ≤ length (now out) ⌝ }
-    ensures { λ _. ⌜ now (out .exit) ≡ sets (now (out .entry)) at (rowBytes row n) ⌝ }
+// Writes the record of node n at an offset, where it fits whole, and answers where it ends, or would end.
+pub fn put_row(out: &mut [u8], at: usize, n: usize, row: Row) -> usize
+    requires { ⌜ at + 14 < 2 ^ 64 ⌝ }
+    ensures { λ r. ⌜ RowPut (now (out .entry)) at row n (now (out .exit)) r ⌝ }
 {
     match row {
-        Row::Nothing => {}
+        Row::Nothing => at,
         Row::Masks { kind, masks } => put_masked(&mut *out, at, kind, n, masks),
-        Row::Label { kind, secret } => put_labelled(&mut *out, at, 8, kind, n, secret),
+        Row::Label { kind, secret } => put_one(&mut *out, at, kind, n, secret),
         Row::Labels {
             kind,
             first,
             second,
-        } => put_labels(&mut *out, at, kind, n, first, second),
+        } => put_two(&mut *out, at, kind, n, first, second),
         Row::LabelMasks {
             kind,
             secret,

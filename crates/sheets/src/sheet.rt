@@ -3,7 +3,6 @@ use crate::fields::put_head;
 use crate::fields::put_masks;
 use crate::rows::put_row;
 use crate::rows::row_at;
-use crate::rows::row_size;
 use awhile::Labelling;
 use bytes_le::put::put16;
 ghost use Prim.Native.Nat.{_+_, _≤_};
@@ -14,20 +13,37 @@ ghost use lib.Dec.{leb};
 ghost use Rattle.awhile.specs.declared.Labelling.{Labelling};
 ghost use Rattle.labels.specs.Sheet.{recordBytes, headRecord};
 ghost use Rattle.reader.specs.Index.{nodesIn};
-ghost use Rattle.sheets.specs.Rows.{Sheetable, sheetIn};
+ghost use Rattle.sheets.specs.Rows.{Sheetable, rowsIn, sheetIn, RowsPut};
 
-// How many bytes the sheet of a labelled table with so many nodes has.
-pub fn sheet_size(table: &[u8], index: &[u16], named: &[u64], notes: &[u64], count: usize) -> usize
+// Writes the records of all nodes behind the head's place, each where it fits, and answers where the last ends, or would end.
+fn write_rows(
+    table: &[u8],
+    index: &[u16],
+    named: &[u64],
+    notes: &[u64],
+    count: usize,
+    out: &mut [u8],
+) -> usize
+    requires { ⌜ Sheetable (now table) (now index) (now named) (now notes) × (count ≡ nodesIn (now table)) ⌝ }
+    ensures { λ r. ⌜ RowsPut (rowsIn (now (table .entry)) (now (notes .entry))) (now (out .entry)) (now (out .exit)) r ⌝ }
+{
+    let mut at = 14;
+    let mut n = 0;
+    while n < count {
+        let row = row_at(table, index, named, notes, n);
+        at = put_row(&mut *out, at, n, row);
+        n += 1;
+    }
+    at
+}
+
+// How many bytes the sheet of a labelled table with so many nodes has: where its records end that are written to where none fits.
+fn sheet_size(table: &[u8], index: &[u16], named: &[u64], notes: &[u64], count: usize) -> usize
     requires { ⌜ Sheetable (now table) (now index) (now named) (now notes) × (count ≡ nodesIn (now table)) ⌝ }
     ensures { λ r. ⌜ ((final : Labelling) → r ≡ length (sheetIn (now (table .entry)) (now (notes .entry)) final)) ⌝ }
 {
-    let mut size = 14;
-    let mut n = 0;
-    while n < count {
-        size += row_size(row_at(table, index, named, notes, n));
-        n += 1;
-    }
-    size
+    let mut nowhere = [0u8; 1];
+    write_rows(table, index, named, notes, count, &mut nowhere)
 }
 
 // Whether the sheet of a labelled table with so many nodes fits a buffer. No record has more than 14 bytes, so a large buffer is not measured against.
@@ -74,13 +90,5 @@ pub fn write_sheet(
         × (r ≡ length (sheetIn (now (table .entry)) (now (notes .entry)) masks)) ⌝ }
 {
     put_final(&mut *out, count, masks);
-    let mut at = 14;
-    let mut n = 0;
-    while n < count {
-        let row = row_at(table, index, named, notes, n);
-        put_row(&mut *out, at, n, row);
-        at += row_size(row);
-        n += 1;
-    }
-    at
+    write_rows(table, index, named, notes, count, &mut *out)
 }
