@@ -106,7 +106,15 @@ pub fn write_hardened(
     put_counts(table, header, &mut *out);
     let at = nodes_start(header);
     let root = header.nodes - 1;
-    let size = harden_command(table, index, decisions, header.variables, root, 0, &mut out[at..]);
+    let size = harden_command(
+        table,
+        index,
+        decisions,
+        header.variables,
+        root,
+        0,
+        &mut out[at..],
+    );
     let hardened = Header {
         // the flag is one variable more
         variables: header.variables + 1,

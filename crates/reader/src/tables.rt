@@ -14,13 +14,7 @@ use awhile::MAX_NODES;
 use awhile::Refusal;
 
 // After the last record: 6, then 7.
-pub fn finish(
-    table: &[u8],
-    index: &[u16],
-    uses: &[u16],
-    declared: Declarations,
-    end: usize,
-) -> Read
+pub fn finish(table: &[u8], index: &[u16], uses: &[u16], declared: Declarations, end: usize) -> Read
     requires { ⌜ (0 < declared .header .nodes) × (declared .header .nodes ≤ length (now index)) × (declared .header .nodes ≤ length (now uses)) ⌝ }
     ensures { λ r. ⌜ Finishes (now (table .entry)) (now (index .entry)) (now (uses .entry)) declared end r ⌝ }
 {
