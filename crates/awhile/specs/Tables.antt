@@ -61,14 +61,15 @@ arraySize = 6
 abbrev pub labelsStart : ℕ
 labelsStart = headerSize
 
+-- the first array; every header of version 1 places it alike
 abbrev pub countsStart : Header → ℕ
 countsStart h = labelsStart + labelsSize
 
--- the record of one array
+-- an array by its number
 abbrev pub countStart : Header → (array : ℕ) → ℕ
 countStart h a = countsStart h + arraySize * a
 
--- behind that of the last one
+-- the first node, behind the last array
 abbrev pub nodesStart : Header → ℕ
 nodesStart h = countStart h (h .arrays)
 

@@ -7,7 +7,7 @@ use lib.ListN.{length}
 use borrow.Author.Tests.{le-leb, lt-leb, le-ltb, lt-ltb}
 use Rattle.awhile.specs.Encoding.{tableBytes}
 use Rattle.reader.specs.Index.{Ready, tableOf, nodesIn}
-use Rattle.reader.proofs.Ready.{header-variables, header-nodes, ready-header}
+use Rattle.reader.proofs.Ready.{ready-variables, ready-nodes}
 use Rattle.awhile.specs.Refusals.{refused, got, check, refusalNumber}
 use Rattle.awhile.specs.Tables.{maxVariables}
 use Rattle.awhile.specs.declared.Declarations.{Declarations}
@@ -19,28 +19,22 @@ use Rattle.flow.specs.Writes.{HasHardened, Writes}
 use Rattle.entries.specs.Writing.{notWritten, writing, hardenedIn}
 
 module _ {s index : List ℕ} {declared : Declarations} (ready : Ready s index declared) where
-  same-nodes : declared .header .nodes ≡ nodesIn s
-  same-nodes = header-nodes (ready-header ready)
-
-  same-variables : declared .header .variables ≡ tableOf s .variables
-  same-variables = header-variables (ready-header ready)
-
   -- ---- the two refusals
   too-many : maxHardened < declared .header .nodes → hardenedIn (tableOf s) ≡ refused TooManyNodes
   unfolding hardenedIn check nodesIn
   too-many h =
-      let many : maxHardened < length (tableOf s .nodes) = omega (arith, same-nodes) in
+      let many : maxHardened < length (tableOf s .nodes) = omega (arith, ready-nodes ready) in
       rw (lt-leb (length (tableOf s .nodes)) maxHardened many)
 
   no-variable : declared .header .nodes ≤ maxHardened → maxVariables ≤ declared .header .variables → hardenedIn (tableOf s) ≡ refused NoFreeVariable
   unfolding hardenedIn check nodesIn
   no-variable h k =
-      let few : length (tableOf s .nodes) ≤ maxHardened = omega (arith, same-nodes) in
-      let none : maxVariables ≤ tableOf s .variables = omega (arith, same-variables) in
+      let few : length (tableOf s .nodes) ≤ maxHardened = omega (arith, ready-nodes ready) in
+      let none : maxVariables ≤ tableOf s .variables = omega (arith, ready-variables ready) in
       rw (le-leb (length (tableOf s .nodes)) maxHardened few, le-ltb (tableOf s .variables) maxVariables none)
 
   pub has-hardened : declared .header .nodes ≤ maxHardened → declared .header .variables < maxVariables → HasHardened s
-  has-hardened h k = record { few = omega (arith, same-nodes); free = omega (arith, same-variables) }
+  has-hardened h k = record { few = omega (arith, ready-nodes ready); free = omega (arith, ready-variables ready) }
 
   -- what is refused is answered, and nothing is written
   refused-writes : (r : Refusal) → hardenedIn (tableOf s) ≡ refused r → (out answer : List ℕ) {answer′ : List ℕ} {k : ℕ}

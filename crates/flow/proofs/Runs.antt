@@ -14,7 +14,7 @@ use Rattle.awhile.specs.Refusals.{Answer, refused, got, check, andThen, refusal
 use Rattle.awhile.specs.Tables.{Table, readTable, rejected, notATree, accepted, BreaksRule}
 use Rattle.reader.specs.Index.{Indexed, Ready, tableOf, nodesIn, Answers}
 use Rattle.reader.proofs.Index.{indexed-well-formed, indexed-few}
-use Rattle.reader.proofs.Ready.{header-variables, header-nodes, ready-header, ready-cells}
+use Rattle.reader.proofs.Ready.{ready-header, ready-variables, ready-nodes, ready-cells}
 use Rattle.reader.proofs.Answering.{RefusedTable, byRecord, byOrder, refusing}
 use Rattle.awhile.specs.declared.Declarations.{Declarations}
 use Rattle.reader.specs.declared.Read.{Read}
@@ -40,22 +40,13 @@ use Rattle.flow.specs.declared.machines.Done.the-variants.{Refused, Ende
 
 -- ---- a table that was read
 module _ (table index list : List ℕ) (declared : Declarations) (ready : Ready table index declared) where
-  same-variables : declared .header .variables ≡ tableOf table .variables
-  same-variables = header-variables (ready-header ready)
-
-  same-cells : declared .cells ≡ sum (tableOf table .counts)
-  same-cells = ready-cells ready
-
-  same-nodes : declared .header .nodes ≡ nodesIn table
-  same-nodes = header-nodes (ready-header ready)
-
   -- its numbers are small
   pub ready-small : Below 256 table → (declared .header .variables ≤ 32) × (declared .cells ≤ 16384) × (declared .header .nodes ≤ 4096)
   ready-small bytes =
       let w = indexed-well-formed table index bytes (ready .indexed) in (
-        omega (arith, same-variables, w .declared .variablesFit),
-        omega (arith, same-cells, w .declared .cellsFit),
-        omega (arith, same-nodes, indexed-few table index bytes (ready .indexed)),
+        omega (arith, ready-variables ready, w .declared .variablesFit),
+        omega (arith, ready-cells ready, w .declared .cellsFit),
+        omega (arith, ready-nodes ready, indexed-few table index bytes (ready .indexed)),
       )
 
   module _ (isGuessing : Bool) (budget : ℕ) (vs cs ps os : List ℕ) where
@@ -79,25 +70,25 @@ module _ (table index list : List ℕ) (declared : Declarations) (ready : Ready 
         pub wrong-variables : (length vs ≡ 4 * declared .header .variables → ⊥) → DoneAs table list isGuessing budget lent lent (Refused WrongVariables)
         unfolding lentFor check
         wrong-variables wrong =
-            refused-done WrongVariables (runnable-lent ∙ rw (ne-eqb (length vs) (4 * tableOf table .variables) (λ e. wrong (e ∙ ap (λ n. 4 * n) (sym (same-variables))))))
+            refused-done WrongVariables (runnable-lent ∙ rw (ne-eqb (length vs) (4 * tableOf table .variables) (λ e. wrong (e ∙ ap (λ n. 4 * n) (sym (ready-variables ready))))))
 
         module _ (isVariables : length vs ≡ 4 * declared .header .variables) where
           rightV : eqb (length vs) (4 * tableOf table .variables) ≡ true
-          rightV = eq-eqb (length vs) (4 * tableOf table .variables) (isVariables ∙ ap (λ n. 4 * n) (same-variables))
+          rightV = eq-eqb (length vs) (4 * tableOf table .variables) (isVariables ∙ ap (λ n. 4 * n) (ready-variables ready))
 
           pub wrong-cells : (length cs ≡ 4 * declared .cells → ⊥) → DoneAs table list isGuessing budget lent lent (Refused WrongCells)
           unfolding lentFor check
           wrong-cells wrong =
-              refused-done WrongCells (runnable-lent ∙ rw (rightV, ne-eqb (length cs) (4 * sum (tableOf table .counts)) (λ e. wrong (e ∙ ap (λ n. 4 * n) (sym (same-cells))))))
+              refused-done WrongCells (runnable-lent ∙ rw (rightV, ne-eqb (length cs) (4 * sum (tableOf table .counts)) (λ e. wrong (e ∙ ap (λ n. 4 * n) (sym (ready-cells ready))))))
 
           module _ (isCells : length cs ≡ 4 * declared .cells) where
             rightC : eqb (length cs) (4 * sum (tableOf table .counts)) ≡ true
-            rightC = eq-eqb (length cs) (4 * sum (tableOf table .counts)) (isCells ∙ ap (λ n. 4 * n) (same-cells))
+            rightC = eq-eqb (length cs) (4 * sum (tableOf table .counts)) (isCells ∙ ap (λ n. 4 * n) (ready-cells ready))
 
             pub short-pending : length ps < 4 * declared .header .nodes → DoneAs table list isGuessing budget lent lent (Refused ShortPending)
             unfolding lentFor check nodesIn
             short-pending short =
-                refused-done ShortPending (runnable-lent ∙ rw (rightV, rightC, lt-leb (4 * length (tableOf table .nodes)) (length ps) (omega (arith, same-nodes))))
+                refused-done ShortPending (runnable-lent ∙ rw (rightV, rightC, lt-leb (4 * length (tableOf table .nodes)) (length ps) (omega (arith, ready-nodes ready))))
 
             module _ (long : 4 * declared .header .nodes ≤ length ps) where
               -- all is right for a run
@@ -107,8 +98,8 @@ module _ (table index list : List ℕ) (declared : Declarations) (ready : Ready 
                     indexed = ready .indexed;
                     isHeader = ready-header ready .isHeader;
                     readable = record { within = omega arith; reads = sym isReads ∙ good };
-                    variablesLong = isVariables ∙ ap (λ n. 4 * n) (same-variables);
-                    cellsLong = isCells ∙ ap (λ n. 4 * n) (same-cells);
+                    variablesLong = isVariables ∙ ap (λ n. 4 * n) (ready-variables ready);
+                    cellsLong = isCells ∙ ap (λ n. 4 * n) (ready-cells ready);
                     pendingLong = long;
                   }
 
@@ -121,11 +112,11 @@ module _ (table index list : List ℕ) (declared : Declarations) (ready : Ready 
                   → DoneAs table list isGuessing budget lent (lentAt vs′ cs′ ps′ os′) (Ended r)
               unfolding lentFor check nodesIn ranAll
               run-done vs′ cs′ ps′ os′ r left =
-                  let leaves = rw (same-run, same-nodes) at left in
+                  let leaves = rw (same-run, ready-nodes ready) at left in
                   record {
                     came =
                         has-run (tableOf table) r
-                        (runnable-lent ∙ rw (rightV, rightC, le-leb (4 * length (tableOf table .nodes)) (length ps) (omega (arith, same-nodes))))
+                        (runnable-lent ∙ rw (rightV, rightC, le-leb (4 * length (tableOf table .nodes)) (length ps) (omega (arith, ready-nodes ready))))
                         (λ i. record { variables = leaves .variables i; cells = leaves .cells i; pending = leaves .pending i; observations = leaves .observations i })
                         (leaves .report);
                   }

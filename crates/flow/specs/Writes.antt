@@ -29,13 +29,13 @@ pub record HasHardened (table : List ℕ) : Type 0 where
   pub few : nodesIn table ≤ maxHardened
   pub free : tableOf table .variables < maxVariables
 
--- what deciding on a table's program requires: no more nodes than are hardened, and room for a byte for each
+-- what deciding on the program of a table that was read requires: no more nodes than are hardened, and room for a byte for each
 pub record DecideReady (table index : List ℕ) (declared : Declarations) (decisions : List ℕ) : Type 0 where
   pub ready : Ready table index declared
   pub few : nodesIn table ≤ maxHardened
   pub room : nodesIn table ≤ length decisions
 
--- what labelling a table requires: memory for its expressions' variables and for notes that are all zero
+-- what labelling a table that was read requires: memory for its expressions' variables and for notes that are all zero
 pub record LabelReady (table index named notes : List ℕ) (declared : Declarations) : Type 0 where
   pub ready : Ready table index declared
   pub namedFit : nodesIn table ≤ length named

@@ -20,7 +20,7 @@ use Rattle.awhile.specs.declared.Header.{Header}
 use Rattle.awhile.specs.declared.Labelling.{Labelling}
 use Rattle.reader.specs.Index.{HasHeader, tableOf, nodesIn, nodeIn, commandIn}
 use Rattle.reader.proofs.Index.{indexed-root, indexed-root-sort, indexed-some, indexed-well-formed}
-use Rattle.reader.proofs.Ready.{header-variables, header-arrays, header-nodes, header-few-arrays, header-count, ready-header, ready-labels}
+use Rattle.reader.proofs.Ready.{header-arrays, header-few-arrays, header-count, ready-header, ready-variables, ready-nodes, ready-labels}
 use Rattle.awhile.proofs.Lists.{flatMap-append}
 use Rattle.awhile.proofs.Reading.{length-headerBytes, length-labelsBytes, length-countBytes, length-countsBytes}
 use Rattle.masks.specs.Decisions.{Decision}
@@ -140,23 +140,20 @@ abbrev pub rootAt : Declarations → ℕ
 rootAt d = d .header .nodes - 1
 
 module _ {table index ds : List ℕ} {declared : Declarations} (bytes : Below 256 table) (m : Measurable table index ds declared) where
-  same-nodes : declared .header .nodes ≡ nodesIn table
-  same-nodes = header-nodes (ready-header (m .ready))
-
   -- there are nodes
   pub measured-some : 0 < declared .header .nodes
-  measured-some = omega (arith, same-nodes, indexed-some table index bytes (m .ready .indexed))
+  measured-some = omega (arith, ready-nodes (m .ready), indexed-some table index bytes (m .ready .indexed))
 
   -- no more than are hardened
   pub measured-nodes : declared .header .nodes ≤ 512
-  measured-nodes = omega (arith, same-nodes, m .few)
+  measured-nodes = omega (arith, ready-nodes (m .ready), m .few)
 
   -- nor more arrays than a table may have
   pub measured-arrays : declared .header .arrays ≤ maxArrays
   measured-arrays = header-few-arrays (ready-header (m .ready)) bytes
 
   is-last : nodesIn table - 1 ≡ rootAt declared
-  is-last = omega (arith, same-nodes)
+  is-last = omega (arith, ready-nodes (m .ready))
 
   -- what comes out for the root is the hardened program
   root-hardened : hardenedIn table ds (tableOf table .variables) (rootAt declared) ≡ hardenedProgram (tableOf table)
@@ -167,7 +164,7 @@ module _ {table index ds : List ℕ} {declared : Declarations} (bytes : Below 25
       record {
         node = record {
           indexed = m .ready .indexed;
-          inside = omega (arith, same-nodes, measured-some);
+          inside = omega (arith, ready-nodes (m .ready), measured-some);
           isSort = ap (λ n. sortOf (nodeIn table n)) (sym is-last) ∙ indexed-root-sort table index bytes (m .ready .indexed);
         };
         room = m .decided .room;
@@ -202,7 +199,7 @@ module _ {table index ds : List ℕ} {declared : Declarations} (bytes : Below 25
 
   -- at most 80 bytes come out per node put in
   pub measured-short : length (tableBytes (hardenedTable (tableOf table))) ≤ nodesStart (declared .header) + 80 * declared .header .nodes
-  measured-short = omega (arith, measured-length, bytes-C (hardenedIn table ds 0 (rootAt declared)) .short, root-grown, same-nodes)
+  measured-short = omega (arith, measured-length, bytes-C (hardenedIn table ds 0 (rootAt declared)) .short, root-grown, ready-nodes (m .ready))
 
 -- ---- writing the hardened table
 module _ {table index ds : List ℕ} {declared : Declarations} {out : List ℕ} (bytes : Below 256 table) (w : Writable table index ds declared out) where
@@ -217,7 +214,7 @@ module _ {table index ds : List ℕ} {declared : Declarations} {out : List ℕ} 
   well-declared = indexed-well-formed table index bytes (w .measurable .ready .indexed) .declared
 
   written-program : program ≡ hardenedProgram (tableOf table)
-  written-program = ap (λ f. hardenedIn table ds f (rootAt declared)) (header-variables has-header) ∙ root-hardened bytes (w .measurable)
+  written-program = ap (λ f. hardenedIn table ds f (rootAt declared)) (ready-variables (w .measurable .ready)) ∙ root-hardened bytes (w .measurable)
 
   -- the bytes of the hardened table
   whole-bytes : tableBytes (hardenedTable (tableOf table))
@@ -226,7 +223,7 @@ module _ {table index ds : List ℕ} {declared : Declarations} {out : List ℕ} 
   whole-bytes =
       let p = hardenedProgram (tableOf table) in
       let n : nodesOf p ≡ length (writeC 0 p) = sym (counted-C 0 p .nodesAre) in
-      rw (written-program, header-variables has-header, header-arrays has-header, ready-labels (w .measurable .ready), n)
+      rw (written-program, ready-variables (w .measurable .ready), header-arrays has-header, ready-labels (w .measurable .ready), n)
 
   -- and how many
   whole-length : length (tableBytes (hardenedTable (tableOf table))) ≡ nodesStart (declared .header) + bytesOf program
@@ -237,7 +234,7 @@ module _ {table index ds : List ℕ} {declared : Declarations} {out : List ℕ} 
 
   -- variables and masks are within the limits
   pub few-variables : declared .header .variables ≤ maxVariables
-  few-variables = omega (arith, header-variables has-header, well-declared .variablesFit)
+  few-variables = omega (arith, ready-variables (w .measurable .ready), well-declared .variablesFit)
 
   pub mask-fits : declared .labels .variables < 2 ^ 32
   mask-fits =

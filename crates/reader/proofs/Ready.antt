@@ -38,6 +38,12 @@ module _ {table index : List ℕ} {declared : Declarations} (ready : Ready table
   pub ready-header : HasHeader table (declared .header)
   ready-header = record { reads = ready .indexed .reads; isHeader = ap (λ (d : Declarations). d .header) (ready .declares) }
 
+  pub ready-variables : declared .header .variables ≡ tableOf table .variables
+  ready-variables = header-variables ready-header
+
+  pub ready-nodes : declared .header .nodes ≡ nodesIn table
+  ready-nodes = header-nodes ready-header
+
   pub ready-cells : declared .cells ≡ sum (tableOf table .counts)
   ready-cells = sym (ap (λ (d : Declarations). d .cells) (ready .declares))
 

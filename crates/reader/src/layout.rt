@@ -13,7 +13,7 @@ pub const ARRAY_BYTES: usize = 6;
 // The labels stand behind the header.
 pub const LABELS_START: usize = HEADER_BYTES;
 
-// The arrays stand behind the labels, by number.
+// The arrays stand behind the labels, by number; every header of version 1 places them alike.
 pub fn count_start(header: Header, a: usize) -> usize
     requires { ⌜ a ≤ maxArrays ⌝ }
     ensures { λ r. ⌜ r ≡ countStart header a ⌝ }

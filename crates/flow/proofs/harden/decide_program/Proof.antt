@@ -2,7 +2,7 @@
 use native.Mathlib.Omega.{arith}
 use denote.Ref.{now}
 use Rattle.bytes_le.proofs.Numbers.{slice-bytes}
-use Rattle.reader.proofs.Ready.{header-nodes, ready-header, ready-labels}
+use Rattle.reader.proofs.Ready.{ready-nodes, ready-labels}
 use Rattle.analysis.proofs.WholeProgram.{fresh-zeros}
 use Rattle.masking.proofs.DecidedBytes.{all-decided}
 use borrow.Author.Needs.{needs}
@@ -10,15 +10,15 @@ use Rattle.flow.proofs.harden.decide_program.Statement.{statement}
 use Rattle.flow.proofs.harden.decide_program.Tie as tie
 
 name-all-requires : tie.Need-name-all-requires
-name-all-requires c κs = let pre = c .before .before .before .before .before .pre in (pre .ready .indexed, header-nodes (ready-header (pre .ready)), pre .few)
+name-all-requires c κs = let pre = c .before .before .before .before .before .pre in (pre .ready .indexed, ready-nodes (pre .ready), pre .few)
 
 label-program-requires : tie.Need-label-program-requires
 label-program-requires c κs =
     let pre = c .before .before .before .before .before .before .before .before .before .pre in
-    (fresh-zeros 1024 (pre .ready .indexed) (c .before .before .before .name-all .ensures) (omega (arith, pre .few)), header-nodes (ready-header (pre .ready)))
+    (fresh-zeros 1024 (pre .ready .indexed) (c .before .before .before .name-all .ensures) (omega (arith, pre .few)), ready-nodes (pre .ready))
 
 decide-all-requires : tie.Need-decide-all-requires
-decide-all-requires c κs = (search needs, header-nodes (ready-header (c .before .before .before .before .before .before .before .before .before .before .before .before .before .before .pre .ready)))
+decide-all-requires c κs = (search needs, ready-nodes (c .before .before .before .before .before .before .before .before .before .before .before .before .before .before .pre .ready))
 
 returns : tie.Need-returns
 returns c =
