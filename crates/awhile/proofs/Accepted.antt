@@ -13,7 +13,7 @@ use Rattle.bytes_le.proofs.Numbers.{Below, leAt-lt}
 use Rattle.awhile.specs.Lists.{sum, all}
 use Rattle.awhile.specs.Refusals.{Answer, refused, got, check, andThen}
 use Rattle.awhile.specs.Nodes.{form, sizeOf, nodeOf, decodeAt, inRange, sorted}
-use Rattle.awhile.specs.Tables.{Header, Table, maxVariables, maxArrays, maxNodes, maxCells, headerSize, labelsSize, arraySize, nodesStart, offsetOf}
+use Rattle.awhile.specs.Tables.{Table, headerOf, maxVariables, maxArrays, maxNodes, maxCells, headerSize, labelsSize, arraySize, labelsStart, countsStart, nodesStart, offsetOf}
 use Rattle.awhile.specs.Tables.{framed, lengthOfKind, readHeader, readLabels, readCount, readCounts, readNode, readNodes, readRecords}
 use Rattle.awhile.specs.Tables.{accepted, rejected, notATree, allInOrder, checkWhole, readTable}
 use Rattle.awhile.specs.WellFormed.{WellFormed, Declared, NodeFits, wordFits}
@@ -21,6 +21,7 @@ use Rattle.awhile.proofs.Lists.{and-first, and-second, sum-append}
 use Rattle.awhile.proofs.Cases.{counts-next, counts-refused, node-known, node-unknown, nodes-next, nodes-refused, table-read, table-refused}
 use Rattle.awhile.proofs.Fitting.{FitAfter, fit-by-number}
 use Rattle.awhile.proofs.Records.{NodeAt, NodesAt, nodes-at}
+use Rattle.awhile.specs.declared.Header.{Header}
 use Rattle.awhile.specs.declared.Labelling.{Labelling}
 use Rattle.awhile.specs.declared.Node.{Node}
 use Rattle.awhile.specs.declared.Node.the-variants.{Skip}
@@ -155,19 +156,19 @@ module _ (s : List ℕ) where
     variableMaskFits : l .variables < 2 ^ h .variables
     arrayMaskFits : l .arrays < 2 ^ h .arrays
 
-  labels-fit : (h : Header) (l : Labelling) → readLabels s h ≡ got l → LabelsFit h l
+  labels-fit : (h : Header) (at : ℕ) (l : Labelling) → readLabels s h at ≡ got l → LabelsFit h l
   unfolding readLabels
-  labels-fit h l e =
-      let read : Labelling = record { variables = leAt 4 s 14; arrays = leAt 2 s 18 } in
-      let first : Bool = ltb (leAt 4 s 14) (2 ^ h .variables) in
-      let second : Bool = ltb (leAt 2 s 18) (2 ^ h .arrays) in
-      let rest = framed-rest s 10 (lengthOfKind 3 labelsSize s 10) (check (first && second) (BeyondLimit 10) (got read)) l e in
-      let test = check-test (BeyondLimit 10) (first && second) (got read) l rest in
-      let same : read ≡ l = got-same read l (check-rest (BeyondLimit 10) (first && second) (got read) l rest) in
+  labels-fit h at l e =
+      let read : Labelling = record { variables = leAt 4 s (at + 4); arrays = leAt 2 s (at + 8) } in
+      let first : Bool = ltb (read .variables) (2 ^ h .variables) in
+      let second : Bool = ltb (read .arrays) (2 ^ h .arrays) in
+      let rest = framed-rest s at (lengthOfKind 3 labelsSize s at) (check (first && second) (BeyondLimit at) (got read)) l e in
+      let test = check-test (BeyondLimit at) (first && second) (got read) l rest in
+      let same : read ≡ l = got-same read l (check-rest (BeyondLimit at) (first && second) (got read) l rest) in
       rw (← same)
       (record {
-        variableMaskFits = ltb-true (leAt 4 s 14) (2 ^ h .variables) (and-first first second test);
-        arrayMaskFits = ltb-true (leAt 2 s 18) (2 ^ h .arrays) (and-second first second test);
+        variableMaskFits = ltb-true (read .variables) (2 ^ h .variables) (and-first first second test);
+        arrayMaskFits = ltb-true (read .arrays) (2 ^ h .arrays) (and-second first second test);
       })
 
   -- ---- the arrays
@@ -314,11 +315,11 @@ pub record RecordsRead (s : List ℕ) (t : Table) : Type 0 where
   pub hasNodes : 0 < length (t .nodes)
   pub nodesFit : length (t .nodes) ≤ maxNodes
   pub fits : FitAfter (t .variables) (length (t .counts)) [] (t .nodes)
-  pub there : NodesAt s (nodesStart (length (t .counts))) (t .nodes)
+  pub there : NodesAt s (nodesStart (headerOf t)) (t .nodes)
 
 module _ (s : List ℕ) (bytes : Below 256 s) where
   records-put : (h : Header) (l : Labelling) (cs : List ℕ) (ns : List Node)
-      → HeaderFits s h → LabelsFit s h l → CountsFit s (h .arrays) [] cs → NodesRead s bytes h (h .nodes) (nodesStart (h .arrays)) [] ns
+      → HeaderFits s h → LabelsFit s h l → CountsFit s (h .arrays) [] cs → NodesRead s bytes h (h .nodes) (nodesStart h) [] ns
       → RecordsRead s (record { variables = h .variables; labels = l; counts = cs; nodes = ns })
   unfolding sum
   records-put h l cs ns header labels counts nodes =
@@ -347,16 +348,16 @@ module _ (s : List ℕ) (bytes : Below 256 s) where
       let Q : Type 0 = RecordsRead s t in
       then-got Q (readHeader s) _ t e
       (λ h eh e₁.
-      then-got Q (readLabels s h) _ t e₁
+      then-got Q (readLabels s h labelsStart) _ t e₁
       (λ l el e₂.
-      then-got Q (readCounts (h .arrays) s 20 []) _ t e₂
+      then-got Q (readCounts (h .arrays) s (countsStart h) []) _ t e₂
       (λ cs ec e₃.
-      then-got Q (readNodes (h .nodes) h s (nodesStart (h .arrays)) []) _ t e₃
+      then-got Q (readNodes (h .nodes) h s (nodesStart h) []) _ t e₃
       (λ ns en e₄.
       rw (← got-same _ t e₄)
-      (records-put h l cs ns (header-fits s h eh) (labels-fit s h l el)
-      (counts-fit s (h .arrays) 20 [] cs (omega arith) ec)
-      (nodes-fit s bytes h (h .nodes) (nodesStart (h .arrays)) [] ns en))))))
+      (records-put h l cs ns (header-fits s h eh) (labels-fit s h labelsStart l el)
+      (counts-fit s (h .arrays) (countsStart h) [] cs (omega arith) ec)
+      (nodes-fit s bytes h (h .nodes) (nodesStart h) [] ns en))))))
 
   -- what reads as a table was read, is one tree and has no bytes after it
   record Accepted (t : Table) : Type 0 where
@@ -399,7 +400,7 @@ module _ (s : List ℕ) (bytes : Below 256 s) where
   -- each node's record stands at its offset and decodes to it, as soon as the records were read
   pub node-there : (t : Table) → readRecords s ≡ got t → (i : ℕ) → i < length (t .nodes) → NodeAt s (offsetOf t i) (getD (t .nodes) i Skip)
   unfolding offsetOf
-  node-there t e i inside = nodes-at s (nodesStart (length (t .counts))) (t .nodes) (records-known t e .there) i inside
+  node-there t e i inside = nodes-at s (nodesStart (headerOf t)) (t .nodes) (records-known t e .there) i inside
 
   -- an accepted table's records were read
   pub accepted-read : (t : Table) → readTable s ≡ accepted t → readRecords s ≡ got t

@@ -10,11 +10,12 @@ use borrow.Author.Tests.{eq-eqb, ne-eqb, eqb-true, eqb-false}
 use Rattle.awhile.specs.Lists.{sum}
 use Rattle.awhile.specs.Refusals.{refused, got, check}
 use Rattle.awhile.specs.Nodes.{sizeOf, sortOf, sameSort, decodeAt, inRange, sorted}
-use Rattle.awhile.specs.Tables.{Header, Table, arraySize, framed, readCount, readCounts, readNode, readNodes, readRecords}
+use Rattle.awhile.specs.Tables.{Table, arraySize, framed, readCount, readCounts, readNode, readNodes, readRecords}
 use Rattle.awhile.specs.Tables.{usesOf, inOrder, allInOrder}
 use Rattle.awhile.specs.Tables.{rejected, checkWhole, readTable}
 use Rattle.awhile.proofs.Lists.{and-both, and-first, and-second}
 use Rattle.awhile.specs.declared.Sort.the-variants.{Command}
+use Rattle.awhile.specs.declared.Header.{Header}
 use Rattle.awhile.specs.declared.Node.{Node}
 use Rattle.awhile.specs.declared.Node.the-variants.{Skip}
 use Rattle.awhile.specs.declared.Decoded.{Decoded}

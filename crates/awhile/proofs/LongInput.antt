@@ -14,12 +14,13 @@ use Rattle.bytes_le.proofs.Numbers.{Below, leAt-append-le}
 use Rattle.awhile.specs.Lists.{sum}
 use Rattle.awhile.specs.Refusals.{Answer, refused, got, andThen}
 use Rattle.awhile.specs.Nodes.{sizeOf, decodeAt}
-use Rattle.awhile.specs.Tables.{Header, Table, headerSize, labelsSize, arraySize, nodesStart, longestTable, offsetOf}
+use Rattle.awhile.specs.Tables.{Table, headerSize, labelsSize, arraySize, labelsStart, countsStart, nodesStart, longestTable, offsetOf}
 use Rattle.awhile.specs.Tables.{framed, lengthOfKind, readHeader, readLabels, readCount, readCounts, readNode, readNodes, readRecords}
 use Rattle.awhile.specs.Tables.{checkWhole, readTable}
 use Rattle.awhile.proofs.Cases.{counts-next, counts-refused, node-known, node-unknown, nodes-next, nodes-refused, table-read, table-refused}
 use Rattle.awhile.proofs.Records.{head-fits, sizes-most}
 use Rattle.awhile.proofs.Accepted.{HeaderFits, header-fits, RecordsRead, records-known}
+use Rattle.awhile.specs.declared.Header.{Header}
 use Rattle.awhile.specs.declared.Node.{Node}
 use Rattle.awhile.specs.declared.Node.the-variants.{Skip}
 use Rattle.awhile.specs.declared.Decoded.{Decoded}
@@ -64,9 +65,9 @@ module _ (s u : List ℕ) (left : longestTable < length s) (right : longestTable
       framed-kind-same 1 headerSize 0 _ _ (omega arith) (omega arith)
       (rw (same 2 4 (omega arith), same 1 6 (omega arith), same 1 7 (omega arith), same 2 8 (omega arith)))
 
-  labels-same : (h : Header) → readLabels s h ≡ readLabels u h
+  labels-same : (h : Header) (at : ℕ) → at + labelsSize ≤ longestTable → readLabels s h at ≡ readLabels u h at
   unfolding readLabels
-  labels-same h = framed-kind-same 3 labelsSize 10 _ _ (omega arith) (omega arith) (rw (same 4 14 (omega arith), same 2 18 (omega arith)))
+  labels-same h at room = framed-kind-same 3 labelsSize at _ _ (omega arith) room (rw (same 4 (at + 4) (omega arith), same 2 (at + 8) (omega arith)))
 
   count-same : (at before : ℕ) → at + arraySize ≤ longestTable → readCount s at before ≡ readCount u at before
   unfolding readCount
@@ -120,17 +121,17 @@ module _ (s u : List ℕ) (left : longestTable < length s) (right : longestTable
   -- the rest of the reading, behind a header that fits
   abbrev behind : List ℕ → Header → Answer Table
   behind x h =
-      andThen (readLabels x h) (λ l.
-      andThen (readCounts (h .arrays) x 20 []) (λ cs.
-      andThen (readNodes (h .nodes) h x (nodesStart (h .arrays)) []) (λ ns.
+      andThen (readLabels x h labelsStart) (λ l.
+      andThen (readCounts (h .arrays) x (countsStart h) []) (λ cs.
+      andThen (readNodes (h .nodes) h x (nodesStart h) []) (λ ns.
       got (record { variables = h .variables; labels = l; counts = cs; nodes = ns }))))
 
   behind-same : (h : Header) → HeaderFits s h → behind s h ≡ behind u h
   behind-same h fits =
       rw (
-        labels-same h,
-        counts-same (h .arrays) 20 [] (omega (arith, fits .arraysFit)),
-        nodes-same h (h .nodes) (nodesStart (h .arrays)) [] (omega (arith, fits .arraysFit, fits .nodesFit)),
+        labels-same h labelsStart (omega arith),
+        counts-same (h .arrays) (countsStart h) [] (omega (arith, fits .arraysFit)),
+        nodes-same h (h .nodes) (nodesStart h) [] (omega (arith, fits .arraysFit, fits .nodesFit)),
       )
 
   records-same : readRecords s ≡ readRecords u

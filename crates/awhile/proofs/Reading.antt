@@ -13,7 +13,7 @@ use Rattle.bytes_le.proofs.Pieces.{Stands, stands-first, stands-second, stands-
 use Rattle.awhile.specs.Lists.{sum}
 use Rattle.awhile.specs.Refusals.{Answer, got, check, andThen}
 use Rattle.awhile.specs.Nodes.{form, sizeOf, nodeBytes, inRange}
-use Rattle.awhile.specs.Tables.{Header, Table, maxVariables, maxArrays, maxNodes, maxCells, headerSize, labelsSize, arraySize, nodesStart, offsetOf}
+use Rattle.awhile.specs.Tables.{Table, headerOf, maxVariables, maxArrays, maxNodes, maxCells, headerSize, labelsSize, arraySize, labelsStart, countsStart, nodesStart, offsetOf}
 use Rattle.awhile.specs.Tables.{framed, lengthOfKind, readHeader, readLabels, readCount, readCounts, readNode, readNodes, readRecords}
 use Rattle.awhile.specs.Tables.{accepted, checkWhole, readTable}
 use Rattle.awhile.specs.Encoding.{headerBytes, labelsBytes, countBytes, tableBytes}
@@ -22,6 +22,7 @@ use Rattle.awhile.proofs.Lists.{sum-append, length-flatMap}
 use Rattle.awhile.proofs.Records.{fields-fit, HeadAt, head-stands, node-stands, length-nodeBytes, size-least}
 use Rattle.awhile.proofs.Cases.{counts-next, node-known, nodes-next, table-read}
 use Rattle.awhile.proofs.Fitting.{FitAfter, fit-in-turn}
+use Rattle.awhile.specs.declared.Header.{Header}
 use Rattle.awhile.specs.declared.Labelling.{Labelling}
 use Rattle.awhile.specs.declared.Node.{Node}
 
@@ -38,9 +39,9 @@ length-countsBytes [] = refl
 length-countsBytes (n ∷ ns) = simp (length-append, length-countBytes) (omega (arith, length-countsBytes ns))
 
 -- the header has 10 bytes
-pub length-headerBytes : (vs arrs nodes : ℕ) → length (headerBytes vs arrs nodes) ≡ headerSize
+pub length-headerBytes : (h : Header) → length (headerBytes h) ≡ headerSize
 unfolding headerBytes
-length-headerBytes vs arrs nodes = simp (length-append, length-le)
+length-headerBytes h = simp (length-append, length-le)
 
 -- the labels record has 10 bytes
 pub length-labelsBytes : (l : Labelling) → length (labelsBytes l) ≡ labelsSize
@@ -65,12 +66,15 @@ framed-kind s at kind size body rest least head =
 
 module _ (s : List ℕ) where
   -- the header reads back
-  pub header-reads : (vs arrs nodes : ℕ) → vs ≤ maxVariables → arrs ≤ maxArrays → 0 < nodes → nodes ≤ maxNodes
-      → Stands (headerBytes vs arrs nodes) 0 s → readHeader s ≡ got (record { variables = vs; arrays = arrs; nodes = nodes })
+  pub header-reads : (h : Header) → h .variables ≤ maxVariables → h .arrays ≤ maxArrays → 0 < h .nodes → h .nodes ≤ maxNodes
+      → Stands (headerBytes h) 0 s → readHeader s ≡ got h
   unfolding headerBytes readHeader check
-  header-reads vs arrs nodes v a some n h =
+  header-reads h v a some n st =
+      let vs = h .variables in
+      let arrs = h .arrays in
+      let nodes = h .nodes in
       let body : List ℕ = le 2 1 ++ (le 1 vs ++ (le 1 arrs ++ le 2 nodes)) in
-      let head : HeadAt s 0 headerSize 1 body = head-stands s 0 headerSize 1 body (simp (length-append, length-le) refl) (omega arith) (omega arith) h in
+      let head : HeadAt s 0 headerSize 1 body = head-stands s 0 headerSize 1 body (simp (length-append, length-le) refl) (omega arith) (omega arith) st in
       let version = stands-number s 2 1 (le 1 vs ++ (le 1 arrs ++ le 2 nodes)) 4 6 (omega arith) refl (head .bodyStands) in
       let variables = stands-number s 1 vs (le 1 arrs ++ le 2 nodes) 6 7 (omega arith) refl (version .rest) in
       let arrays = stands-number s 1 arrs (le 2 nodes) 7 8 (omega arith) refl (variables .rest) in
@@ -87,18 +91,18 @@ module _ (s : List ℕ) where
       )
 
   -- the labels record reads back
-  pub labels-read : (l : Labelling) (h : Header) → h .variables ≤ maxVariables → h .arrays ≤ maxArrays
+  pub labels-read : (l : Labelling) (h : Header) (at : ℕ) → h .variables ≤ maxVariables → h .arrays ≤ maxArrays
       → l .variables < 2 ^ h .variables → l .arrays < 2 ^ h .arrays
-      → Stands (labelsBytes l) 10 s → readLabels s h ≡ got l
+      → Stands (labelsBytes l) at s → readLabels s h at ≡ got l
   unfolding labelsBytes readLabels check
-  labels-read l h v a vm am st =
+  labels-read l h at v a vm am st =
       let body : List ℕ = le 4 (l .variables) ++ le 2 (l .arrays) in
-      let head : HeadAt s 10 labelsSize 3 body = head-stands s 10 labelsSize 3 body (simp (length-append, length-le) refl) (omega arith) (omega arith) st in
-      let variables = stands-number s 4 (l .variables) (le 2 (l .arrays)) 14 18 (le-trans vm (pow-le-pow-right (omega arith) v)) refl (head .bodyStands) in
-      framed-kind s 10 3 labelsSize body _ (omega arith) head
+      let head : HeadAt s at labelsSize 3 body = head-stands s at labelsSize 3 body (simp (length-append, length-le) refl) (omega arith) (omega arith) st in
+      let variables = stands-number s 4 (l .variables) (le 2 (l .arrays)) (at + 4) (at + 8) (le-trans vm (pow-le-pow-right (omega arith) v)) (omega arith) (head .bodyStands) in
+      framed-kind s at 3 labelsSize body _ (omega arith) head
       ∙ rw (
         variables .isNumber,
-        stands-le s 2 (l .arrays) 18 (le-trans am (pow-le-pow-right (omega arith) a)) (variables .rest),
+        stands-le s 2 (l .arrays) (at + 8) (le-trans am (pow-le-pow-right (omega arith) a)) (variables .rest),
         lt-ltb (l .variables) (2 ^ h .variables) vm,
         lt-ltb (l .arrays) (2 ^ h .arrays) am,
       )
@@ -154,19 +158,19 @@ pub records-read : (t : Table) → WellFormed t → (s : List ℕ) → Stands (t
 unfolding readRecords andThen tableBytes sum
 records-read t w s st =
     let d = w .declared in
-    let header : List ℕ = headerBytes (t .variables) (length (t .counts)) (length (t .nodes)) in
+    let h : Header = headerOf t in
+    let header : List ℕ = headerBytes h in
     let labels : List ℕ = labelsBytes (t .labels) in
     let counts : List ℕ = flatMap countBytes (t .counts) in
     let nodes : List ℕ = flatMap nodeBytes (t .nodes) in
-    let h : Header = record { variables = t .variables; arrays = length (t .counts); nodes = length (t .nodes) } in
-    let fromLabels = stands-second s header (labels ++ (counts ++ nodes)) 0 10 (omega (arith, length-headerBytes (t .variables) (length (t .counts)) (length (t .nodes)))) st in
-    let fromCounts = stands-second s labels (counts ++ nodes) 10 20 (ap (λ k. 10 + k) (length-labelsBytes (t .labels))) fromLabels in
-    let fromNodes = stands-second s counts nodes 20 (nodesStart (length (t .counts))) (ap (λ k. 20 + k) (length-countsBytes (t .counts))) fromCounts in
+    let fromLabels = stands-second s header (labels ++ (counts ++ nodes)) 0 labelsStart (omega (arith, length-headerBytes h)) st in
+    let fromCounts = stands-second s labels (counts ++ nodes) labelsStart (countsStart h) (ap (λ k. labelsStart + k) (length-labelsBytes (t .labels))) fromLabels in
+    let fromNodes = stands-second s counts nodes (countsStart h) (nodesStart h) (ap (λ k. countsStart h + k) (length-countsBytes (t .counts))) fromCounts in
     rw (
-      header-reads s (t .variables) (length (t .counts)) (length (t .nodes)) (d .variablesFit) (d .arraysFit) (w .hasNodes) (w .nodesFit) (stands-first s header (labels ++ (counts ++ nodes)) 0 st),
-      labels-read s (t .labels) h (d .variablesFit) (d .arraysFit) (d .variableMaskFits) (d .arrayMaskFits) (stands-first s labels (counts ++ nodes) 10 fromLabels),
-      counts-read s (t .counts) [] 20 (d .countsPositive) (omega arith) (stands-first s counts nodes 20 fromCounts),
-      nodes-read s h (d .variablesFit) (d .arraysFit) (t .nodes) [] (nodesStart (length (t .counts))) (omega arith) (fit-in-turn (t .variables) (length (t .counts)) (t .nodes) [] (w .eachFits)) fromNodes,
+      header-reads s h (d .variablesFit) (d .arraysFit) (w .hasNodes) (w .nodesFit) (stands-first s header (labels ++ (counts ++ nodes)) 0 st),
+      labels-read s (t .labels) h labelsStart (d .variablesFit) (d .arraysFit) (d .variableMaskFits) (d .arrayMaskFits) (stands-first s labels (counts ++ nodes) labelsStart fromLabels),
+      counts-read s (t .counts) [] (countsStart h) (d .countsPositive) (omega arith) (stands-first s counts nodes (countsStart h) fromCounts),
+      nodes-read s h (d .variablesFit) (d .arraysFit) (t .nodes) [] (nodesStart h) (omega arith) (fit-in-turn (t .variables) (length (t .counts)) (t .nodes) [] (w .eachFits)) fromNodes,
     )
 
 -- a table's bytes end where its last record ends
@@ -174,7 +178,7 @@ pub length-tableBytes : (t : Table) → length (tableBytes t) ≡ offsetOf t (le
 unfolding tableBytes offsetOf
 length-tableBytes t =
     simp (length-append, take-length)
-    (omega (arith, length-headerBytes (t .variables) (length (t .counts)) (length (t .nodes)), length-labelsBytes (t .labels), length-countsBytes (t .counts), length-flatMap nodeBytes sizeOf length-nodeBytes (t .nodes)))
+    (omega (arith, length-headerBytes (headerOf t), length-labelsBytes (t .labels), length-countsBytes (t .counts), length-flatMap nodeBytes sizeOf length-nodeBytes (t .nodes)))
 
 -- a well-formed table reads back from its bytes
 pub read-back : (t : Table) → WellFormed t → readTable (tableBytes t) ≡ accepted t

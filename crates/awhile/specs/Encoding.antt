@@ -2,13 +2,13 @@
 use Prim.Native.Nat.{ℕ, _+_, _-_}
 use mathlib.Core.Bool.{cond}
 use mathlib.Core.List.{List, [], _∷_, _++_, flatMap}
-use lib.ListN.{length}
 use Rattle.bytes_le.specs.Numbers.{le}
 use Rattle.awhile.specs.Language.{AExp, number, variable, add, subtract, multiply, choice}
 use Rattle.awhile.specs.Language.{BExp, constant, equal, less, not, and}
 use Rattle.awhile.specs.Language.{Com, skip, assign, sequence, if, while, read, write, mapNotes}
 use Rattle.awhile.specs.Nodes.{nodeBytes}
-use Rattle.awhile.specs.Tables.{Table, headerSize, labelsSize, arraySize}
+use Rattle.awhile.specs.Tables.{Table, headerOf, headerSize, labelsSize, arraySize}
+use Rattle.awhile.specs.declared.Header.{Header}
 use Rattle.awhile.specs.declared.Labelling.{Labelling}
 use Rattle.awhile.specs.declared.Node.{Node}
 use Rattle.awhile.specs.declared.Node.the-variants.{Number, Variable, Add, Subtract, Multiply, Choice}
@@ -109,8 +109,8 @@ module _ {Note : Type 0} where
   numbered c = mapNotes numberOf (numberedFrom 0 c)
 
 -- ---- the bytes of a table: header, labels, arrays, nodes
-unfoldable pub headerBytes : (variables arrays nodes : ℕ) → List ℕ
-headerBytes v a n = le 2 headerSize ++ (le 2 1 ++ (le 2 1 ++ (le 1 v ++ (le 1 a ++ le 2 n))))
+unfoldable pub headerBytes : Header → List ℕ
+headerBytes h = le 2 headerSize ++ (le 2 1 ++ (le 2 1 ++ (le 1 (h .variables) ++ (le 1 (h .arrays) ++ le 2 (h .nodes)))))
 
 unfoldable pub labelsBytes : Labelling → List ℕ
 labelsBytes l = le 2 labelsSize ++ (le 2 3 ++ (le 4 (l .variables) ++ le 2 (l .arrays)))
@@ -120,5 +120,5 @@ countBytes n = le 2 arraySize ++ (le 2 2 ++ le 2 n)
 
 unfoldable pub tableBytes : Table → List ℕ
 tableBytes t =
-    headerBytes (t .variables) (length (t .counts)) (length (t .nodes))
+    headerBytes (headerOf t)
     ++ (labelsBytes (t .labels) ++ (flatMap countBytes (t .counts) ++ flatMap nodeBytes (t .nodes)))

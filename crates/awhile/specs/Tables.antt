@@ -10,6 +10,8 @@ use Rattle.bytes_le.specs.Numbers.{leAt}
 use Rattle.awhile.specs.Lists.{sum, occurrences}
 use Rattle.awhile.specs.Refusals.{Answer, refused, got, check, andThen}
 use Rattle.awhile.specs.Nodes.{sizeOf, sortOf, sameSort, decodeAt, inRange, sorted, childrenOf}
+use Rattle.awhile.specs.declared.Declarations.{Declarations}
+use Rattle.awhile.specs.declared.Header.{Header}
 use Rattle.awhile.specs.declared.Labelling.{Labelling}
 use Rattle.awhile.specs.declared.Sort.the-variants.{Command}
 use Rattle.awhile.specs.declared.Node.{Node}
@@ -31,20 +33,22 @@ maxNodes = 4096
 abbrev pub maxCells : ℕ
 maxCells = 16384
 
--- ---- what a table holds
-pub record Header : Type 0 where
-  pub variables : ℕ
-  pub arrays : ℕ
-  pub nodes : ℕ
-
--- variables declared, the labels record, the arrays' cell counts, the nodes by number
+-- ---- what a table holds: variables declared, the labels record, the arrays' cell counts, the nodes by number
 pub record Table : Type 0 where
   pub variables : ℕ
   pub labels : Labelling
   pub counts : List ℕ
   pub nodes : List Node
 
--- ---- where records stand: the header at 0, the labels at 10, the arrays from 20, then the nodes
+-- what its header says of it
+abbrev pub headerOf : Table → Header
+headerOf t = record { variables = t .variables; arrays = length (t .counts); nodes = length (t .nodes) }
+
+-- and all that it declares
+abbrev pub declarationsOf : Table → Declarations
+declarationsOf t = record { header = headerOf t; cells = sum (t .counts); labels = t .labels }
+
+-- ---- where records stand: the header at 0, then the labels, then the arrays, then the nodes
 abbrev pub headerSize : ℕ
 headerSize = 10
 
@@ -54,16 +58,28 @@ labelsSize = 10
 abbrev pub arraySize : ℕ
 arraySize = 6
 
-abbrev pub nodesStart : (arrays : ℕ) → ℕ
-nodesStart a = headerSize + labelsSize + arraySize * a
+abbrev pub labelsStart : ℕ
+labelsStart = headerSize
+
+-- the first array; every header of version 1 places it alike
+abbrev pub countsStart : Header → ℕ
+countsStart h = labelsStart + labelsSize
+
+-- an array by its number
+abbrev pub countStart : Header → (array : ℕ) → ℕ
+countStart h a = countsStart h + arraySize * a
+
+-- the first node, behind the last array
+abbrev pub nodesStart : Header → ℕ
+nodesStart h = countStart h (h .arrays)
 
 -- no table has more bytes: a node's record has at most 10
 abbrev pub longestTable : ℕ
-longestTable = nodesStart maxArrays + 10 * maxNodes
+longestTable = nodesStart (record { variables = maxVariables; arrays = maxArrays; nodes = maxNodes }) + 10 * maxNodes
 
 -- the byte offset of a node's record, and of the first byte after the last one
 unfoldable pub offsetOf : Table → (node : ℕ) → ℕ
-offsetOf t n = nodesStart (length (t .counts)) + sum (map sizeOf (take n (t .nodes)))
+offsetOf t n = nodesStart (headerOf t) + sum (map sizeOf (take n (t .nodes)))
 
 -- ---- one record
 -- 1 (head), 2, 1 (body): four bytes remain, the length is the one wanted at this point (0: the kind is not), and so many remain
@@ -86,11 +102,11 @@ readHeader s =
     (got (record { variables = leAt 1 s 6; arrays = leAt 1 s 7; nodes = leAt 2 s 8 })))
 
 -- kind 3: variable mask (4 bytes), array mask; "bits from V or A up are 0"
-unfoldable pub readLabels : List ℕ → Header → Answer Labelling
-readLabels s h =
-    framed s 10 (lengthOfKind 3 labelsSize s 10)
-    (check (ltb (leAt 4 s 14) (2 ^ h .variables) && ltb (leAt 2 s 18) (2 ^ h .arrays)) (BeyondLimit 10)
-    (got (record { variables = leAt 4 s 14; arrays = leAt 2 s 18 })))
+unfoldable pub readLabels : List ℕ → Header → (at : ℕ) → Answer Labelling
+readLabels s h at =
+    framed s at (lengthOfKind 3 labelsSize s at)
+    (check (ltb (leAt 4 s (at + 4)) (2 ^ h .variables) && ltb (leAt 2 s (at + 8)) (2 ^ h .arrays)) (BeyondLimit at)
+    (got (record { variables = leAt 4 s (at + 4); arrays = leAt 2 s (at + 8) })))
 
 -- kind 2: cell count, 1 or more; the counts so far, this one included, sum to at most 16,384
 unfoldable pub readCount : List ℕ → (at before : ℕ) → Answer ℕ
@@ -133,9 +149,9 @@ readNodes (suc left) h s at before =
 unfoldable pub readRecords : List ℕ → Answer Table
 readRecords s =
     andThen (readHeader s) (λ h.
-    andThen (readLabels s h) (λ l.
-    andThen (readCounts (h .arrays) s 20 []) (λ cs.
-    andThen (readNodes (h .nodes) h s (nodesStart (h .arrays)) []) (λ ns.
+    andThen (readLabels s h labelsStart) (λ l.
+    andThen (readCounts (h .arrays) s (countsStart h) []) (λ cs.
+    andThen (readNodes (h .nodes) h s (nodesStart h) []) (λ ns.
     got (record { variables = h .variables; labels = l; counts = cs; nodes = ns })))))
 
 -- ---- the nodes as one tree

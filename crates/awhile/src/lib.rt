@@ -100,6 +100,20 @@ pub struct Labelling {
     pub arrays: u16,
 }
 
+// What a table's header says: how many variables, arrays and nodes there are.
+pub struct Header {
+    pub variables: usize,
+    pub arrays: usize,
+    pub nodes: usize,
+}
+
+// All that a table declares: its header, how many cells its arrays have together, and its labels.
+pub struct Declarations {
+    pub header: Header,
+    pub cells: usize,
+    pub labels: Labelling,
+}
+
 // Why a call is refused, with the byte offset of the place where there is one.
 pub enum Refusal {
     // 1: the table ends inside a record

@@ -8,7 +8,7 @@ use lib.Dec.{leb, ltb}
 use borrow.Author.Tests.{ltb-true, leb-true, lt-ltb, le-leb}
 use Rattle.bytes_le.proofs.Numbers.{Below}
 use Rattle.awhile.specs.Refusals.{got, check, andThen}
-use Rattle.awhile.specs.Tables.{Table, accepted, readTable, maxVariables, nodesStart}
+use Rattle.awhile.specs.Tables.{Table, headerOf, accepted, readTable, maxVariables, nodesStart}
 use Rattle.awhile.specs.Encoding.{tableBytes}
 use Rattle.awhile.specs.declared.Refusal.the-variants.{TooManyNodes, NoFreeVariable}
 use Rattle.masks.specs.Hardening.{hardenedProgram, hardenedTable, maxHardened}
@@ -36,7 +36,7 @@ module _ (place : ℕ) (s : List ℕ) (t : Table) (reads : readTable s ≡ accep
 
 -- a buffer of this length has the room for the hardened form of any accepted table
 pub hardens-in-room : (place : ℕ) (s : List ℕ) (t : Table) → Below 256 s → readTable s ≡ accepted t → length (t .nodes) ≤ maxHardened → t .variables < maxVariables
-    → (buffer answer : List ℕ) → nodesStart (length (t .counts)) + 80 * length (t .nodes) ≤ length buffer
+    → (buffer answer : List ℕ) → nodesStart (headerOf t) + 80 * length (t .nodes) ≤ length buffer
     → hardenEntry place s buffer answer ≡ writtenAll (tableBytes (hardenedTable t)) buffer answer
 hardens-in-room place s t bytes reads small free buffer answer room =
     hardens place s t reads small free buffer answer (omega (arith, demands-met s t bytes reads small free .room))

@@ -7,10 +7,11 @@ use mathlib.Core.List.{List, [], _∷_}
 use lib.ListN.{length, replicate, length-replicate}
 use lib.Seq.{sets, sets-eq}
 use borrow.Author.Tests.{le-leb, lt-leb}
-use Rattle.reader.specs.Index.{Indexed, tableOf, nodesIn, Answers, isRejected, isNotATree, isAccepted, acceptedAs}
+use Rattle.reader.specs.Index.{Indexed, Ready, tableOf, nodesIn, Answers, isRejected, isNotATree, isAccepted, acceptedAs}
+use Rattle.reader.proofs.Answering.{accepting}
 use Rattle.awhile.specs.Refusals.{Answer, got, andThen, refusalNumber}
 use Rattle.awhile.specs.Tables.{Table, rejected, notATree, accepted, readTable}
-use Rattle.awhile.specs.declared.Labelling.{Labelling}
+use Rattle.awhile.specs.declared.Declarations.{Declarations}
 use Rattle.reader.specs.declared.Read.{Read}
 use Rattle.reader.specs.declared.Read.the-variants.{Refused, Accepted}
 use Rattle.awhile.specs.declared.Refusal.{Refusal}
@@ -100,26 +101,16 @@ module _ (asked : Table → Answer (List ℕ)) where
           answers = h .answers ∙ sym (ap (λ (w : Written). w .answer) e);
         }
 
--- what the reader says of an accepted table
-pub record Accepts (s index : List ℕ) (nodes : ℕ) (labels : Labelling) : Type 0 where
-  pub indexed : Indexed s index
-  pub isNodes : nodes ≡ nodesIn s
-  pub isLabels : labels ≡ tableOf s .labels
-
--- where the reader answers an accepted table, it is one
-pub reader-accepts : (s index : List ℕ) (found : Read) (v a n c : ℕ) (l : Labelling) (e : ℕ) → Answers s index found → found ≡ Accepted v a n c l e → Accepts s index n l
-unfolding acceptedAs nodesIn
-reader-accepts s index found v a n c l e (isRejected q r h) f = absurd (let z : _≡_ {A = ℕ} 0 1 = cc in omega arith)
-reader-accepts s index found v a n c l e (isNotATree t place r b h) f = absurd (let z : _≡_ {A = ℕ} 0 1 = cc in omega arith)
-reader-accepts s index found v a n c l e (isAccepted i h) f = record { indexed = i; isNodes = cc; isLabels = cc }
+-- where the reader answers an accepted table, it is ready
+pub reader-ready : {s index : List ℕ} {found : Read} {declared : Declarations} {end : ℕ} → Answers s index found → found ≡ Accepted declared end → Ready s index declared
+reader-ready answers is = accepting _ _ _ _ (rw is at answers)
 
 -- memory that was just made is ready for labelling
-pub label-ready : {table index : List ℕ} {nodes : ℕ} (room words : ℕ) → Indexed table index → nodes ≡ nodesIn table → nodesIn table ≤ room → 2 * nodesIn table ≤ words
-    → LabelReady table index (replicate room 0) (replicate words 0) nodes
-label-ready room words i e h k =
+pub label-ready : {table index : List ℕ} {declared : Declarations} (room words : ℕ) → Ready table index declared → nodesIn table ≤ room → 2 * nodesIn table ≤ words
+    → LabelReady table index (replicate room 0) (replicate words 0) declared
+label-ready room words ready h k =
     record {
-      indexed = i;
-      isNodes = e;
+      ready = ready;
       namedFit = rw (length-replicate {A = ℕ} room 0) h;
       notesFit = record { room = rw (length-replicate {A = ℕ} words 0) k };
       zeros = zero-at words;

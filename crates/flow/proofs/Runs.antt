@@ -12,12 +12,12 @@ use Rattle.bytes_le.proofs.Numbers.{Below}
 use Rattle.awhile.specs.Lists.{sum}
 use Rattle.awhile.specs.Refusals.{Answer, refused, got, check, andThen, refusalNumber}
 use Rattle.awhile.specs.Tables.{Table, readTable, rejected, notATree, accepted, BreaksRule}
-use Rattle.reader.specs.Index.{Indexed, tableOf, nodesIn, Answers}
+use Rattle.reader.specs.Index.{Indexed, Ready, tableOf, nodesIn, Answers}
 use Rattle.reader.proofs.Index.{indexed-well-formed, indexed-few}
-use Rattle.reader.proofs.Answering.{RefusedTable, byRecord, byOrder, accepting, refusing}
-use Rattle.awhile.specs.declared.Labelling.{Labelling}
+use Rattle.reader.proofs.Ready.{ready-header, ready-variables, ready-nodes, ready-cells}
+use Rattle.reader.proofs.Answering.{RefusedTable, byRecord, byOrder, refusing}
+use Rattle.awhile.specs.declared.Declarations.{Declarations}
 use Rattle.reader.specs.declared.Read.{Read}
-use Rattle.reader.specs.declared.Read.the-variants.{Accepted}
 use Rattle.reader.specs.declared.Read.the-variants.{Refused as RefusedRead}
 use Rattle.awhile.specs.declared.Refusal.{Refusal}
 use Rattle.awhile.specs.declared.Refusal.the-variants.{BadDirectives, WrongVariables, WrongCells, ShortPending}
@@ -34,19 +34,19 @@ use Rattle.entries.specs.Answers.{answered, refusalNumbers, tableIn}
 use Rattle.entries.specs.Running.{Lent, Ran, notRun, lentFor, ranAll, runIn, running, runEntry, guessWith, guessEntry}
 use Rattle.entries.specs.Promises.{Placed}
 use Rattle.entries.specs.Promises.{lentAt, runCall, guessCall, RunsAs}
-use Rattle.flow.specs.Runs.{reportNumbers, resultOf, numbersOf, RunReady, runnable, CameTo, not-run, has-run, DoneAs, ReadDone}
+use Rattle.flow.specs.Runs.{reportNumbers, resultOf, numbersOf, runnable, CameTo, not-run, has-run, DoneAs, ReadDone}
 use Rattle.flow.specs.declared.machines.Done.{Done}
 use Rattle.flow.specs.declared.machines.Done.the-variants.{Refused, Ended}
 
 -- ---- a table that was read
-module _ (table index list : List ℕ) (variables arrays nodes cells : ℕ) (ready : RunReady table index variables arrays nodes cells) where
+module _ (table index list : List ℕ) (declared : Declarations) (ready : Ready table index declared) where
   -- its numbers are small
-  pub ready-small : Below 256 table → (variables ≤ 32) × (cells ≤ 16384) × (nodes ≤ 4096)
+  pub ready-small : Below 256 table → (declared .header .variables ≤ 32) × (declared .cells ≤ 16384) × (declared .header .nodes ≤ 4096)
   ready-small bytes =
       let w = indexed-well-formed table index bytes (ready .indexed) in (
-        omega (arith, ready .isVariables, w .declared .variablesFit),
-        omega (arith, ready .isCells, w .declared .cellsFit),
-        omega (arith, ready .isNodes, indexed-few table index bytes (ready .indexed)),
+        omega (arith, ready-variables ready, w .declared .variablesFit),
+        omega (arith, ready-cells ready, w .declared .cellsFit),
+        omega (arith, ready-nodes ready, indexed-few table index bytes (ready .indexed)),
       )
 
   module _ (isGuessing : Bool) (budget : ℕ) (vs cs ps os : List ℕ) where
@@ -67,40 +67,39 @@ module _ (table index list : List ℕ) (variables arrays nodes cells : ℕ) (rea
         unfolding runnable check
         runnable-lent = rw (sym isReads ∙ good)
 
-        pub wrong-variables : (length vs ≡ 4 * variables → ⊥) → DoneAs table list isGuessing budget lent lent (Refused WrongVariables)
+        pub wrong-variables : (length vs ≡ 4 * declared .header .variables → ⊥) → DoneAs table list isGuessing budget lent lent (Refused WrongVariables)
         unfolding lentFor check
         wrong-variables wrong =
-            refused-done WrongVariables (runnable-lent ∙ rw (ne-eqb (length vs) (4 * tableOf table .variables) (λ e. wrong (e ∙ ap (λ n. 4 * n) (sym (ready .isVariables))))))
+            refused-done WrongVariables (runnable-lent ∙ rw (ne-eqb (length vs) (4 * tableOf table .variables) (λ e. wrong (e ∙ ap (λ n. 4 * n) (sym (ready-variables ready))))))
 
-        module _ (isVariables : length vs ≡ 4 * variables) where
+        module _ (isVariables : length vs ≡ 4 * declared .header .variables) where
           rightV : eqb (length vs) (4 * tableOf table .variables) ≡ true
-          rightV = eq-eqb (length vs) (4 * tableOf table .variables) (isVariables ∙ ap (λ n. 4 * n) (ready .isVariables))
+          rightV = eq-eqb (length vs) (4 * tableOf table .variables) (isVariables ∙ ap (λ n. 4 * n) (ready-variables ready))
 
-          pub wrong-cells : (length cs ≡ 4 * cells → ⊥) → DoneAs table list isGuessing budget lent lent (Refused WrongCells)
+          pub wrong-cells : (length cs ≡ 4 * declared .cells → ⊥) → DoneAs table list isGuessing budget lent lent (Refused WrongCells)
           unfolding lentFor check
           wrong-cells wrong =
-              refused-done WrongCells (runnable-lent ∙ rw (rightV, ne-eqb (length cs) (4 * sum (tableOf table .counts)) (λ e. wrong (e ∙ ap (λ n. 4 * n) (sym (ready .isCells))))))
+              refused-done WrongCells (runnable-lent ∙ rw (rightV, ne-eqb (length cs) (4 * sum (tableOf table .counts)) (λ e. wrong (e ∙ ap (λ n. 4 * n) (sym (ready-cells ready))))))
 
-          module _ (isCells : length cs ≡ 4 * cells) where
+          module _ (isCells : length cs ≡ 4 * declared .cells) where
             rightC : eqb (length cs) (4 * sum (tableOf table .counts)) ≡ true
-            rightC = eq-eqb (length cs) (4 * sum (tableOf table .counts)) (isCells ∙ ap (λ n. 4 * n) (ready .isCells))
+            rightC = eq-eqb (length cs) (4 * sum (tableOf table .counts)) (isCells ∙ ap (λ n. 4 * n) (ready-cells ready))
 
-            pub short-pending : length ps < 4 * nodes → DoneAs table list isGuessing budget lent lent (Refused ShortPending)
+            pub short-pending : length ps < 4 * declared .header .nodes → DoneAs table list isGuessing budget lent lent (Refused ShortPending)
             unfolding lentFor check nodesIn
             short-pending short =
-                refused-done ShortPending (runnable-lent ∙ rw (rightV, rightC, lt-leb (4 * length (tableOf table .nodes)) (length ps) (omega (arith, ready .isNodes))))
+                refused-done ShortPending (runnable-lent ∙ rw (rightV, rightC, lt-leb (4 * length (tableOf table .nodes)) (length ps) (omega (arith, ready-nodes ready))))
 
-            module _ (long : 4 * nodes ≤ length ps) where
+            module _ (long : 4 * declared .header .nodes ≤ length ps) where
               -- all is right for a run
-              pub run-asked : RunAsked table index list arrays nodes vs cs ps
+              pub run-asked : RunAsked table index list (declared .header) vs cs ps
               run-asked =
                   record {
                     indexed = ready .indexed;
-                    isArrays = ready .isArrays;
-                    isNodes = ready .isNodes;
+                    isHeader = ready-header ready .isHeader;
                     readable = record { within = omega arith; reads = sym isReads ∙ good };
-                    variablesLong = isVariables ∙ ap (λ n. 4 * n) (ready .isVariables);
-                    cellsLong = isCells ∙ ap (λ n. 4 * n) (ready .isCells);
+                    variablesLong = isVariables ∙ ap (λ n. 4 * n) (ready-variables ready);
+                    cellsLong = isCells ∙ ap (λ n. 4 * n) (ready-cells ready);
                     pendingLong = long;
                   }
 
@@ -109,32 +108,18 @@ module _ (table index list : List ℕ) (variables arrays nodes cells : ℕ) (rea
               unfolding runOf runIn variablesIn cellsIn
               same-run = refl
 
-              pub run-done : (vs′ cs′ ps′ os′ : List ℕ) (r : Report) → RunLeaves (runOf table list isGuessing budget vs cs os) nodes ps os vs′ cs′ ps′ os′ r
+              pub run-done : (vs′ cs′ ps′ os′ : List ℕ) (r : Report) → RunLeaves (runOf table list isGuessing budget vs cs os) (declared .header .nodes) ps os vs′ cs′ ps′ os′ r
                   → DoneAs table list isGuessing budget lent (lentAt vs′ cs′ ps′ os′) (Ended r)
               unfolding lentFor check nodesIn ranAll
               run-done vs′ cs′ ps′ os′ r left =
-                  let leaves = rw (same-run, ready .isNodes) at left in
+                  let leaves = rw (same-run, ready-nodes ready) at left in
                   record {
                     came =
                         has-run (tableOf table) r
-                        (runnable-lent ∙ rw (rightV, rightC, le-leb (4 * length (tableOf table .nodes)) (length ps) (omega (arith, ready .isNodes))))
+                        (runnable-lent ∙ rw (rightV, rightC, le-leb (4 * length (tableOf table .nodes)) (length ps) (omega (arith, ready-nodes ready))))
                         (λ i. record { variables = leaves .variables i; cells = leaves .cells i; pending = leaves .pending i; observations = leaves .observations i })
                         (leaves .report);
                   }
-
--- ---- a table that the reader accepts
-pub read-accepted : (table index : List ℕ) (found : Read) (vs arrs nodes cells : ℕ) (labels : Labelling) (end : ℕ) → Answers table index found → found ≡ Accepted vs arrs nodes cells labels end
-    → RunReady table index vs arrs nodes cells
-unfolding nodesIn
-read-accepted table index found vs arrs nodes cells labels end answers is =
-    let a = accepting table index vs arrs nodes cells labels end (rw is at answers) in
-    record {
-      indexed = a .indexed;
-      isVariables = sym (a .declares .isVariables);
-      isArrays = sym (a .declares .isArrays);
-      isNodes = sym (a .declares .isNodes);
-      isCells = sym (a .declares .isCells);
-    }
 
 -- ---- any table
 -- the place is free unless the table is refused by 6

@@ -3,11 +3,9 @@ use Prim.Native.Nat.{ℕ}
 use mathlib.Core.Bool.{Bool, cond}
 use mathlib.Core.List.{List, [], _∷_}
 use mathlib.Core.Path.{_≡_}
-use lib.ListN.{length}
-use Rattle.awhile.specs.Lists.{sum}
 use Rattle.awhile.specs.Refusals.{Answer, refused, got, check, andThen, refusalNumber}
 use Rattle.awhile.specs.Tables.{Table}
-use Rattle.reader.specs.Index.{Indexed, tableOf, nodesIn}
+use Rattle.reader.specs.Index.{tableOf}
 use Rattle.awhile.specs.declared.Refusal.{Refusal}
 use Rattle.awhile.specs.declared.Refusal.the-variants.{BadDirectives}
 use Rattle.machine.specs.Directives.{readDirectives}
@@ -34,14 +32,6 @@ resultOf (Ended r) = 0
 abbrev pub numbersOf : Done → List ℕ
 numbersOf (Refused r) = refusalNumbers r
 numbersOf (Ended r) = 0 ∷ reportNumbers r
-
--- a table that was read, with its index and its numbers
-pub record RunReady (table index : List ℕ) (variables arrays nodes cells : ℕ) : Type 0 where
-  pub indexed : Indexed table index
-  pub isVariables : variables ≡ tableOf table .variables
-  pub isArrays : arrays ≡ length (tableOf table .counts)
-  pub isNodes : nodes ≡ nodesIn table
-  pub isCells : cells ≡ sum (tableOf table .counts)
 
 -- 10, then 20 to 22: a directive list that reads, and slices of the right lengths. The plain machine has an empty list
 unfoldable pub runnable : (directives : List ℕ) → Lent → Table → Answer Table

@@ -8,8 +8,8 @@ use lib.Seq.{sets}
 use lib.Dec.{leb}
 use Rattle.bytes_le.specs.Numbers.{le}
 use Rattle.awhile.specs.Tables.{maxVariables}
-use Rattle.awhile.specs.declared.Labelling.{Labelling}
-use Rattle.reader.specs.Index.{Indexed, tableOf, nodesIn}
+use Rattle.awhile.specs.declared.Declarations.{Declarations}
+use Rattle.reader.specs.Index.{Ready, tableOf, nodesIn}
 use Rattle.analysis.specs.Conditions.{NoteRoom}
 use Rattle.masks.specs.Hardening.{maxHardened}
 use Rattle.entries.specs.Writing.{Written}
@@ -24,31 +24,20 @@ pub record Writes (w : Written) (result : ℕ) (buffer′ answer′ : List ℕ) 
   pub buffers : buffer′ ≡ w .buffer
   pub answers : answer′ ≡ w .answer
 
--- what writing the hardened form of a table that was read requires: its index and its numbers
-pub record HardenReady (table index : List ℕ) (variables arrays nodes : ℕ) (labels : Labelling) : Type 0 where
-  pub indexed : Indexed table index
-  pub isVariables : variables ≡ tableOf table .variables
-  pub isArrays : arrays ≡ length (tableOf table .counts)
-  pub isNodes : nodes ≡ nodesIn table
-  pub isLabels : labels ≡ tableOf table .labels
-
--- and neither of the causes for a refusal by 8 or 9
+-- a table that has a hardened form: neither of the causes for a refusal by 8 or 9
 pub record HasHardened (table : List ℕ) : Type 0 where
   pub few : nodesIn table ≤ maxHardened
   pub free : tableOf table .variables < maxVariables
 
--- what deciding on a table's program requires: its index and its numbers, no more nodes than are hardened, and room for a byte for each
-pub record DecideReady (table index : List ℕ) (nodes : ℕ) (labels : Labelling) (decisions : List ℕ) : Type 0 where
-  pub indexed : Indexed table index
-  pub isNodes : nodes ≡ nodesIn table
-  pub isLabels : labels ≡ tableOf table .labels
+-- what deciding on the program of a table that was read requires: no more nodes than are hardened, and room for a byte for each
+pub record DecideReady (table index : List ℕ) (declared : Declarations) (decisions : List ℕ) : Type 0 where
+  pub ready : Ready table index declared
   pub few : nodesIn table ≤ maxHardened
   pub room : nodesIn table ≤ length decisions
 
--- what labelling a table that was read requires: its index, and memory for its expressions' variables and for notes that are all zero
-pub record LabelReady (table index named notes : List ℕ) (nodes : ℕ) : Type 0 where
-  pub indexed : Indexed table index
-  pub isNodes : nodes ≡ nodesIn table
+-- what labelling a table that was read requires: memory for its expressions' variables and for notes that are all zero
+pub record LabelReady (table index named notes : List ℕ) (declared : Declarations) : Type 0 where
+  pub ready : Ready table index declared
   pub namedFit : nodesIn table ≤ length named
   pub notesFit : NoteRoom table notes
   pub zeros : (p : ℕ) → getD notes p 0 ≡ 0

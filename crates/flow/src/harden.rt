@@ -2,7 +2,7 @@
 use crate::answer::answer_refusal;
 use crate::answer::answer_two;
 use analysis::program::label_program;
-use awhile::Labelling;
+use awhile::Declarations;
 use awhile::MAX_NODES;
 use awhile::MAX_VARIABLES;
 use awhile::Refusal;
@@ -13,11 +13,11 @@ use reader::Read;
 use reader::tables::read;
 use variables::collecting::name_all;
 ghost use Rattle.awhile.specs.Encoding.{tableBytes};
-ghost use Rattle.reader.specs.Index.{tableOf};
+ghost use Rattle.reader.specs.Index.{tableOf, Ready};
 ghost use Rattle.awhile.specs.Refusals.{got};
 ghost use Rattle.masks.specs.Hardening.{hardenedTable};
 ghost use Rattle.masking.specs.Deciding.{Decides};
-ghost use Rattle.flow.specs.Writes.{HardenReady, HasHardened, DecideReady};
+ghost use Rattle.flow.specs.Writes.{HasHardened, DecideReady};
 ghost use Rattle.entries.specs.Promises.{Hardens};
 ghost use Rattle.flow.specs.Writes.{Writes};
 ghost use Rattle.entries.specs.Writing.{writing, hardenedIn};
@@ -29,16 +29,12 @@ const MAX_HARDENED: usize = 512;
 const NOTE_WORDS: usize = 1024;
 
 // Labels a table that was read, and decides what is masked in it. The notes of the analysis are needed only here.
-fn decide_program(
-    table: &[u8],
-    index: &[u16],
-    nodes: usize,
-    labels: Labelling,
-    decisions: &mut [u8],
-)
-    requires { ⌜ DecideReady (now table) (now index) nodes labels (now decisions) ⌝ }
+fn decide_program(table: &[u8], index: &[u16], declared: Declarations, decisions: &mut [u8])
+    requires { ⌜ DecideReady (now table) (now index) declared (now decisions) ⌝ }
     ensures { λ _. ⌜ Decides (now (table .entry)) (now (decisions .exit)) ⌝ }
 {
+    let nodes = declared.header.nodes;
+    let labels = declared.labels;
     let mut named = [0u64; MAX_HARDENED];
     let mut notes = [0u64; NOTE_WORDS];
     name_all(table, index, nodes, &mut named);
@@ -50,32 +46,19 @@ fn decide_program(
 fn write_masked(
     table: &[u8],
     index: &[u16],
-    variables: usize,
-    arrays: usize,
-    nodes: usize,
-    labels: Labelling,
+    declared: Declarations,
     out: &mut [u8],
     answer: &mut [u8],
 ) -> u64
-    requires { ⌜ HardenReady (now table) (now index) variables arrays nodes labels × HasHardened (now table) ⌝ }
+    requires { ⌜ Ready (now table) (now index) declared × HasHardened (now table) ⌝ }
     ensures { λ r. ⌜ Writes (writing (got (tableBytes (hardenedTable (tableOf (now (table .entry)))))) (now (out .entry)) (now (answer .entry)))
         r (now (out .exit)) (now (answer .exit)) ⌝ }
 {
     let mut decisions = [0u8; MAX_HARDENED];
-    decide_program(table, index, nodes, labels, &mut decisions);
-    let root = nodes - 1;
+    decide_program(table, index, declared, &mut decisions);
     let room = out.len();
-    if hardened_fits(table, index, &decisions, arrays, root, room) {
-        let size = write_hardened(
-            table,
-            index,
-            &decisions,
-            variables,
-            arrays,
-            labels,
-            root,
-            &mut *out,
-        );
+    if hardened_fits(table, index, &decisions, declared, room) {
+        let size = write_hardened(table, index, &decisions, declared, &mut *out);
         answer_two(&mut *answer, 0, size as u64);
         return 0;
     }
@@ -86,33 +69,22 @@ fn write_masked(
 fn answer_hardened(
     table: &[u8],
     index: &[u16],
-    variables: usize,
-    arrays: usize,
-    nodes: usize,
-    labels: Labelling,
+    declared: Declarations,
     out: &mut [u8],
     answer: &mut [u8],
 ) -> u64
-    requires { ⌜ HardenReady (now table) (now index) variables arrays nodes labels ⌝ }
+    requires { ⌜ Ready (now table) (now index) declared ⌝ }
     ensures { λ r. ⌜ Writes (writing (hardenedIn (tableOf (now (table .entry)))) (now (out .entry)) (now (answer .entry)))
         r (now (out .exit)) (now (answer .exit)) ⌝ }
 {
-    if MAX_HARDENED < nodes {
+    let header = declared.header;
+    if MAX_HARDENED < header.nodes {
         return answer_refusal(&mut *answer, Refusal::TooManyNodes);
     }
-    if MAX_VARIABLES <= variables {
+    if MAX_VARIABLES <= header.variables {
         return answer_refusal(&mut *answer, Refusal::NoFreeVariable);
     }
-    write_masked(
-        table,
-        index,
-        variables,
-        arrays,
-        nodes,
-        labels,
-        &mut *out,
-        &mut *answer,
-    )
+    write_masked(table, index, declared, &mut *out, &mut *answer)
 }
 
 // Writes the hardened form of a table into a lent buffer.
@@ -124,22 +96,8 @@ pub extern "C" fn flow_harden(table: &[u8], out: &mut [u8], answer: &mut [u8]) -
     let found = read(table, &mut index);
     match found {
         Read::Refused { refusal } => answer_refusal(&mut *answer, refusal),
-        Read::Accepted {
-            variables,
-            arrays,
-            nodes,
-            cells: _,
-            labels,
-            end: _,
-        } => answer_hardened(
-            table,
-            &index,
-            variables,
-            arrays,
-            nodes,
-            labels,
-            &mut *out,
-            &mut *answer,
-        ),
+        Read::Accepted { declared, end: _ } => {
+            answer_hardened(table, &index, declared, &mut *out, &mut *answer)
+        }
     }
 }

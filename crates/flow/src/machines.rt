@@ -1,6 +1,7 @@
 // Runs of a table, on the plain machine and on the guessing one.
 use crate::answer::answer_refusal;
 use crate::answer::answer_run;
+use awhile::Declarations;
 use awhile::MAX_NODES;
 use awhile::Refusal;
 use interpreter::directives::reads;
@@ -12,8 +13,9 @@ use reader::tables::read;
 ghost use mathlib.Core.Bool.{cond};
 ghost use mathlib.Core.Path.{_≡_};
 ghost use Rattle.machine.specs.Runs.{endNumber};
+ghost use Rattle.reader.specs.Index.{Ready};
 ghost use Rattle.entries.specs.Answers.{answered};
-ghost use Rattle.flow.specs.Runs.{resultOf, numbersOf, RunReady, DoneAs, ReadDone};
+ghost use Rattle.flow.specs.Runs.{resultOf, numbersOf, DoneAs, ReadDone};
 ghost use Rattle.entries.specs.Promises.{lentAt, RunsAs, runCall, guessCall};
 
 // What a call that runs came to.
@@ -69,10 +71,7 @@ fn answer_done(answer: &mut [u8], done: Done) -> u64
 fn run_read(
     table: &[u8],
     index: &[u16],
-    variable_count: usize,
-    arrays: usize,
-    nodes: usize,
-    cell_count: usize,
+    declared: Declarations,
     directives: &[u8],
     guessing: bool,
     variables: &mut [u8],
@@ -81,27 +80,28 @@ fn run_read(
     observations: &mut [u8],
     budget: u32,
 ) -> Done
-    requires { ⌜ RunReady (now table) (now index) «variable_count» arrays nodes «cell_count» ⌝ }
+    requires { ⌜ Ready (now table) (now index) declared ⌝ }
     ensures { λ r. ⌜ DoneAs (now (table .entry)) (now (directives .entry)) guessing budget
         (lentAt (now (variables .entry)) (now (cells .entry)) (now (pending .entry)) (now (observations .entry)))
         (lentAt (now (variables .exit)) (now (cells .exit)) (now (pending .exit)) (now (observations .exit))) r ⌝ }
 {
+    let header = declared.header;
     if !reads(directives) {
         return Done::Refused {
             refusal: Refusal::BadDirectives,
         };
     }
-    if variables.len() != 4 * variable_count {
+    if variables.len() != 4 * header.variables {
         return Done::Refused {
             refusal: Refusal::WrongVariables,
         };
     }
-    if cells.len() != 4 * cell_count {
+    if cells.len() != 4 * declared.cells {
         return Done::Refused {
             refusal: Refusal::WrongCells,
         };
     }
-    if pending.len() < 4 * nodes {
+    if pending.len() < 4 * header.nodes {
         return Done::Refused {
             refusal: Refusal::ShortPending,
         };
@@ -109,8 +109,7 @@ fn run_read(
     let report = run(
         table,
         index,
-        arrays,
-        nodes,
+        header,
         directives,
         guessing,
         &mut *variables,
@@ -141,20 +140,10 @@ fn read_and_run(
     let found = read(table, &mut index);
     match found {
         Read::Refused { refusal } => Done::Refused { refusal },
-        Read::Accepted {
-            variables: variable_count,
-            arrays,
-            nodes,
-            cells: cell_count,
-            labels: _,
-            end: _,
-        } => run_read(
+        Read::Accepted { declared, end: _ } => run_read(
             table,
             &index,
-            variable_count,
-            arrays,
-            nodes,
-            cell_count,
+            declared,
             directives,
             guessing,
             &mut *variables,

@@ -2,6 +2,7 @@
 use crate::answer::answer_refusal;
 use crate::answer::answer_two;
 use analysis::program::label_program;
+use awhile::Declarations;
 use awhile::Labelling;
 use awhile::MAX_NODES;
 use awhile::Refusal;
@@ -11,9 +12,8 @@ use sheets::sheet::sheet_fits;
 use sheets::sheet::write_sheet;
 use variables::collecting::name_all;
 ghost use Prim.Native.Nat.{_≤_};
-ghost use mathlib.Core.Path.{_≡_};
 ghost use Rattle.awhile.specs.Refusals.{got};
-ghost use Rattle.reader.specs.Index.{Indexed, tableOf, nodesIn};
+ghost use Rattle.reader.specs.Index.{tableOf, Ready};
 ghost use Rattle.labels.specs.Sheet.{sheetBytes};
 ghost use Rattle.entries.specs.Promises.{Sheets};
 ghost use Rattle.entries.specs.Writing.{writing};
@@ -26,20 +26,21 @@ const FEW_NOTES: usize = 1024;
 
 const MAX_NOTES: usize = 8192;
 
-// Labels a table that was read, in memory that is all zero, and writes its sheet, if there is room for it.
+// Labels a table that was read, from the labels given, in memory that is all zero, and writes its sheet, if there is room for it.
 fn sheet_in(
     table: &[u8],
     index: &[u16],
     named: &mut [u64],
     notes: &mut [u64],
-    nodes: usize,
+    declared: Declarations,
     labels: Labelling,
     sheet: &mut [u8],
     answer: &mut [u8],
 ) -> u64
-    requires { ⌜ LabelReady (now table) (now index) (now named) (now notes) nodes ⌝ }
+    requires { ⌜ LabelReady (now table) (now index) (now named) (now notes) declared ⌝ }
     ensures { λ r. ⌜ Writes (writing (got (sheetBytes (tableOf (now (table .entry))) labels)) (now (sheet .entry)) (now (answer .entry))) r (now (sheet .exit)) (now (answer .exit)) ⌝ }
 {
+    let nodes = declared.header.nodes;
     name_all(table, index, nodes, &mut *named);
     let masks = label_program(table, index, &*named, &mut *notes, nodes, labels);
     let room = sheet.len();
@@ -55,12 +56,12 @@ fn sheet_in(
 fn sheet_of_few(
     table: &[u8],
     index: &[u16],
-    nodes: usize,
+    declared: Declarations,
     labels: Labelling,
     sheet: &mut [u8],
     answer: &mut [u8],
 ) -> u64
-    requires { ⌜ Indexed (now table) (now index) × (nodes ≡ nodesIn (now table)) × (nodes ≤ 512) ⌝ }
+    requires { ⌜ Ready (now table) (now index) declared × (declared .header .nodes ≤ 512) ⌝ }
     ensures { λ r. ⌜ Writes (writing (got (sheetBytes (tableOf (now (table .entry))) labels)) (now (sheet .entry)) (now (answer .entry))) r (now (sheet .exit)) (now (answer .exit)) ⌝ }
 {
     let mut named = [0u64; FEW_NODES];
@@ -70,7 +71,7 @@ fn sheet_of_few(
         index,
         &mut named,
         &mut notes,
-        nodes,
+        declared,
         labels,
         &mut *sheet,
         &mut *answer,
@@ -81,12 +82,12 @@ fn sheet_of_few(
 fn sheet_of_many(
     table: &[u8],
     index: &[u16],
-    nodes: usize,
+    declared: Declarations,
     labels: Labelling,
     sheet: &mut [u8],
     answer: &mut [u8],
 ) -> u64
-    requires { ⌜ Indexed (now table) (now index) × (nodes ≡ nodesIn (now table)) ⌝ }
+    requires { ⌜ Ready (now table) (now index) declared ⌝ }
     ensures { λ r. ⌜ Writes (writing (got (sheetBytes (tableOf (now (table .entry))) labels)) (now (sheet .entry)) (now (answer .entry))) r (now (sheet .exit)) (now (answer .exit)) ⌝ }
 {
     let mut named = [0u64; MAX_NODES];
@@ -96,7 +97,7 @@ fn sheet_of_many(
         index,
         &mut named,
         &mut notes,
-        nodes,
+        declared,
         labels,
         &mut *sheet,
         &mut *answer,
@@ -107,18 +108,18 @@ fn sheet_of_many(
 fn answer_sheet(
     table: &[u8],
     index: &[u16],
-    nodes: usize,
+    declared: Declarations,
     labels: Labelling,
     sheet: &mut [u8],
     answer: &mut [u8],
 ) -> u64
-    requires { ⌜ Indexed (now table) (now index) × (nodes ≡ nodesIn (now table)) ⌝ }
+    requires { ⌜ Ready (now table) (now index) declared ⌝ }
     ensures { λ r. ⌜ Writes (writing (got (sheetBytes (tableOf (now (table .entry))) labels)) (now (sheet .entry)) (now (answer .entry))) r (now (sheet .exit)) (now (answer .exit)) ⌝ }
 {
-    if nodes <= FEW_NODES {
-        return sheet_of_few(table, index, nodes, labels, &mut *sheet, &mut *answer);
+    if declared.header.nodes <= FEW_NODES {
+        return sheet_of_few(table, index, declared, labels, &mut *sheet, &mut *answer);
     }
-    sheet_of_many(table, index, nodes, labels, &mut *sheet, &mut *answer)
+    sheet_of_many(table, index, declared, labels, &mut *sheet, &mut *answer)
 }
 
 // Writes the label sheet of a table into a lent buffer.
@@ -130,13 +131,9 @@ pub extern "C" fn flow_sheet(table: &[u8], sheet: &mut [u8], answer: &mut [u8]) 
     let found = read(table, &mut index);
     match found {
         Read::Refused { refusal } => answer_refusal(&mut *answer, refusal),
-        Read::Accepted {
-            variables: _,
-            arrays: _,
-            nodes,
-            cells: _,
-            labels,
-            end: _,
-        } => answer_sheet(table, &index, nodes, labels, &mut *sheet, &mut *answer),
+        Read::Accepted { declared, end: _ } => {
+            let labels = declared.labels;
+            answer_sheet(table, &index, declared, labels, &mut *sheet, &mut *answer)
+        }
     }
 }

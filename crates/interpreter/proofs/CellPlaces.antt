@@ -1,5 +1,5 @@
 -- The cell of an array and an index, from the list of where arrays begin.
-use Prim.Native.Nat.{ℕ, suc, _+_, _*_, _≤_, _<_}
+use Prim.Native.Nat.{ℕ, suc, _+_, _≤_, _<_}
 use native.Mathlib.Numerals.{add-one}
 use native.Mathlib.Nat.{eq-or-lt-of-le}
 use mathlib.Core.Logic.{⊎-elim}
@@ -11,15 +11,15 @@ use lib.ListN.{length, getD, set, take, List·getD-eq-default, length-set}
 use lib.Seq.{getD-set-same, getD-set-other}
 use lib.Dec.{eqb}
 use borrow.Author.Tests.{lt-ltb, le-ltb, eqb-true, eqb-false}
-use Rattle.bytes_le.specs.Numbers.{leAt}
 use Rattle.bytes_le.proofs.Numbers.{Below}
 use Rattle.awhile.specs.Lists.{sum}
-use Rattle.reader.specs.Index.{tableOf}
+use Rattle.awhile.specs.declared.Header.{Header}
+use Rattle.reader.specs.Index.{tableOf, HasHeader}
+use Rattle.reader.proofs.Ready.{header-arrays}
 use Rattle.awhile.proofs.Accepted.{accepted-well-formed}
 use Rattle.machine.specs.Steps.{inside, cellPlace}
-use Rattle.interpreter.specs.Fitting.{ArraysOf, Starts, cellOf}
+use Rattle.interpreter.specs.Fitting.{Starts, cellOf}
 use Rattle.interpreter.specs.declared.places.Cell.the-variants.{At, Missing}
-use Rattle.awhile.proofs.Counts.{count-at}
 use Rattle.interpreter.proofs.Counts.{starts-next, starts-within}
 
 module _ (counts starts : List ℕ) (at : Starts counts starts) where
@@ -49,23 +49,17 @@ module _ (counts starts : List ℕ) (at : Starts counts starts) where
         rw (le-ltb i (getD counts a 0) (omega arith))
 
 -- the cell counts that code reads from a table's records
-module _ (table : List ℕ) (arrays a : ℕ) (arraysOf : ArraysOf table arrays) where
-  pub declared-count : Below 256 table → (r : ℕ) → a < arrays → r ≡ leAt 2 table (24 + 6 * a) → r ≡ getD (tableOf table .counts) a 0
-  declared-count bytes r less is = is ∙ sym (count-at table bytes (tableOf table) (arraysOf .reads) a (omega (arith, arraysOf .many)))
-
-  pub undeclared-count : arrays ≤ a → 0 ≡ getD (tableOf table .counts) a 0
-  undeclared-count many = sym (List·getD-eq-default (tableOf table .counts) 0 (omega (arith, arraysOf .many)))
+module _ {table : List ℕ} {header : Header} (has : HasHeader table header) where
+  pub undeclared-count : (a : ℕ) → header .arrays ≤ a → 0 ≡ getD (tableOf table .counts) a 0
+  undeclared-count a many = sym (List·getD-eq-default (tableOf table .counts) 0 (omega (arith, header-arrays has)))
 
   pub counts-few : Below 256 table → length (tableOf table .counts) ≤ 16
-  counts-few bytes = accepted-well-formed table bytes (tableOf table) (arraysOf .reads) .declared .arraysFit
-
-  pub arrays-few : Below 256 table → arrays ≤ 16
-  arrays-few bytes = omega (arith, arraysOf .many, counts-few bytes)
+  counts-few bytes = accepted-well-formed table bytes (tableOf table) (has .reads) .declared .arraysFit
 
   -- the sum of the first counts is at most what a table can have
-  pub starts-small : Below 256 table → sum (take a (tableOf table .counts)) ≤ 16384
-  starts-small bytes =
-      let fits = accepted-well-formed table bytes (tableOf table) (arraysOf .reads) .declared .cellsFit in
+  pub starts-small : Below 256 table → (a : ℕ) → sum (take a (tableOf table .counts)) ≤ 16384
+  starts-small bytes a =
+      let fits = accepted-well-formed table bytes (tableOf table) (has .reads) .declared .cellsFit in
       omega (arith, starts-within (tableOf table .counts) a)
 
 -- the list so far: where the arrays up to one begin

@@ -10,12 +10,14 @@ use Rattle.bytes_le.specs.Numbers.{le, leAt, words}
 use Rattle.bytes_le.proofs.Numbers.{Below, length-le}
 use Rattle.bytes_le.proofs.Words.{words-fromWords}
 use Rattle.awhile.specs.Lists.{sum}
-use Rattle.reader.specs.Index.{tableOf, nodesIn}
+use Rattle.awhile.specs.declared.Header.{Header}
+use Rattle.reader.specs.Index.{tableOf, nodesIn, HasHeader}
+use Rattle.reader.proofs.Ready.{header-nodes}
 use Rattle.reader.proofs.Index.{indexed-few, indexed-some, indexed-root-sort, indexed-note}
 use Rattle.machine.specs.Observations.{shownBytes}
 use Rattle.interpreter.specs.Evaluation.{variablesIn}
 use Rattle.interpreter.specs.Actions.{CommandAt}
-use Rattle.interpreter.specs.Fitting.{ArraysOf, Starts}
+use Rattle.interpreter.specs.Fitting.{Starts}
 use Rattle.interpreter.specs.Stepping.{startState, cellsIn, machineOf}
 use Rattle.interpreter.specs.Running.{runOf, Begun, StoppedAs, nextWord, reported, reportOf, RunAsked, RunLeaves}
 use Rattle.interpreter.specs.declared.run.Stopped.{Stopped}
@@ -24,11 +26,14 @@ use Rattle.interpreter.proofs.Words.{leAt-stored}
 use Rattle.interpreter.proofs.Underway.{drop-sets}
 use Rattle.interpreter.proofs.Leavings.{Noted, pending-left, next-noted}
 
-module _ (table index list : List ℕ) (arrays nodes : ℕ) (bytes : Below 256 table) (vs cs ps₀ : List ℕ)
-    (asked : RunAsked table index list arrays nodes vs cs ps₀) where
-  -- the table's arrays
-  pub asked-arrays : ArraysOf table arrays
-  asked-arrays = record { reads = asked .indexed .reads; many = asked .isArrays }
+module _ (table index list : List ℕ) (header : Header) (bytes : Below 256 table) (vs cs ps₀ : List ℕ)
+    (asked : RunAsked table index list header vs cs ps₀) where
+  -- the table's header
+  pub asked-header : HasHeader table header
+  asked-header = record { reads = asked .indexed .reads; isHeader = asked .isHeader }
+
+  same-nodes : header .nodes ≡ nodesIn table
+  same-nodes = header-nodes asked-header
 
   some-nodes : 0 < nodesIn table
   some-nodes = indexed-some table index bytes (asked .indexed)
@@ -37,23 +42,23 @@ module _ (table index list : List ℕ) (arrays nodes : ℕ) (bytes : Below 256 t
   few-nodes = indexed-few table index bytes (asked .indexed)
 
   -- the root's number, as a word
-  pub root-below : (0 < nodes) × (nodes - 1 < 2 ^ 32) × (4 ≤ length ps₀)
+  pub root-below : (0 < header .nodes) × (header .nodes - 1 < 2 ^ 32) × (4 ≤ length ps₀)
   root-below =
       let positive = some-nodes in
       let few = few-nodes in
-      let same = asked .isNodes in
+      let same = same-nodes in
       let long = asked .pendingLong in
       (omega arith, omega arith, omega arith)
 
-  module _ (ps : List ℕ) (root : ps ≡ sets ps₀ 0 (le 4 (nodes - 1))) where
+  module _ (ps : List ℕ) (root : ps ≡ sets ps₀ 0 (le 4 (header .nodes - 1))) where
     root-there : leAt 4 ps 0 ≡ nodesIn table - 1
-    root-there = rw (root, leAt-stored 4 (nodes - 1) ps₀ 0 (root-below .1) (root-below .2), asked .isNodes)
+    root-there = rw (root, leAt-stored 4 (header .nodes - 1) ps₀ 0 (root-below .1) (root-below .2), same-nodes)
 
     root-command : CommandAt table (nodesIn table - 1)
     root-command = record { inside = omega (arith, some-nodes); isCommand = indexed-root-sort table index bytes (asked .indexed) }
 
     pending-same : length ps ≡ length ps₀
-    pending-same = rw root (length-sets ps₀ 0 (le 4 (nodes - 1)))
+    pending-same = rw root (length-sets ps₀ 0 (le 4 (header .nodes - 1)))
 
     -- all is ready for the first step
     pub run-begins : (starts : List ℕ) → Starts (tableOf table .counts) starts → length starts ≡ 17 → (budget room : ℕ) → Begun table index starts list budget room vs cs ps
@@ -67,7 +72,7 @@ module _ (table index list : List ℕ) (arrays nodes : ℕ) (bytes : Below 256 t
                 startsLong = long;
                 variablesLong = asked .variablesLong;
                 cellsLong = asked .cellsLong;
-                pendingLong = omega (arith, pending-same, asked .isNodes, asked .pendingLong);
+                pendingLong = omega (arith, pending-same, same-nodes, asked .pendingLong);
                 readable = asked .readable;
                 entries = only;
                 few = some-nodes;
@@ -84,18 +89,18 @@ module _ (table index list : List ℕ) (arrays nodes : ℕ) (bytes : Below 256 t
     module _ (guessing : Bool) (budget : ℕ) (os vs′ cs′ ps′ os′ : List ℕ) (s : Stopped) (stopped : StoppedAs table list guessing budget vs cs ps os vs′ cs′ ps′ os′ s)
         (sameV : length vs′ ≡ length vs) (sameC : length cs′ ≡ length cs) (sameP : length ps′ ≡ length ps) where
       -- what is pending fits the slice
-      pub pending-within : (s .state .pending ≤ nodes) × (4 * nodes ≤ length ps′)
-      pending-within = (omega (arith, stopped .few, asked .isNodes), omega (arith, sameP, pending-same, asked .pendingLong))
+      pub pending-within : (s .state .pending ≤ header .nodes) × (4 * header .nodes ≤ length ps′)
+      pending-within = (omega (arith, stopped .few, same-nodes), omega (arith, sameP, pending-same, asked .pendingLong))
 
-      beyond : drop (4 * nodesIn table) ps′ ≡ drop (4 * nodesIn table) ps → drop (4 * nodes) ps′ ≡ drop (4 * nodes) ps₀
+      beyond : drop (4 * nodesIn table) ps′ ≡ drop (4 * nodesIn table) ps → drop (4 * header .nodes) ps′ ≡ drop (4 * header .nodes) ps₀
       beyond e =
-          rw (asked .isNodes)
-          (e ∙ rw root (drop-sets (le 4 (nodes - 1)) ps₀ 0 (4 * nodesIn table) (rw length-le (omega (arith, some-nodes)))))
+          rw (same-nodes)
+          (e ∙ rw root (drop-sets (le 4 (header .nodes - 1)) ps₀ 0 (4 * nodesIn table) (rw length-le (omega (arith, some-nodes)))))
 
       -- what a run leaves
-      pub run-leaves : Below 256 vs′ → Below 256 cs′ → Below 256 ps′ → (cleared : List ℕ) → cleared ≡ sets ps′ (4 * s .state .pending) (words (replicate (nodes - s .state .pending) 0))
+      pub run-leaves : Below 256 vs′ → Below 256 cs′ → Below 256 ps′ → (cleared : List ℕ) → cleared ≡ sets ps′ (4 * s .state .pending) (words (replicate (header .nodes - s .state .pending) 0))
           → (n : ℕ) → n ≡ nextWord ps′ (s .state .pending) → (r : Report) → r ≡ reported s n
-          → RunLeaves (runOf table list guessing budget vs cs os) nodes ps₀ os vs′ cs′ cleared os′ r
+          → RunLeaves (runOf table list guessing budget vs cs os) (header .nodes) ps₀ os vs′ cs′ cleared os′ r
       unfolding machineOf variablesIn cellsIn reported reportOf
       run-leaves bytesV bytesC bytesP cleared isCleared n isNext r isReport =
           let noted : Noted table ps′ (s .state .pending) = λ j less. indexed-note table index bytes (asked .indexed) (leAt 4 ps′ (4 * j)) (stopped .entries j less .inside) (stopped .entries j less .isCommand) in
@@ -107,7 +112,7 @@ module _ (table index list : List ℕ) (arrays nodes : ℕ) (bytes : Below 256 t
             cells = sym (words-fromWords (sum (tableOf table .counts)) cs′ (sameC ∙ asked .cellsLong) bytesC);
             pending =
                 isCleared
-                ∙ pending-left table ps′ ps₀ (s .state .pending) nodes bytesP (pending-within .0) (pending-within .1) noted (beyond (stopped .beyond));
+                ∙ pending-left table ps′ ps₀ (s .state .pending) (header .nodes) bytesP (pending-within .0) (pending-within .1) noted (beyond (stopped .beyond));
             observations = stopped .observations;
             report =
                 isReport

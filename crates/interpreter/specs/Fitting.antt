@@ -6,8 +6,6 @@ use mathlib.Core.List.{List}
 use lib.ListN.{length, getD, take}
 use Rattle.bytes_le.specs.Numbers.{leAt}
 use Rattle.awhile.specs.Lists.{sum}
-use Rattle.awhile.specs.Tables.{accepted, readTable}
-use Rattle.reader.specs.Index.{tableOf}
 use Rattle.machine.specs.Steps.{inside, cellPlace}
 use Rattle.machine.specs.declared.Directive.{Directive}
 use Rattle.machine.specs.declared.Directive.the-variants.{Step, Force, Load, Store}
@@ -22,11 +20,6 @@ use Rattle.interpreter.specs.declared.fit.Target.{Target}
 use Rattle.interpreter.specs.declared.fit.Target.the-variants.{Own, Named, Neither}
 use Rattle.interpreter.specs.declared.fit.Fit.{Fit}
 use Rattle.interpreter.specs.declared.fit.Fit.the-variants.{Goes, Unfit}
-
--- an accepted table with so many arrays
-pub record ArraysOf (table : List ℕ) (arrays : ℕ) : Type 0 where
-  pub reads : readTable table ≡ accepted (tableOf table)
-  pub many : arrays ≡ length (tableOf table .counts)
 
 -- a list that says where each array's cells begin: entry a for array a, up to the end of the sixteenth array there could be
 pub record Starts (counts starts : List ℕ) : Type 0 where

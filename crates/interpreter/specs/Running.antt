@@ -7,7 +7,9 @@ use lib.ListN.{length, drop}
 use lib.Dec.{eqb}
 use Rattle.bytes_le.specs.Numbers.{leAt, words}
 use Rattle.awhile.specs.Lists.{sum}
+use Rattle.awhile.specs.Tables.{headerOf}
 use Rattle.awhile.specs.Trees.{rootOf}
+use Rattle.awhile.specs.declared.Header.{Header}
 use Rattle.reader.specs.Index.{Indexed, tableOf, nodesIn}
 use Rattle.machine.specs.Observations.{Observation, shownBytes}
 use Rattle.machine.specs.Runs.{Outcome, bytes, run, started}
@@ -60,14 +62,13 @@ reportOf o =
     }
 
 -- what a run is asked: a table that was read, a directive list that reads, and slices of the right lengths
-pub record RunAsked (table index list : List ℕ) (arrays nodes : ℕ) (variables cells pending : List ℕ) : Type 0 where
+pub record RunAsked (table index list : List ℕ) (header : Header) (variables cells pending : List ℕ) : Type 0 where
   pub indexed : Indexed table index
-  pub isArrays : arrays ≡ length (tableOf table .counts)
-  pub isNodes : nodes ≡ nodesIn table
+  pub isHeader : headerOf (tableOf table) ≡ header
   pub readable : Readable list 0
   pub variablesLong : length variables ≡ 4 * tableOf table .variables
   pub cellsLong : length cells ≡ 4 * sum (tableOf table .counts)
-  pub pendingLong : 4 * nodes ≤ length pending
+  pub pendingLong : 4 * header .nodes ≤ length pending
 
 -- what a run leaves in the lent slices, and its report
 pub record RunLeaves (o : Outcome ℕ) (nodes : ℕ) (ps os vs′ cs′ ps′ os′ : List ℕ) (r : Report) : Type 0 where

@@ -1,11 +1,13 @@
 // Where the cells of each array stand: "cells (array after array by number)".
+use awhile::Header;
 use bytes_le::get::u16_at;
+use reader::layout::count_start;
 ghost use Prim.Native.Nat.{ℕ, _+_};
 ghost use mathlib.Core.Path.{_≡_};
 ghost use mathlib.Core.List.{List};
 ghost use lib.ListN.{length, getD};
-ghost use Rattle.reader.specs.Index.{tableOf};
-ghost use Rattle.interpreter.specs.Fitting.{Starts, ArraysOf, cellOf};
+ghost use Rattle.reader.specs.Index.{tableOf, HasHeader};
+ghost use Rattle.interpreter.specs.Fitting.{Starts, cellOf};
 
 // A cell's place among all cells, if it exists.
 pub enum Cell {
@@ -14,27 +16,27 @@ pub enum Cell {
 }
 
 // The cell count of an array; an array that is not declared has no cells.
-fn count_of(table: &[u8], arrays: usize, a: usize) -> usize
-    requires { ⌜ ArraysOf (now table) arrays ⌝ }
+fn count_of(table: &[u8], header: Header, a: usize) -> usize
+    requires { ⌜ HasHeader (now table) header ⌝ }
     ensures { λ r. ⌜ r ≡ getD (tableOf (now (table .entry)) .counts) a 0 ⌝ }
 {
-    if a < arrays {
-        u16_at(table, 24 + 6 * a)
+    if a < header.arrays {
+        u16_at(table, count_start(header, a) + 4)
     } else {
         0
     }
 }
 
 // Notes where the cells of each array begin, and behind the last one where they end.
-pub fn find_starts(table: &[u8], arrays: usize, starts: &mut [u16])
-    requires { ⌜ ArraysOf (now table) arrays × (length (now starts) ≡ 17) ⌝ }
+pub fn find_starts(table: &[u8], header: Header, starts: &mut [u16])
+    requires { ⌜ HasHeader (now table) header × (length (now starts) ≡ 17) ⌝ }
     ensures { λ _. ⌜ Starts (tableOf (now (table .entry)) .counts) (now (starts .exit)) ⌝ }
 {
     let mut sum: usize = 0;
     let mut a: usize = 0;
     starts[0] = 0;
     while a < 16 {
-        sum += count_of(table, arrays, a);
+        sum += count_of(table, header, a);
         a += 1;
         starts[a] = sum as u16;
     }

@@ -11,6 +11,7 @@ use crate::places::find_starts;
 use crate::state::MachineState;
 use crate::step::Next;
 use crate::step::next_step;
+use awhile::Header;
 use bytes_le::get::u32_at;
 use bytes_le::put::put32;
 use machine::End;
@@ -128,8 +129,7 @@ fn numbers_of(stopped: Stopped, next: u32) -> Report
 pub fn run(
     table: &[u8],
     index: &[u16],
-    arrays: usize,
-    nodes: usize,
+    header: Header,
     directives: &[u8],
     guessing: bool,
     variables: &mut [u8],
@@ -138,13 +138,14 @@ pub fn run(
     observations: &mut [u8],
     budget: u32,
 ) -> Report
-    requires { ⌜ RunAsked (now table) (now index) (now directives) arrays nodes (now variables) (now cells) (now pending) ⌝ }
+    requires { ⌜ RunAsked (now table) (now index) (now directives) header (now variables) (now cells) (now pending) ⌝ }
     ensures { λ r. ⌜ RunLeaves (runOf (now (table .entry)) (now (directives .entry)) guessing budget (now (variables .entry)) (now (cells .entry)) (now (observations .entry)))
-        nodes (now (pending .entry)) (now (observations .entry))
+        (header .nodes) (now (pending .entry)) (now (observations .entry))
         (now (variables .exit)) (now (cells .exit)) (now (pending .exit)) (now (observations .exit)) r ⌝ }
 {
     let mut starts = [0u16; 17];
-    find_starts(table, arrays, &mut starts);
+    let nodes = header.nodes;
+    find_starts(table, header, &mut starts);
     put32(&mut *pending, 0, (nodes - 1) as u32);
     let stopped = go_on(
         table,

@@ -9,7 +9,7 @@ use lib.Seq.{take-length}
 use Rattle.awhile.specs.Language.{Com}
 use Rattle.awhile.specs.Lists.{sum}
 use Rattle.awhile.specs.Nodes.{sizeOf}
-use Rattle.awhile.specs.Tables.{Table, maxVariables, maxNodes, nodesStart, offsetOf}
+use Rattle.awhile.specs.Tables.{Table, headerOf, maxVariables, maxNodes, nodesStart, offsetOf}
 use Rattle.awhile.specs.Trees.{rootOf}
 use Rattle.awhile.specs.Encoding.{nodesOf, tableBytes}
 use Rattle.awhile.specs.WellFormed.{Declared, WellFormed, Within}
@@ -42,7 +42,7 @@ declared-more v l counts free d =
 
 -- ---- bytes
 -- a table of so many nodes has at most so many bytes
-pub table-size : (t : Table) → length (tableBytes t) ≤ nodesStart (length (t .counts)) + 10 * length (t .nodes)
+pub table-size : (t : Table) → length (tableBytes t) ≤ nodesStart (headerOf t) + 10 * length (t .nodes)
 unfolding offsetOf
 table-size t =
     let all : take (length (t .nodes)) (t .nodes) ≡ t .nodes = take-length (t .nodes) in

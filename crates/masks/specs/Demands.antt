@@ -4,7 +4,7 @@ use mathlib.Core.List.{List, [], _∷_, _++_}
 use mathlib.Core.Path.{_≡_}
 use lib.ListN.{length}
 use Rattle.awhile.specs.Language.{Com}
-use Rattle.awhile.specs.Tables.{Table, nodesStart}
+use Rattle.awhile.specs.Tables.{Table, headerOf, nodesStart}
 use Rattle.awhile.specs.Trees.{rootOf}
 use Rattle.masks.specs.Hardening.{Origin}
 use Rattle.masks.specs.ReadBack.{originIn, ReadsBack}
@@ -18,7 +18,7 @@ pub record Demands (original : Table) (program : Com Origin) (out : List ℕ) : 
   -- "At most 8 nodes come out per node put in."
   pub eightfold : length (hardened .nodes) ≤ 8 * length (original .nodes)
   -- A node's record has at most 10 bytes, so a buffer of this length has room.
-  pub room : length out ≤ nodesStart (length (original .counts)) + 80 * length (original .nodes)
+  pub room : length out ≤ nodesStart (headerOf original) + 80 * length (original .nodes)
   -- Without guessing, from every state with f = 0, the hardened table's program runs as the original's does.
   pub sameRun :
       (vs cells : List ℕ) → length vs ≡ original .variables

@@ -10,7 +10,7 @@ use borrow.Author.Tests.{ltb-true, ltb-false, eq-eqb, ne-eqb}
 use Rattle.bytes_le.specs.Numbers.{leAt}
 use Rattle.awhile.specs.Lists.{sum}
 use Rattle.awhile.specs.Refusals.{Answer, refused, got, check}
-use Rattle.awhile.specs.Tables.{Header, maxVariables, maxArrays, maxNodes, maxCells, headerSize, labelsSize, arraySize}
+use Rattle.awhile.specs.Tables.{maxVariables, maxArrays, maxNodes, maxCells, headerSize, labelsSize, arraySize, countsStart}
 use Rattle.awhile.specs.Tables.{framed, lengthOfKind, readHeader, readLabels, readCount, readCounts}
 use Rattle.reader.specs.Reader.{checkedAs, headerAs, labelsAs, countAs}
 use Rattle.reader.specs.Walk.{CountsLeft}
@@ -22,6 +22,7 @@ use Rattle.reader.specs.declared.checks.Checked.the-variants.{Refused, P
 use Rattle.reader.specs.declared.declarations.HeaderRead.the-variants.{Refused as HeaderRefused}
 use Rattle.reader.specs.declared.declarations.LabelsRead.the-variants.{Refused as LabelsRefused}
 use Rattle.reader.specs.declared.declarations.CountRead.the-variants.{Refused as CountRefused, Count}
+use Rattle.awhile.specs.declared.Header.{Header}
 use Rattle.awhile.specs.declared.Refusal.{Refusal}
 use Rattle.awhile.specs.declared.Refusal.the-variants.{BeyondLimit}
 
@@ -61,18 +62,18 @@ module _ (s : List ℕ) where
     unfolding readHeader
     header-tested version vs arrs nodes b whole p q r t e = sym (ap headerAs (framed-passed-on _ _ _ _ (rw here at whole) ∙ rw (e, p, q, r, t, here)))
 
-  -- ---- the labels, which stand after it
-  module _ (at : ℕ) (here : at ≡ 10) (h : Header) where
-    pub labels-refused : (r : Refusal) → checkedAs (framed s at (lengthOfKind 3 labelsSize s at) (got tt)) ≡ Refused r → LabelsRefused r ≡ labelsAs (readLabels s h)
+  -- ---- the labels
+  module _ (h : Header) (at : ℕ) where
+    pub labels-refused : (r : Refusal) → checkedAs (framed s at (lengthOfKind 3 labelsSize s at) (got tt)) ≡ Refused r → LabelsRefused r ≡ labelsAs (readLabels s h at)
     unfolding readLabels labelsAs
-    labels-refused r e = sym (ap labelsAs (framed-refused _ _ _ _ _ (rw here at e)))
+    labels-refused r e = sym (ap labelsAs (framed-refused _ _ _ _ _ e))
 
     -- a whole labels record is accepted where its masks fit
     pub labels-tested : (vs arrs : ℕ) (a b : Bool) → checkedAs (framed s at (lengthOfKind 3 labelsSize s at) (got tt)) ≡ Passed
         → vs ≡ leAt 4 s (at + 4) → arrs ≡ leAt 2 s (at + 8) → a ≡ ltb vs (2 ^ h .variables) → b ≡ ltb arrs (2 ^ h .arrays)
-        → labelsAs (check (a && b) (BeyondLimit at) (got (record { variables = vs; arrays = arrs }))) ≡ labelsAs (readLabels s h)
+        → labelsAs (check (a && b) (BeyondLimit at) (got (record { variables = vs; arrays = arrs }))) ≡ labelsAs (readLabels s h at)
     unfolding readLabels
-    labels-tested vs arrs a b whole v w p q = sym (ap labelsAs (framed-passed-on _ _ _ _ (rw here at whole) ∙ rw (p, q, v, w, here)))
+    labels-tested vs arrs a b whole v w p q = sym (ap labelsAs (framed-passed-on _ _ _ _ whole ∙ rw (p, q, v, w)))
 
   -- ---- the arrays
   module _ (at before : ℕ) where
@@ -88,16 +89,16 @@ module _ (s : List ℕ) where
 
   -- ---- all arrays
   -- before the first array nothing is read
-  pub counts-start : (arrays : ℕ) → CountsLeft s arrays arrays 20 0
+  pub counts-start : (header : Header) → CountsLeft s header (header .arrays) (countsStart header) 0
   unfolding sum
-  counts-start arrays = record { before = []; summed = refl; same = refl; place = refl; few = omega arith }
+  counts-start header = record { before = []; summed = refl; same = refl; place = refl; few = omega arith }
 
-  module _ (arrays left at cells : ℕ) (h : CountsLeft s arrays left at cells) where
+  module _ (header : Header) (left at cells : ℕ) (h : CountsLeft s header left at cells) where
     counted : (a : Answer ℕ) → readCount s at cells ≡ a → readCount s at (sum (h .before)) ≡ a
     counted a e = rw (h .summed) e
 
     -- a count that was read is added
-    pub counts-more : 0 < left → (n : ℕ) → countAs (readCount s at cells) ≡ Count n → CountsLeft s arrays (left - 1) (at + arraySize) (cells + n)
+    pub counts-more : 0 < left → (n : ℕ) → countAs (readCount s at cells) ≡ Count n → CountsLeft s header (left - 1) (at + arraySize) (cells + n)
     unfolding sum
     counts-more some n e =
         let read = count-got (readCount s at cells) n e in
@@ -111,12 +112,12 @@ module _ (s : List ℕ) where
         }
 
     -- a refused count refuses them all
-    pub counts-stop : 0 < left → (r : Refusal) → countAs (readCount s at cells) ≡ CountRefused r → readCounts arrays s 20 [] ≡ refused r
+    pub counts-stop : 0 < left → (r : Refusal) → countAs (readCount s at cells) ≡ CountRefused r → readCounts (header .arrays) s (countsStart header) [] ≡ refused r
     counts-stop some r e =
         let next : left ≡ suc (left - 1) = omega arith in
         h .same ∙ ap (λ k. readCounts k s at (h .before)) next ∙ counts-refused _ _ _ _ _ (counted (refused r) (count-not-got (readCount s at cells) r e))
 
     -- with none left all were read
-    pub counts-done : left ≡ 0 → readCounts arrays s 20 [] ≡ got (h .before)
+    pub counts-done : left ≡ 0 → readCounts (header .arrays) s (countsStart header) [] ≡ got (h .before)
     unfolding readCounts
     counts-done none = h .same ∙ ap (λ k. readCounts k s at (h .before)) none

@@ -1,5 +1,6 @@
 -- Laws for reading a table record by record.
 pub mod Index
+pub mod Ready
 pub mod NodeKinds
 pub mod Passing
 pub mod Declaring

@@ -8,11 +8,11 @@ use lib.ListN.{length}
 use types.Run.{OneOf}
 use denote.Enum.Declared.{tagOf}
 use Rattle.awhile.specs.Refusals.{got}
-use Rattle.awhile.specs.Tables.{maxArrays, maxNodes, nodesStart, readHeader, readLabels, readCount}
+use Rattle.awhile.specs.Tables.{maxArrays, maxNodes, labelsStart, nodesStart, readHeader, readLabels, readCount}
 use Rattle.awhile.proofs.Accepted.{HeaderFits, header-fits}
 use Rattle.reader.specs.Reader.{headerAs, labelsAs, countAs}
 use Rattle.reader.specs.Index.{Answers, Finishes}
-use Rattle.reader.specs.Walk.{headerOf, begun, doneWith, headerDue, labelsDue, countDue, nodeDue, CountsLeft, NodesLeft, Long, Fresh, Declared, Counted, Walking, atHeader, atLabels, atArray, atNode, atEnd}
+use Rattle.reader.specs.Walk.{begun, doneWith, headerDue, labelsDue, countDue, nodeDue, CountsLeft, NodesLeft, Long, Fresh, Declared, Counted, Walking, atHeader, atLabels, atArray, atNode, atEnd}
 use Rattle.reader.specs.Walk.{Turned, Ends, BodyDue, NodeReady, NodeTurned, nodeRefused, nodeRead}
 use Rattle.reader.proofs.Declaring.{counts-start, counts-more, counts-stop, counts-done}
 use Rattle.reader.proofs.Walking.{nodes-start, offset-small}
@@ -44,10 +44,10 @@ unfolding begun
 begun-left p e = ap (λ (x : Progress). x .left) e
 
 -- offsets are small
-at-small : (s : List ℕ) (at : ℕ) (p : Progress) (index uses : List ℕ) (n : ℕ) → Counted s p → NodesLeft s (p .variables) (p .arrays) (p .nodes) index uses at n → at < 65000
+at-small : (s : List ℕ) (at : ℕ) (p : Progress) (index uses : List ℕ) (n : ℕ) → Counted s (p .declared) → NodesLeft s (p .declared .header) index uses at n → at < 65000
 at-small s at p index uses n c h =
-    let fit = header-fits s (headerOf p) (c .declared .isHeader) in
-    omega (arith, offset-small _ _ _ _ _ _ _ _ h)
+    let fit = header-fits s (p .declared .header) (c .declared .isHeader) in
+    omega (arith, offset-small _ _ _ _ _ _ h)
 
 module _ (s : List ℕ) (at : ℕ) (p : Progress) (index uses : List ℕ) where
   -- ---- what is due, by what is known
@@ -66,9 +66,9 @@ module _ (s : List ℕ) (at : ℕ) (p : Progress) (index uses : List ℕ) where
 
   -- the labels
   pub record LabelsReady : Type 0 where
-    pub here : at ≡ 10
-    pub sum-left : p .left ≡ 2 + p .arrays + p .nodes
-    pub isHeader : readHeader s ≡ got (headerOf p)
+    pub here : at ≡ labelsStart
+    pub sum-left : p .left ≡ 2 + p .declared .header .arrays + p .declared .header .nodes
+    pub isHeader : readHeader s ≡ got (p .declared .header)
     pub fresh : Fresh index uses
 
   pub labels-ready : Walking s at p index uses → p .due ≡ LabelsDue → LabelsReady
@@ -82,12 +82,12 @@ module _ (s : List ℕ) (at : ℕ) (p : Progress) (index uses : List ℕ) where
   pub record ArrayReady : Type 0 where
     pub left : ℕ
     pub more : 0 < left
-    pub sum-left : p .left ≡ 1 + left + p .nodes
-    pub declared : Declared s p
-    pub counts : CountsLeft s (p .arrays) left at (p .cells)
+    pub sum-left : p .left ≡ 1 + left + p .declared .header .nodes
+    pub declared : Declared s (p .declared)
+    pub counts : CountsLeft s (p .declared .header) left at (p .declared .cells)
     pub fresh : Fresh index uses
 
-  pub array-ready : Walking s at p index uses → p .due ≡ Body → p .nodes + 1 < p .left → ArrayReady
+  pub array-ready : Walking s at p index uses → p .due ≡ Body → p .declared .header .nodes + 1 < p .left → ArrayReady
   array-ready (atHeader z b f) d more = absurd (never (cc (begun-due p b)))
   array-ready (atLabels z e l h f) d more = absurd (never (cc))
   array-ready (atArray e left l h c f) d more = record { left = left; more = omega arith; sum-left = l; declared = h; counts = c; fresh = f }
@@ -97,41 +97,41 @@ module _ (s : List ℕ) (at : ℕ) (p : Progress) (index uses : List ℕ) where
   -- a node or the end
   pub record AfterArrays : Type 0 where
     pub n : ℕ
-    pub sum-left : p .left + n ≡ 1 + p .nodes
-    pub counted : Counted s p
-    pub nodesLeft : NodesLeft s (p .variables) (p .arrays) (p .nodes) index uses at n
+    pub sum-left : p .left + n ≡ 1 + p .declared .header .nodes
+    pub counted : Counted s (p .declared)
+    pub nodesLeft : NodesLeft s (p .declared .header) index uses at n
     pub long : Long index uses
 
-  pub after-arrays : Walking s at p index uses → p .due ≡ Body → p .left ≤ p .nodes + 1 → AfterArrays
+  pub after-arrays : Walking s at p index uses → p .due ≡ Body → p .left ≤ p .declared .header .nodes + 1 → AfterArrays
   after-arrays (atHeader z b f) d few = absurd (never (cc (begun-due p b)))
   after-arrays (atLabels z e l h f) d few = absurd (never (cc))
   after-arrays (atArray e left l h c f) d few =
       let none : left ≡ 0 = omega arith in
-      let here : at ≡ nodesStart (p .arrays) = omega arith in
+      let here : at ≡ nodesStart (p .declared .header) = omega arith in
       record {
         n = 0;
         sum-left = omega arith;
-        counted = record { declared = h; counts = c .before; isCounts = counts-done s (p .arrays) left at (p .cells) c none; total = c .summed };
-        nodesLeft = rw here (nodes-start s (p .variables) (p .arrays) (p .nodes) index uses (f .zeros));
+        counted = record { declared = h; counts = c .before; isCounts = counts-done s (p .declared .header) left at (p .declared .cells) c none; total = c .summed };
+        nodesLeft = rw here (nodes-start s (p .declared .header) index uses (f .zeros));
         long = f .long;
       }
   after-arrays (atNode e n l c h g) d few = record { n = n; sum-left = l; counted = c; nodesLeft = h; long = g }
   after-arrays (atEnd a e l w) d few = absurd (never (cc))
 
   -- after the header its limits hold
-  pub body-limits : Walking s at p index uses → p .due ≡ Body → HeaderFits s (headerOf p)
+  pub body-limits : Walking s at p index uses → p .due ≡ Body → HeaderFits s (p .declared .header)
   body-limits (atHeader z b f) d = absurd (never (cc (begun-due p b)))
   body-limits (atLabels z e l h f) d = absurd (never (cc))
-  body-limits (atArray e left l h c f) d = header-fits s (headerOf p) (h .isHeader)
-  body-limits (atNode e n l c h g) d = header-fits s (headerOf p) (c .declared .isHeader)
+  body-limits (atArray e left l h c f) d = header-fits s (p .declared .header) (h .isHeader)
+  body-limits (atNode e n l c h g) d = header-fits s (p .declared .header) (c .declared .isHeader)
   body-limits (atEnd a e l w) d = absurd (never (cc))
 
   -- a node
-  pub node-ready : BodyDue s at p index uses → p .left ≤ p .nodes + 1 → 1 < p .left → NodeReady s at p (p .nodes + 1 - p .left) index uses
+  pub node-ready : BodyDue s at p index uses → p .left ≤ p .declared .header .nodes + 1 → 1 < p .left → NodeReady s at p (p .declared .header .nodes + 1 - p .left) index uses
   node-ready b few more =
       let k = after-arrays (b .walking) (b .isBody) few in
       let f = body-limits (b .walking) (b .isBody) in
-      let same : p .nodes + 1 - p .left ≡ k .n = omega arith in
+      let same : p .declared .header .nodes + 1 - p .left ≡ k .n = omega arith in
       record { some = b .some; more = omega arith; few = (f .nodesFit, f .arraysFit); left = rw same (k .nodesLeft); long = k .long }
 
   -- while records are left, no answer is there
@@ -153,9 +153,9 @@ module _ (s : List ℕ) (at : ℕ) (p : Progress) (index uses : List ℕ) where
     pub header-turn : HeaderReady → (h : HeaderRead) → h ≡ headerAs (readHeader s) → (r : Progress) → r ≡ headerDue h → Turned s at p r index uses
     unfolding headerDue
     header-turn k (HeaderRefused x) e r q = turn-done (Refused x) r (omega arith) q (header-stop s index x e)
-    header-turn k (HeaderGot vs arrs nodes) e r q =
-        let read = header-got _ _ _ _ e in
-        let fit = header-fits s (record { variables = vs; arrays = arrs; nodes = nodes }) read in
+    header-turn k (HeaderGot g) e r q =
+        let read = header-got _ _ e in
+        let fit = header-fits s g read in
         rw q (record {
           walking = atLabels (omega arith) refl refl read (k .fresh);
           fewer = omega arith;
@@ -163,48 +163,48 @@ module _ (s : List ℕ) (at : ℕ) (p : Progress) (index uses : List ℕ) where
         })
 
     -- after the labels
-    pub labels-turn : LabelsReady → (h : LabelsRead) → h ≡ labelsAs (readLabels s (headerOf p)) → (r : Progress) → r ≡ labelsDue p h → Turned s at p r index uses
+    pub labels-turn : LabelsReady → (h : LabelsRead) → h ≡ labelsAs (readLabels s (p .declared .header) at) → (r : Progress) → r ≡ labelsDue p h → Turned s at p r index uses
     unfolding labelsDue
-    labels-turn k (LabelsRefused x) e r q = turn-done (Refused x) r (omega arith) q (labels-stop s index p x (k .isHeader) e)
+    labels-turn k (LabelsRefused x) e r q = turn-done (Refused x) r (omega arith) q (labels-stop s index (p .declared) x (k .isHeader) (rw (k .here) at e))
     labels-turn k (LabelsGot ls) e r q =
         rw (q, k .here) (record {
-          walking = atArray refl (p .arrays) (omega arith) (record { isHeader = k .isHeader; isLabels = labels-got _ ls e }) (counts-start s (p .arrays)) (k .fresh);
+          walking = atArray refl (p .declared .header .arrays) (omega arith) (record { isHeader = k .isHeader; isLabels = labels-got _ ls (rw (k .here) at e) }) (counts-start s (p .declared .header)) (k .fresh);
           fewer = omega arith;
           fits = omega arith;
         })
 
     -- after an array
     array-small : (k : ArrayReady) → at < 65000
-    array-small k = omega (arith, header-fits s (headerOf p) (k .declared .isHeader) .arraysFit)
+    array-small k = omega (arith, header-fits s (p .declared .header) (k .declared .isHeader) .arraysFit)
 
-    pub array-turn : (k : ArrayReady) → (h : CountRead) → h ≡ countAs (readCount s at (p .cells)) → (r : Progress) → r ≡ countDue p h → Turned s at p r index uses
+    pub array-turn : (k : ArrayReady) → (h : CountRead) → h ≡ countAs (readCount s at (p .declared .cells)) → (r : Progress) → r ≡ countDue p h → Turned s at p r index uses
     unfolding countDue
     array-turn k (CountRefused x) e r q =
-        turn-done (Refused x) r (omega (arith, array-small k)) q (arrays-stop s index p x (k .declared) (counts-stop s (p .arrays) (k .left) at (p .cells) (k .counts) (k .more) x (sym e)))
+        turn-done (Refused x) r (omega (arith, array-small k)) q (arrays-stop s index (p .declared) x (k .declared) (counts-stop s (p .declared .header) (k .left) at (p .declared .cells) (k .counts) (k .more) x (sym e)))
     array-turn k (CountGot n) e r q =
         rw q (record {
           walking = atArray refl (k .left - 1) (omega arith) (record { isHeader = k .declared .isHeader; isLabels = k .declared .isLabels })
-              (counts-more s (p .arrays) (k .left) at (p .cells) (k .counts) (k .more) n (sym e)) (k .fresh);
+              (counts-more s (p .declared .header) (k .left) at (p .declared .cells) (k .counts) (k .more) n (sym e)) (k .fresh);
           fewer = omega arith;
           fits = omega (arith, array-small k);
         })
 
     -- at the end
-    pub end-turn : (k : AfterArrays) → p .left ≤ 1 → (answer : Read) → Finishes s index uses (p .variables) (p .arrays) (p .nodes) (p .cells) (p .labels) at answer → (r : Progress) → r ≡ doneWith answer → Turned s at p r index uses
+    pub end-turn : (k : AfterArrays) → p .left ≤ 1 → (answer : Read) → Finishes s index uses (p .declared) at answer → (r : Progress) → r ≡ doneWith answer → Turned s at p r index uses
     end-turn k few answer f r e =
         turn-done answer r (omega (arith, at-small s at p index uses (k .n) (k .counted) (k .nodesLeft))) e
-        (nodes-finished s index p uses at (k .n) answer (k .counted) (k .nodesLeft) (omega arith) f)
+        (nodes-finished s index (p .declared) uses at (k .n) answer (k .counted) (k .nodesLeft) (omega arith) f)
 
 -- after a node: index and uses were written, and are as long as they were
 module _ (s : List ℕ) (at : ℕ) (p : Progress) (index uses index′ uses′ : List ℕ) (some : 0 < p .left) (k : AfterArrays s at p index uses) where
   pub node-turn : (n : ℕ) → n ≡ k .n → length index′ ≡ length index → length uses′ ≡ length uses → (r : Progress) → NodeTurned s at p n index′ uses′ r → Turned s at p r index′ uses′
   unfolding nodeDue
   node-turn n e li lu r (nodeRefused x refuses q) =
-      turn-done s at p index′ uses′ some (Refused x) r (omega (arith, at-small s at p index uses (k .n) (k .counted) (k .nodesLeft))) q (nodes-stopped s index′ p x (k .counted) refuses)
+      turn-done s at p index′ uses′ some (Refused x) r (omega (arith, at-small s at p index uses (k .n) (k .counted) (k .nodesLeft))) q (nodes-stopped s index′ (p .declared) x (k .counted) refuses)
   node-turn n e li lu r (nodeRead size q h) =
       let c = k .counted in
       rw q (record {
-        walking = atNode refl (n + 1) (omega arith) (record { declared = record { isHeader = c .declared .isHeader; isLabels = c .declared .isLabels }; counts = c .counts; isCounts = c .isCounts; total = c .total }) h
+        walking = atNode refl (n + 1) (omega arith) c h
             (record { longIndex = omega arith; longUses = omega arith });
         fewer = omega arith;
         fits = omega (arith, at-small s (at + size) p index′ uses′ (n + 1) c h);

@@ -10,7 +10,7 @@ use Rattle.bytes_le.proofs.Numbers.{Below}
 use Rattle.awhile.specs.Lists.{sum, all, occurrences}
 use Rattle.awhile.specs.Refusals.{refused, got}
 use Rattle.awhile.specs.Nodes.{sizeOf, decodeAt, fieldInRange, inRange, fieldChildren, childrenOf}
-use Rattle.awhile.specs.Tables.{Header, maxNodes, nodesStart, readNode, readNodes, usesOf}
+use Rattle.awhile.specs.Tables.{maxNodes, nodesStart, readNode, readNodes, usesOf}
 use Rattle.reader.specs.Reader.{fieldsOf, tally, allBelow, CountsBelow, Kept, NodeKnown, NodeChecked}
 use Rattle.reader.specs.Walk.{NodesLeft}
 use Rattle.awhile.proofs.Lists.{sum-append, occurrences-append, flatMap-append}
@@ -20,6 +20,7 @@ use Rattle.awhile.proofs.Accepted.{NodeRead, node-read}
 use Rattle.reader.proofs.RecordForms.{fields-few}
 use Rattle.reader.proofs.Searching.{up-to}
 use Rattle.reader.proofs.Tally.{getD-tally, occurrences-most, fields-children, fields-below, below-weaken}
+use Rattle.awhile.specs.declared.Header.{Header}
 use Rattle.awhile.specs.declared.Node.{Node}
 use Rattle.awhile.specs.declared.Node.the-variants.{Skip}
 use Rattle.awhile.specs.declared.Decoded.the-variants.{Known}
@@ -71,18 +72,15 @@ module _ (ns : List Node) (m : Node) where
         }
 
 -- ---- the walk
-module _ (s : List ℕ) (vs arrs nodes : ℕ) where
-  abbrev header : Header
-  header = record { variables = vs; arrays = arrs; nodes = nodes }
-
+module _ (s : List ℕ) (header : Header) where
   -- before the first node nothing is kept
-  pub nodes-start : (index uses : List ℕ) → CountsBelow 1 uses → NodesLeft s vs arrs nodes index uses (nodesStart arrs) 0
+  pub nodes-start : (index uses : List ℕ) → CountsBelow 1 uses → NodesLeft s header index uses (nodesStart header) 0
   unfolding sum usesOf occurrences flatMap
   nodes-start index uses none =
       record {
         before = [];
         counted = refl;
-        same = ap (λ k. readNodes k header s (nodesStart arrs) []) (omega arith);
+        same = ap (λ k. readNodes k header s (nodesStart header) []) (omega arith);
         place = omega arith;
         kept =
             record {
@@ -94,30 +92,30 @@ module _ (s : List ℕ) (vs arrs nodes : ℕ) where
         few = omega arith;
       }
 
-  module _ (index uses : List ℕ) (at n : ℕ) (h : NodesLeft s vs arrs nodes index uses at n) where
+  module _ (index uses : List ℕ) (at n : ℕ) (h : NodesLeft s header index uses at n) where
     -- the offset is small
-    pub offset-small : at ≤ nodesStart arrs + 10 * n
+    pub offset-small : at ≤ nodesStart header + 10 * n
     offset-small = omega (arith, h .place, h .counted, sizes-most (h .before))
 
     -- the counts are small
-    pub uses-small : nodes ≤ maxNodes → CountsBelow 65533 uses
+    pub uses-small : header .nodes ≤ maxNodes → CountsBelow 65533 uses
     unfolding usesOf
     uses-small limit =
         record { each = λ k. omega (arith, h .kept .used k, occurrences-most k (flatMap childrenOf (h .before)), h .children, h .few) }
 
-    module _ (more : n < nodes) where
-      next : nodes - n ≡ suc (nodes - (n + 1))
+    module _ (more : n < header .nodes) where
+      next : header .nodes - n ≡ suc (header .nodes - (n + 1))
       next = omega arith
 
       -- a refused record refuses them all
-      pub nodes-stop : (x : Refusal) → NodeChecked s index vs arrs n at (NodeRefused x) → readNodes nodes header s (nodesStart arrs) [] ≡ refused x
+      pub nodes-stop : (x : Refusal) → NodeChecked s index (header .variables) (header .arrays) n at (NodeRefused x) → readNodes (header .nodes) header s (nodesStart header) [] ≡ refused x
       nodes-stop x c =
-          let e = c .isRead (h .before) (h .counted) (h .kept .leads) nodes in
+          let e = c .isRead (h .before) (h .counted) (h .kept .leads) (header .nodes) in
           h .same ∙ ap (λ k. readNodes k header s at (h .before)) next ∙ nodes-refused _ _ _ _ _ _ e
 
-      module _ (bytes : Below 256 s) (size : ℕ) (fs : Fields) (c : NodeChecked s index vs arrs n at (NodeGot size fs)) where
+      module _ (bytes : Below 256 s) (size : ℕ) (fs : Fields) (c : NodeChecked s index (header .variables) (header .arrays) n at (NodeGot size fs)) where
         was-read : NodeKnown (readNode header s at (h .before)) size fs
-        was-read = c .isRead (h .before) (h .counted) (h .kept .leads) nodes
+        was-read = c .isRead (h .before) (h .counted) (h .kept .leads) (header .nodes)
 
         abbrev m : Node
         m = was-read .node
@@ -130,15 +128,15 @@ module _ (s : List ℕ) (vs arrs nodes : ℕ) where
         same-children = ap (flatMap fieldChildren) (was-read .isFields)
 
         -- its children are among the nodes before it
-        pub children-inside : (bound : ℕ) → nodes ≤ bound → allBelow bound (flatMap fieldChildren (fieldsOf fs)) ≡ true
+        pub children-inside : (bound : ℕ) → header .nodes ≤ bound → allBelow bound (flatMap fieldChildren (fieldsOf fs)) ≡ true
         unfolding inRange
         children-inside bound wide =
-            let ranged : all (fieldInRange vs arrs n) (fieldsOf fs) ≡ true = rw (was-read .isFields) (rw (h .counted) at (known .fits .ranged)) in
-            below-weaken n bound (flatMap fieldChildren (fieldsOf fs)) (omega arith) (fields-below vs arrs n (fieldsOf fs) ranged)
+            let ranged : all (fieldInRange (header .variables) (header .arrays) n) (fieldsOf fs) ≡ true = rw (was-read .isFields) (rw (h .counted) at (known .fits .ranged)) in
+            below-weaken n bound (flatMap fieldChildren (fieldsOf fs)) (omega arith) (fields-below (header .variables) (header .arrays) n (fieldsOf fs) ranged)
 
         -- a record that was read is one node more
-        pub nodes-more : nodes ≤ length index → nodes ≤ length uses
-            → NodesLeft s vs arrs nodes (set index n at) (tally uses (flatMap fieldChildren (fieldsOf fs))) (at + size) (n + 1)
+        pub nodes-more : header .nodes ≤ length index → header .nodes ≤ length uses
+            → NodesLeft s header (set index n at) (tally uses (flatMap fieldChildren (fieldsOf fs))) (at + size) (n + 1)
         unfolding sum flatMap
         nodes-more longIndex longUses =
             record {
@@ -148,10 +146,10 @@ module _ (s : List ℕ) (vs arrs nodes : ℕ) where
                   h .same
                   ∙ ap (λ k. readNodes k header s at (h .before)) next
                   ∙ nodes-next _ _ _ _ _ _ (was-read .isNode)
-                  ∙ ap (λ k. readNodes (nodes - (n + 1)) header s k (h .before ++ (m ∷ []))) (omega (arith, was-read .isSize));
+                  ∙ ap (λ k. readNodes (header .nodes - (n + 1)) header s k (h .before ++ (m ∷ []))) (omega (arith, was-read .isSize));
               place = rw (map-append, sum-append) (omega (arith, h .place, was-read .isSize));
               kept =
-                  subst (λ k. Kept s (set index k at) (tally uses (flatMap fieldChildren (fieldsOf fs))) (nodesStart arrs) (h .before ++ (m ∷ []))) (h .counted)
+                  subst (λ k. Kept s (set index k at) (tally uses (flatMap fieldChildren (fieldsOf fs))) (nodesStart header) (h .before ++ (m ∷ []))) (h .counted)
                   (kept-more _ m _ _ _ _ _ (h .kept) (omega (arith, h .counted)) (h .place)
                   (flatMap fieldChildren (fieldsOf fs)) same-children (children-inside (length uses) longUses) (known .there .decoded));
               children =
@@ -161,8 +159,8 @@ module _ (s : List ℕ) (vs arrs nodes : ℕ) where
             }
 
     -- with none left all were read
-    pub nodes-done : nodes ≤ n → readNodes nodes header s (nodesStart arrs) [] ≡ got (h .before)
+    pub nodes-done : header .nodes ≤ n → readNodes (header .nodes) header s (nodesStart header) [] ≡ got (h .before)
     unfolding readNodes
     nodes-done all-read =
-        let none : nodes - n ≡ 0 = omega arith in
+        let none : header .nodes - n ≡ 0 = omega arith in
         h .same ∙ ap (λ k. readNodes k header s at (h .before)) none

@@ -3,13 +3,13 @@ use Prim.Native.Nat.{ℕ, _<_, _≤_}
 use mathlib.Core.List.{List, []}
 use mathlib.Core.Path.{_≡_}
 use lib.ListN.{length, getD}
-use Rattle.awhile.specs.Lists.{sum}
-use Rattle.awhile.specs.Tables.{Table, rejected, notATree, accepted, readTable, offsetOf, BreaksRule, nodesStart, readRecords}
+use Rattle.awhile.specs.Tables.{Table, headerOf, declarationsOf, rejected, notATree, accepted, readTable, offsetOf, BreaksRule, nodesStart, readRecords}
 use Rattle.awhile.specs.Refusals.{got}
 use Rattle.reader.specs.Reader.{Kept}
 use Rattle.awhile.specs.Language.{AExp, BExp, Com}
 use Rattle.awhile.specs.Trees.{Tree, treeAt, trees, asNumeric, asTruth, asCommand}
-use Rattle.awhile.specs.declared.Labelling.{Labelling}
+use Rattle.awhile.specs.declared.Declarations.{Declarations}
+use Rattle.awhile.specs.declared.Header.{Header}
 use Rattle.reader.specs.declared.Read.{Read}
 use Rattle.reader.specs.declared.Read.the-variants.{Refused, Accepted}
 use Rattle.awhile.specs.declared.Refusal.{Refusal}
@@ -54,6 +54,16 @@ pub record Indexed (table index : List ℕ) : Type 0 where
   pub long : nodesIn table ≤ length index
   pub offsets : (n : ℕ) → n < nodesIn table → getD index n 0 ≡ offsetOf (tableOf table) n
 
+-- a table that was read, with its index and all that it declares
+pub record Ready (table index : List ℕ) (declared : Declarations) : Type 0 where
+  pub indexed : Indexed table index
+  pub declares : declarationsOf (tableOf table) ≡ declared
+
+-- a table that was read, with its header
+pub record HasHeader (table : List ℕ) (header : Header) : Type 0 where
+  pub reads : readTable table ≡ accepted (tableOf table)
+  pub isHeader : headerOf (tableOf table) ≡ header
+
 -- a node of this sort, in a table that was read and indexed
 pub record OfSort (table index : List ℕ) (sort : Sort) (n : ℕ) : Type 0 where
   pub indexed : Indexed table index
@@ -67,9 +77,9 @@ pub record Single (node : Node) : Type 0 where
   pub noWhile : (b c : ℕ) → node ≡ While b c → ⊥
 
 -- ---- what the reader answers
--- the numbers of an accepted table
+-- what an accepted table declares, and where it ends
 unfoldable pub acceptedAs : Table → Read
-acceptedAs t = Accepted (t .variables) (length (t .counts)) (length (t .nodes)) (sum (t .counts)) (t .labels) (offsetOf t (length (t .nodes)))
+acceptedAs t = Accepted (declarationsOf t) (offsetOf t (length (t .nodes)))
 
 -- The reader's answer says what the bytes read as; of an accepted table the index is left. Of the index of a refused one nothing is said.
 pub data Answers (s index : List ℕ) (answer : Read) : Type 0 where
@@ -77,15 +87,7 @@ pub data Answers (s index : List ℕ) (answer : Read) : Type 0 where
   isNotATree : (t : Table) (place : ℕ) → readTable s ≡ notATree t → BreaksRule t place → answer ≡ Refused (NotATree place) → Answers s index answer
   isAccepted : Indexed s index → answer ≡ acceptedAs (tableOf s) → Answers s index answer
 
--- what the reader knows of a table whose records were read
-pub record Declares (t : Table) (variables arrays nodes cells : ℕ) (labels : Labelling) : Type 0 where
-  pub isVariables : t .variables ≡ variables
-  pub isArrays : length (t .counts) ≡ arrays
-  pub isNodes : length (t .nodes) ≡ nodes
-  pub isCells : sum (t .counts) ≡ cells
-  pub isLabels : t .labels ≡ labels
-
 -- the answer where all records were read, kept in an index and in counts of uses
-pub record Finishes (s index uses : List ℕ) (variables arrays nodes cells : ℕ) (labels : Labelling) (end : ℕ) (answer : Read) : Type 0 where
-  pub answers : (t : Table) → readRecords s ≡ got t → Declares t variables arrays nodes cells labels → offsetOf t (length (t .nodes)) ≡ end
-      → Kept s index uses (nodesStart (length (t .counts))) (t .nodes) → Answers s index answer
+pub record Finishes (s index uses : List ℕ) (declared : Declarations) (end : ℕ) (answer : Read) : Type 0 where
+  pub answers : (t : Table) → readRecords s ≡ got t → declarationsOf t ≡ declared → offsetOf t (length (t .nodes)) ≡ end
+      → Kept s index uses (nodesStart (headerOf t)) (t .nodes) → Answers s index answer

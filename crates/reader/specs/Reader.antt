@@ -8,7 +8,7 @@ use mathlib.Core.List.{List, [], _∷_, map}
 use Rattle.awhile.specs.Lists.{sum, all}
 use Rattle.awhile.specs.Refusals.{Answer, refused, got, check}
 use Rattle.awhile.specs.Nodes.{Field, word, constant, variable, array, child, Form, row, form, fieldSize, sizeOf, sortOf, decodeAt, fieldInRange, fieldSorted}
-use Rattle.awhile.specs.Tables.{Header, framed, readNode, usesOf, inOrder, allInOrder}
+use Rattle.awhile.specs.Tables.{framed, readNode, usesOf, inOrder, allInOrder}
 use Rattle.reader.specs.declared.checks.Checked.{Checked}
 use Rattle.reader.specs.declared.checks.Checked.the-variants.{Refused as CheckRefused, Passed}
 use Rattle.reader.specs.declared.declarations.HeaderRead.{HeaderRead}
@@ -17,6 +17,7 @@ use Rattle.reader.specs.declared.declarations.LabelsRead.{LabelsRead}
 use Rattle.reader.specs.declared.declarations.LabelsRead.the-variants.{Refused as LabelsRefused, Labels as LabelsGot}
 use Rattle.reader.specs.declared.declarations.CountRead.{CountRead}
 use Rattle.reader.specs.declared.declarations.CountRead.the-variants.{Refused as CountRefused, Count as CountGot}
+use Rattle.awhile.specs.declared.Header.{Header}
 use Rattle.awhile.specs.declared.Labelling.{Labelling}
 use Rattle.awhile.specs.declared.Sort.{Sort}
 use Rattle.awhile.specs.declared.Node.{Node}
@@ -51,7 +52,7 @@ firstRefusal Passed second = second
 -- the header
 unfoldable pub headerAs : Answer Header → HeaderRead
 headerAs (refused r) = HeaderRefused r
-headerAs (got h) = HeaderGot (h .variables) (h .arrays) (h .nodes)
+headerAs (got h) = HeaderGot h
 
 -- the labels record
 unfoldable pub labelsAs : Answer Labelling → LabelsRead

@@ -6,9 +6,11 @@ use lib.ListN.{length}
 use Rattle.awhile.specs.Lists.{sum}
 use Rattle.awhile.specs.Refusals.{refused, got}
 use Rattle.awhile.specs.Nodes.{sizeOf, childrenOf}
-use Rattle.awhile.specs.Tables.{Header, maxArrays, maxCells, maxNodes, arraySize, nodesStart, readHeader, readLabels, readCounts, readNodes}
+use Rattle.awhile.specs.Tables.{maxArrays, maxCells, maxNodes, headerSize, labelsSize, arraySize, labelsStart, countsStart, nodesStart, readHeader, readLabels, readCounts, readNodes}
 use Rattle.reader.specs.Reader.{Kept, CountsBelow}
 use Rattle.reader.specs.Index.{Answers}
+use Rattle.awhile.specs.declared.Declarations.{Declarations}
+use Rattle.awhile.specs.declared.Header.{Header}
 use Rattle.awhile.specs.declared.Labelling.{Labelling}
 use Rattle.awhile.specs.declared.Node.{Node}
 use Rattle.awhile.specs.declared.Refusal.{Refusal}
@@ -24,16 +26,15 @@ use Rattle.reader.specs.declared.records.Progress.{Progress}
 use Rattle.reader.specs.declared.records.Due.{Due}
 use Rattle.reader.specs.declared.records.Due.the-variants.{Header as HeaderDue, Labels as LabelsDue, Body, Done}
 
--- the header that was read
-abbrev pub headerOf : Progress → Header
-headerOf p = record { variables = p .variables; arrays = p .arrays; nodes = p .nodes }
+abbrev noHeader : Header
+noHeader = record { variables = 0; arrays = 0; nodes = 0 }
 
 abbrev noLabels : Labelling
 noLabels = record { variables = 0; arrays = 0 }
 
 -- nothing is declared
 abbrev pub undeclaredWith : ℕ → Due → Progress
-undeclaredWith left due = record { left = left; size = 0; due = due; variables = 0; arrays = 0; nodes = 0; cells = 0; labels = noLabels }
+undeclaredWith left due = record { left = left; size = 0; due = due; declared = record { header = noHeader; cells = 0; labels = noLabels } }
 
 -- before the first record, and after the last
 unfoldable pub begun : Progress
@@ -45,36 +46,42 @@ doneWith answer = undeclaredWith 0 (Done answer)
 -- after one record more: header, labels, array, node
 unfoldable pub headerDue : HeaderRead → Progress
 headerDue (HeaderRefused r) = doneWith (Refused r)
-headerDue (HeaderGot vs arrs nodes) = record { left = 2 + arrs + nodes; size = 10; due = LabelsDue; variables = vs; arrays = arrs; nodes = nodes; cells = 0; labels = noLabels }
+headerDue (HeaderGot h) = record { left = 2 + h .arrays + h .nodes; size = headerSize; due = LabelsDue; declared = record { header = h; cells = 0; labels = noLabels } }
 
 unfoldable pub labelsDue : Progress → LabelsRead → Progress
 labelsDue p (LabelsRefused r) = doneWith (Refused r)
-labelsDue p (LabelsGot l) = record { left = p .left - 1; size = 10; due = Body; variables = p .variables; arrays = p .arrays; nodes = p .nodes; cells = 0; labels = l }
+labelsDue p (LabelsGot l) = record { left = p .left - 1; size = labelsSize; due = Body; declared = record { header = p .declared .header; cells = 0; labels = l } }
 
 unfoldable pub countDue : Progress → CountRead → Progress
 countDue p (CountRefused r) = doneWith (Refused r)
-countDue p (CountGot n) = record { left = p .left - 1; size = 6; due = Body; variables = p .variables; arrays = p .arrays; nodes = p .nodes; cells = p .cells + n; labels = p .labels }
+countDue p (CountGot n) =
+    record {
+      left = p .left - 1;
+      size = arraySize;
+      due = Body;
+      declared = record { header = p .declared .header; cells = p .declared .cells + n; labels = p .declared .labels };
+    }
 
 unfoldable pub nodeDue : Progress → (size : ℕ) → Progress
-nodeDue p size = record { left = p .left - 1; size = size; due = Body; variables = p .variables; arrays = p .arrays; nodes = p .nodes; cells = p .cells; labels = p .labels }
+nodeDue p size = record { left = p .left - 1; size = size; due = Body; declared = p .declared }
 
 -- what is left to read from here is what is to be read of all arrays
-pub record CountsLeft (s : List ℕ) (arrays left at cells : ℕ) : Type 0 where
+pub record CountsLeft (s : List ℕ) (header : Header) (left at cells : ℕ) : Type 0 where
   pub before : List ℕ
   pub summed : sum before ≡ cells
-  pub same : readCounts arrays s 20 [] ≡ readCounts left s at before
-  pub place : at + arraySize * left ≡ 20 + arraySize * arrays
+  pub same : readCounts (header .arrays) s (countsStart header) [] ≡ readCounts left s at before
+  pub place : at + arraySize * left ≡ nodesStart header
   pub few : cells ≤ maxCells
 
 -- and of all nodes, after n of them
-pub record NodesLeft (s : List ℕ) (vs arrs nodes : ℕ) (index uses : List ℕ) (at n : ℕ) : Type 0 where
+pub record NodesLeft (s : List ℕ) (header : Header) (index uses : List ℕ) (at n : ℕ) : Type 0 where
   pub before : List Node
   pub counted : length before ≡ n
-  pub same : readNodes nodes (record { variables = vs; arrays = arrs; nodes = nodes }) s (nodesStart arrs) [] ≡ readNodes (nodes - n) (record { variables = vs; arrays = arrs; nodes = nodes }) s at before
-  pub place : at ≡ nodesStart arrs + sum (map sizeOf before)
-  pub kept : Kept s index uses (nodesStart arrs) before
+  pub same : readNodes (header .nodes) header s (nodesStart header) [] ≡ readNodes (header .nodes - n) header s at before
+  pub place : at ≡ nodesStart header + sum (map sizeOf before)
+  pub kept : Kept s index uses (nodesStart header) before
   pub children : length (flatMap childrenOf before) ≤ 3 * n
-  pub few : n ≤ nodes
+  pub few : n ≤ header .nodes
 
 -- index and uses are long enough, and before the first node the uses are 0
 pub record Long (index uses : List ℕ) : Type 0 where
@@ -86,23 +93,26 @@ pub record Fresh (index uses : List ℕ) : Type 0 where
   pub zeros : CountsBelow 1 uses
 
 -- header and labels were read
-pub record Declared (s : List ℕ) (p : Progress) : Type 0 where
-  pub isHeader : readHeader s ≡ got (headerOf p)
-  pub isLabels : readLabels s (headerOf p) ≡ got (p .labels)
+pub record Declared (s : List ℕ) (d : Declarations) : Type 0 where
+  pub isHeader : readHeader s ≡ got (d .header)
+  pub isLabels : readLabels s (d .header) labelsStart ≡ got (d .labels)
 
 -- the arrays too
-pub record Counted (s : List ℕ) (p : Progress) : Type 0 where
-  pub declared : Declared s p
+pub record Counted (s : List ℕ) (d : Declarations) : Type 0 where
+  pub declared : Declared s d
   pub counts : List ℕ
-  pub isCounts : readCounts (p .arrays) s 20 [] ≡ got counts
-  pub total : sum counts ≡ p .cells
+  pub isCounts : readCounts (d .header .arrays) s (countsStart (d .header)) [] ≡ got counts
+  pub total : sum counts ≡ d .cells
 
 -- what is known between two records
 pub data Walking (s : List ℕ) (at : ℕ) (p : Progress) (index uses : List ℕ) : Type 0 where
   atHeader : at ≡ 0 → p ≡ begun → Fresh index uses → Walking s at p index uses
-  atLabels : at ≡ 10 → p .due ≡ LabelsDue → p .left ≡ 2 + p .arrays + p .nodes → readHeader s ≡ got (headerOf p) → Fresh index uses → Walking s at p index uses
-  atArray : p .due ≡ Body → (left : ℕ) → p .left ≡ 1 + left + p .nodes → Declared s p → CountsLeft s (p .arrays) left at (p .cells) → Fresh index uses → Walking s at p index uses
-  atNode : p .due ≡ Body → (n : ℕ) → p .left + n ≡ 1 + p .nodes → Counted s p → NodesLeft s (p .variables) (p .arrays) (p .nodes) index uses at n → Long index uses → Walking s at p index uses
+  atLabels : at ≡ labelsStart → p .due ≡ LabelsDue → p .left ≡ 2 + p .declared .header .arrays + p .declared .header .nodes → readHeader s ≡ got (p .declared .header)
+      → Fresh index uses → Walking s at p index uses
+  atArray : p .due ≡ Body → (left : ℕ) → p .left ≡ 1 + left + p .declared .header .nodes → Declared s (p .declared) → CountsLeft s (p .declared .header) left at (p .declared .cells)
+      → Fresh index uses → Walking s at p index uses
+  atNode : p .due ≡ Body → (n : ℕ) → p .left + n ≡ 1 + p .declared .header .nodes → Counted s (p .declared) → NodesLeft s (p .declared .header) index uses at n
+      → Long index uses → Walking s at p index uses
   atEnd : (answer : Read) → p .due ≡ Done answer → p .left ≡ 0 → Answers s index answer → Walking s at p index uses
 
 -- a record is read and fewer are left: what is known past it, at an offset that fits a machine's number
@@ -126,11 +136,11 @@ pub record BodyDue (s : List ℕ) (at : ℕ) (p : Progress) (index uses : List �
 -- a node is due, and what its record leaves
 pub record NodeReady (s : List ℕ) (at : ℕ) (p : Progress) (n : ℕ) (index uses : List ℕ) : Type 0 where
   pub some : 0 < p .left
-  pub more : n < p .nodes
-  pub few : (p .nodes ≤ maxNodes) × (p .arrays ≤ maxArrays)
-  pub left : NodesLeft s (p .variables) (p .arrays) (p .nodes) index uses at n
+  pub more : n < p .declared .header .nodes
+  pub few : (p .declared .header .nodes ≤ maxNodes) × (p .declared .header .arrays ≤ maxArrays)
+  pub left : NodesLeft s (p .declared .header) index uses at n
   pub long : Long index uses
 
 pub data NodeTurned (s : List ℕ) (at : ℕ) (p : Progress) (n : ℕ) (index uses : List ℕ) (r : Progress) : Type 0 where
-  nodeRefused : (x : Refusal) → readNodes (p .nodes) (headerOf p) s (nodesStart (p .arrays)) [] ≡ refused x → r ≡ doneWith (Refused x) → NodeTurned s at p n index uses r
-  nodeRead : (size : ℕ) → r ≡ nodeDue p size → NodesLeft s (p .variables) (p .arrays) (p .nodes) index uses (at + size) (n + 1) → NodeTurned s at p n index uses r
+  nodeRefused : (x : Refusal) → readNodes (p .declared .header .nodes) (p .declared .header) s (nodesStart (p .declared .header)) [] ≡ refused x → r ≡ doneWith (Refused x) → NodeTurned s at p n index uses r
+  nodeRead : (size : ℕ) → r ≡ nodeDue p size → NodesLeft s (p .declared .header) index uses (at + size) (n + 1) → NodeTurned s at p n index uses r

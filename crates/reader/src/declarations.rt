@@ -1,12 +1,16 @@
 // The declarations of a table: header, labels and arrays.
-ghost use Prim.Native.Nat.{ℕ, _+_, _^_, _<_, _≤_};
+ghost use Prim.Native.Nat.{_+_, _^_, _<_, _≤_};
 ghost use mathlib.Core.Path.{_≡_};
 ghost use mathlib.Core.Bool.{_&&_};
 ghost use lib.Dec.{eqb, ltb, leb};
-ghost use Rattle.awhile.specs.Tables.{maxVariables, maxArrays, maxNodes, maxCells, readHeader, readLabels, readCount};
+ghost use Rattle.awhile.specs.Tables.{maxVariables, maxArrays, maxNodes, maxCells, labelsSize, arraySize, readHeader, readLabels, readCount};
 ghost use Rattle.reader.specs.Reader.{headerAs, labelsAs, countAs};
 use crate::checks;
 use crate::checks::Checked;
+use crate::layout::ARRAY_BYTES;
+use crate::layout::HEADER_BYTES;
+use crate::layout::LABELS_BYTES;
+use awhile::Header;
 use awhile::Labelling;
 use awhile::MAX_ARRAYS;
 use awhile::MAX_CELLS;
@@ -17,14 +21,8 @@ use bytes_le::get;
 
 // What reading the header answers.
 pub enum HeaderRead {
-    Refused {
-        refusal: Refusal,
-    },
-    Header {
-        variables: usize,
-        arrays: usize,
-        nodes: usize,
-    },
+    Refused { refusal: Refusal },
+    Header { header: Header },
 }
 
 // Version, variables, arrays and nodes are within the limits.
@@ -51,7 +49,7 @@ pub fn read_header(table: &[u8], at: usize) -> HeaderRead
     requires { ⌜ at ≡ 0 ⌝ }
     ensures { λ r. ⌜ r ≡ headerAs (readHeader (now (table .entry))) ⌝ }
 {
-    if let Checked::Refused { refusal } = checks::frame_of_kind(table, at, 1, 10) {
+    if let Checked::Refused { refusal } = checks::frame_of_kind(table, at, 1, HEADER_BYTES) {
         return HeaderRead::Refused { refusal };
     }
     let version = get::u16_at(table, at + 4);
@@ -60,9 +58,11 @@ pub fn read_header(table: &[u8], at: usize) -> HeaderRead
     let nodes = get::u16_at(table, at + 8);
     if within_limits(version, variables, arrays, nodes) {
         return HeaderRead::Header {
-            variables,
-            arrays,
-            nodes,
+            header: Header {
+                variables,
+                arrays,
+                nodes,
+            },
         };
     }
     HeaderRead::Refused {
@@ -85,17 +85,17 @@ fn mask_fits(mask: u64, width: usize) -> bool
 }
 
 // The labels record: no mark beyond the variables and arrays that there are.
-pub fn read_labels(table: &[u8], at: usize, variables: usize, arrays: usize) -> LabelsRead
-    requires { ⌜ (at ≡ 10) × (variables ≤ maxVariables) × (arrays ≤ maxArrays) ⌝ }
-    ensures { λ r. ⌜ ((nodes : ℕ) → r ≡ labelsAs (readLabels (now (table .entry)) (record { variables = variables; arrays = arrays; nodes = nodes }))) ⌝ }
+pub fn read_labels(table: &[u8], header: Header, at: usize) -> LabelsRead
+    requires { ⌜ (at + labelsSize < 2 ^ 64) × (header .variables ≤ maxVariables) × (header .arrays ≤ maxArrays) ⌝ }
+    ensures { λ r. ⌜ r ≡ labelsAs (readLabels (now (table .entry)) header at) ⌝ }
 {
-    if let Checked::Refused { refusal } = checks::frame_of_kind(table, at, 3, 10) {
+    if let Checked::Refused { refusal } = checks::frame_of_kind(table, at, 3, LABELS_BYTES) {
         return LabelsRead::Refused { refusal };
     }
     let variable_mask = get::u32_at(table, at + 4) as u64;
     let array_mask = get::u16_at(table, at + 8);
-    if mask_fits(variable_mask, variables) {
-        if mask_fits(array_mask as u64, arrays) {
+    if mask_fits(variable_mask, header.variables) {
+        if mask_fits(array_mask as u64, header.arrays) {
             return LabelsRead::Labels {
                 labels: Labelling {
                     variables: variable_mask,
@@ -117,10 +117,10 @@ pub enum CountRead {
 
 // One array record, after arrays with so many cells.
 pub fn read_count(table: &[u8], at: usize, before: usize) -> CountRead
-    requires { ⌜ (at + 6 < 2 ^ 64) × (before ≤ maxCells) ⌝ }
+    requires { ⌜ (at + arraySize < 2 ^ 64) × (before ≤ maxCells) ⌝ }
     ensures { λ r. ⌜ r ≡ countAs (readCount (now (table .entry)) at before) ⌝ }
 {
-    if let Checked::Refused { refusal } = checks::frame_of_kind(table, at, 2, 6) {
+    if let Checked::Refused { refusal } = checks::frame_of_kind(table, at, 2, ARRAY_BYTES) {
         return CountRead::Refused { refusal };
     }
     let count = get::u16_at(table, at + 4);

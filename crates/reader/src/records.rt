@@ -1,18 +1,23 @@
 // The record at an offset: what is due there, by what the records before it say.
 ghost use Prim.Native.Nat.{_+_, _^_, _≤_, _<_};
 ghost use mathlib.Core.Path.{_≡_};
-ghost use Rattle.awhile.specs.Tables.{maxVariables, maxArrays, maxCells, readHeader, readLabels, readCount};
+ghost use Rattle.awhile.specs.Tables.{maxVariables, maxArrays, maxCells, labelsStart, arraySize, readHeader, readLabels, readCount};
 ghost use Rattle.reader.specs.Reader.{headerAs, labelsAs, countAs};
-ghost use Rattle.reader.specs.Walk.{headerOf, undeclaredWith, begun, doneWith, headerDue, labelsDue, countDue, Walking, Turned, NodeReady, NodeTurned, BodyDue};
+ghost use Rattle.reader.specs.Walk.{undeclaredWith, begun, doneWith, headerDue, labelsDue, countDue, Walking, Turned, NodeReady, NodeTurned, BodyDue};
 use crate::Read;
 use crate::declarations;
 use crate::declarations::CountRead;
 use crate::declarations::HeaderRead;
 use crate::declarations::LabelsRead;
+use crate::layout::ARRAY_BYTES;
+use crate::layout::HEADER_BYTES;
+use crate::layout::LABELS_BYTES;
 use crate::tables;
 use crate::uses;
 use crate::walk;
 use crate::walk::NodeRead;
+use awhile::Declarations;
+use awhile::Header;
 use awhile::Labelling;
 use awhile::MAX_ARRAYS;
 use awhile::MAX_NODES;
@@ -30,11 +35,7 @@ pub struct Progress {
     pub left: usize,
     pub size: usize,
     pub due: Due,
-    pub variables: usize,
-    pub arrays: usize,
-    pub nodes: usize,
-    pub cells: usize,
-    pub labels: Labelling,
+    pub declared: Declarations,
 }
 
 // Before the first record: no table has more records than are counted here.
@@ -59,13 +60,17 @@ fn undeclared(left: usize, due: Due) -> Progress
         left,
         size: 0,
         due,
-        variables: 0,
-        arrays: 0,
-        nodes: 0,
-        cells: 0,
-        labels: Labelling {
-            variables: 0,
-            arrays: 0,
+        declared: Declarations {
+            header: Header {
+                variables: 0,
+                arrays: 0,
+                nodes: 0,
+            },
+            cells: 0,
+            labels: Labelling {
+                variables: 0,
+                arrays: 0,
+            },
         },
     }
 }
@@ -77,21 +82,17 @@ fn header_due(table: &[u8], at: usize) -> Progress
 {
     match declarations::read_header(table, at) {
         HeaderRead::Refused { refusal } => done(Read::Refused { refusal }),
-        HeaderRead::Header {
-            variables,
-            arrays,
-            nodes,
-        } => Progress {
-            left: 2 + arrays + nodes,
-            size: 10,
+        HeaderRead::Header { header } => Progress {
+            left: 2 + header.arrays + header.nodes,
+            size: HEADER_BYTES,
             due: Due::Labels,
-            variables,
-            arrays,
-            nodes,
-            cells: 0,
-            labels: Labelling {
-                variables: 0,
-                arrays: 0,
+            declared: Declarations {
+                header,
+                cells: 0,
+                labels: Labelling {
+                    variables: 0,
+                    arrays: 0,
+                },
             },
         },
     }
@@ -99,41 +100,45 @@ fn header_due(table: &[u8], at: usize) -> Progress
 
 // The labels record.
 fn labels_due(table: &[u8], at: usize, progress: Progress) -> Progress
-    requires { ⌜ (at ≡ 10) × (progress .variables ≤ maxVariables) × (progress .arrays ≤ maxArrays) × (0 < progress .left) ⌝ }
-    ensures { λ r. ⌜ r ≡ labelsDue progress (labelsAs (readLabels (now (table .entry)) (headerOf progress))) ⌝ }
+    requires { ⌜ (at ≡ labelsStart) × (progress .declared .header .variables ≤ maxVariables) × (progress .declared .header .arrays ≤ maxArrays) × (0 < progress .left) ⌝ }
+    ensures { λ r. ⌜ r ≡ labelsDue progress (labelsAs (readLabels (now (table .entry)) (progress .declared .header) at)) ⌝ }
 {
-    match declarations::read_labels(table, at, progress.variables, progress.arrays) {
+    let declared = progress.declared;
+    let header = declared.header;
+    match declarations::read_labels(table, header, at) {
         LabelsRead::Refused { refusal } => done(Read::Refused { refusal }),
         LabelsRead::Labels { labels } => Progress {
             left: progress.left - 1,
-            size: 10,
+            size: LABELS_BYTES,
             due: Due::Body,
-            variables: progress.variables,
-            arrays: progress.arrays,
-            nodes: progress.nodes,
-            cells: 0,
-            labels,
+            declared: Declarations {
+                header,
+                cells: 0,
+                labels,
+            },
         },
     }
 }
 
 // An array record.
 fn array_due(table: &[u8], at: usize, progress: Progress) -> Progress
-    requires { ⌜ (at + 6 < 2 ^ 64) × (progress .cells ≤ maxCells) × (0 < progress .left) ⌝ }
-    ensures { λ r. ⌜ r ≡ countDue progress (countAs (readCount (now (table .entry)) at (progress .cells))) ⌝ }
+    requires { ⌜ (at + arraySize < 2 ^ 64) × (progress .declared .cells ≤ maxCells) × (0 < progress .left) ⌝ }
+    ensures { λ r. ⌜ r ≡ countDue progress (countAs (readCount (now (table .entry)) at (progress .declared .cells))) ⌝ }
 {
-    let labels = progress.labels;
-    match declarations::read_count(table, at, progress.cells) {
+    let declared = progress.declared;
+    let header = declared.header;
+    let labels = declared.labels;
+    match declarations::read_count(table, at, declared.cells) {
         CountRead::Refused { refusal } => done(Read::Refused { refusal }),
         CountRead::Count { count } => Progress {
             left: progress.left - 1,
-            size: 6,
+            size: ARRAY_BYTES,
             due: Due::Body,
-            variables: progress.variables,
-            arrays: progress.arrays,
-            nodes: progress.nodes,
-            cells: progress.cells + count,
-            labels,
+            declared: Declarations {
+                header,
+                cells: declared.cells + count,
+                labels,
+            },
         },
     }
 }
@@ -150,8 +155,9 @@ fn node_due(
     requires { ⌜ NodeReady (now table) at progress n (now index) (now uses) ⌝ }
     ensures { λ r. ⌜ NodeTurned (now (table .entry)) at progress n (now (index .exit)) (now (uses .exit)) r ⌝ }
 {
-    let labels = progress.labels;
-    match walk::read_node(table, &*index, progress.variables, progress.arrays, n, at) {
+    let declared = progress.declared;
+    let header = declared.header;
+    match walk::read_node(table, &*index, header.variables, header.arrays, n, at) {
         NodeRead::Refused { refusal } => done(Read::Refused { refusal }),
         NodeRead::Node { size, fields } => {
             index[n] = at as u16;
@@ -160,11 +166,7 @@ fn node_due(
                 left: progress.left - 1,
                 size,
                 due: Due::Body,
-                variables: progress.variables,
-                arrays: progress.arrays,
-                nodes: progress.nodes,
-                cells: progress.cells,
-                labels,
+                declared,
             }
         }
     }
@@ -182,8 +184,8 @@ fn body_at(
     ensures { λ r. ⌜ Turned (now (table .entry)) at progress r (now (index .exit)) (now (uses .exit)) ⌝ }
 {
     let left = progress.left;
-    let nodes = progress.nodes;
-    let labels = progress.labels;
+    let declared = progress.declared;
+    let nodes = declared.header.nodes;
     if nodes + 1 < left {
         return array_due(table, at, progress);
     }
@@ -197,17 +199,7 @@ fn body_at(
             &mut *uses,
         );
     }
-    done(tables::finish(
-        table,
-        &*index,
-        &*uses,
-        progress.variables,
-        progress.arrays,
-        nodes,
-        progress.cells,
-        labels,
-        at,
-    ))
+    done(tables::finish(table, &*index, &*uses, declared, at))
 }
 
 // The record that is due at an offset.

@@ -9,25 +9,16 @@ use crate::records::Due;
 use crate::uses;
 use crate::uses::Broken;
 use crate::walk;
-use awhile::Labelling;
+use awhile::Declarations;
 use awhile::MAX_NODES;
 use awhile::Refusal;
 
 // After the last record: 6, then 7.
-pub fn finish(
-    table: &[u8],
-    index: &[u16],
-    uses: &[u16],
-    variables: usize,
-    arrays: usize,
-    nodes: usize,
-    cells: usize,
-    labels: Labelling,
-    end: usize,
-) -> Read
-    requires { ⌜ (0 < nodes) × (nodes ≤ length (now index)) × (nodes ≤ length (now uses)) ⌝ }
-    ensures { λ r. ⌜ Finishes (now (table .entry)) (now (index .entry)) (now (uses .entry)) variables arrays nodes cells labels end r ⌝ }
+pub fn finish(table: &[u8], index: &[u16], uses: &[u16], declared: Declarations, end: usize) -> Read
+    requires { ⌜ (0 < declared .header .nodes) × (declared .header .nodes ≤ length (now index)) × (declared .header .nodes ≤ length (now uses)) ⌝ }
+    ensures { λ r. ⌜ Finishes (now (table .entry)) (now (index .entry)) (now (uses .entry)) declared end r ⌝ }
 {
+    let nodes = declared.header.nodes;
     let root = walk::sort_at(table, walk::offset_at(index, nodes - 1));
     if let Broken::At { node } = uses::find_broken(uses, nodes, root) {
         return Read::Refused {
@@ -41,14 +32,7 @@ pub fn finish(
             refusal: Refusal::ExtraBytes { at: end },
         };
     }
-    Read::Accepted {
-        variables,
-        arrays,
-        nodes,
-        cells,
-        labels,
-        end,
-    }
+    Read::Accepted { declared, end }
 }
 
 // The whole table, of any bytes.

@@ -1,26 +1,12 @@
 -- `flow_harden` answers what the reader refuses, and else writes the hardened form.
-use Prim.Native.Nat.{ℕ}
 use denote.Ref.{now}
-use mathlib.Core.Path.{_≡_}
 use Rattle.bytes_le.proofs.Numbers.{slice-bytes}
-use Rattle.awhile.specs.declared.Labelling.{Labelling}
-use Rattle.reader.specs.declared.Read.the-variants.{Accepted}
-use Rattle.flow.specs.Writes.{HardenReady}
 use Rattle.entries.specs.Writing.{hardenedIn, hardenEntry}
 use Rattle.entries.proofs.Hardened.{entry-hardens}
-use Rattle.flow.proofs.HardenedCalls.{reader-ready}
-use Rattle.flow.proofs.Reading.{read-refused, read-accepted}
+use Rattle.flow.proofs.Reading.{read-refused, read-accepted, reader-ready}
 use borrow.Author.Needs.{needs}
 use Rattle.flow.proofs.harden.flow_harden.Statement.{statement}
 use Rattle.flow.proofs.harden.flow_harden.Tie as tie
-
--- what the reader says where it accepts
-ready : (d : tie.After-read) (v a n c : ℕ) (l : Labelling) (e : ℕ) → d .read .result ≡ Accepted v a n c l e
-    → HardenReady (now (d .before .before .before .before .before .args .table)) (d .read .last .1 .0) v a n l
-ready d v a n c l e h = reader-ready (now (d .before .before .before .before .before .args .table)) (d .read .last .1 .0) (d .read .result) v a n c l e (d .read .ensures) h
-
-answer-hardened-requires : tie.Need-answer-hardened-requires
-answer-hardened-requires c κs = ready (c .before .before .before .before .before .before .before) _ _ _ _ _ _ (c .before .before .before .before .found2 .given .1)
 
 returns : tie.Need-returns
 unfolding hardenEntry
@@ -37,7 +23,7 @@ returns-2 c =
     let start = c .before .before .before .before .before .before .before .before .before .before .before .before .before .before .before .before .before in
     let table = now (start .args .table) in
     entry-hardens (slice-bytes table (c .before .before .before .before .before .before .before .before .before .before .before .before .before .before .before .before .shared-slice-known .given))
-    (read-accepted hardenedIn table (now (start .args .out)) (now (start .args .answer)) (c .before .before .before .before .before .before .before .before .before .before .before .before .read .last .1 .0) (ready (c .before .before .before .before .before .before .before .before .before .before .before .before) _ _ _ _ _ _ (c .before .before .before .before .before .before .before .before .before .found2 .given .1) .indexed) (c .before .before .before .before .answer-hardened .ensures))
+    (read-accepted hardenedIn table (now (start .args .out)) (now (start .args .answer)) (c .before .before .before .before .before .before .before .before .before .before .before .before .read .last .1 .0) (reader-ready (c .before .before .before .before .before .before .before .before .before .before .before .before .read .ensures) (c .before .before .before .before .before .before .before .before .before .found2 .given .1) .indexed) (c .before .before .before .before .answer-hardened .ensures))
 
 pub flow-harden-spec : {M : Type 1} → statement M
 flow-harden-spec =
@@ -49,7 +35,7 @@ flow-harden-spec =
     (λ c κs. search needs)
     (λ c. search needs)
     (λ c. search needs)
-    answer-hardened-requires
+    (λ c κs. reader-ready (c .before .before .before .before .before .before .before .read .ensures) (c .before .before .before .before .found2 .given .1))
     (λ c. search needs)
     returns
     (λ c. search needs)

@@ -1,15 +1,12 @@
 -- `read_and_run` runs a table that is accepted, and hands on the reader's refusal of any other.
-use Rattle.flow.proofs.Runs.{read-refused, read-accepted, read-done}
+use Rattle.flow.proofs.Reading.{reader-ready}
+use Rattle.flow.proofs.Runs.{read-refused, read-done}
 use borrow.Author.Needs.{needs}
 use Rattle.flow.proofs.machines.read_and_run.Statement.{statement}
 use Rattle.flow.proofs.machines.read_and_run.Tie as tie
 
-run-read-requires : tie.Need-run-read-requires
-run-read-requires c κs = read-accepted _ _ _ _ _ _ _ _ _ (c .before .before .before .before .before .before .before .before .before .read .ensures) (c .before .before .before .before .before .before .found2 .given .1)
-
 returns-2 : tie.Need-returns-2
-returns-2 c =
-    read-done _ _ _ _ _ _ _ _ (read-accepted _ _ _ _ _ _ _ _ _ (c .before .before .before .before .before .before .before .before .before .before .before .before .before .before .before .before .before .before .read .ensures) (c .before .before .before .before .before .before .before .before .before .before .before .before .before .before .before .found2 .given .1) .indexed) (c .before .before .before .before .before .before .before .before .run-read .ensures)
+returns-2 c = read-done _ _ _ _ _ _ _ _ (reader-ready (c .before .before .before .before .before .before .before .before .before .before .before .before .before .before .before .before .before .before .read .ensures) (c .before .before .before .before .before .before .before .before .before .before .before .before .before .before .before .found2 .given .1) .indexed) (c .before .before .before .before .before .before .before .before .run-read .ensures)
 
 pub read-and-run-spec : {M : Type 1} → statement M
 read-and-run-spec =
@@ -20,7 +17,7 @@ read-and-run-spec =
     (λ c. search needs)
     (λ c. search needs)
     (λ c. search needs)
-    run-read-requires
+    (λ c κs. reader-ready (c .before .before .before .before .before .before .before .before .before .read .ensures) (c .before .before .before .before .before .before .found2 .given .1))
     (λ c. read-refused _ _ _ _ _ _ _ _ (c .before .before .before .before .read .ensures) (c .before .found .given .1))
     (λ c. search needs)
     (λ c. search needs)

@@ -8,6 +8,7 @@ use lib.ListN.{length}
 use lib.Seq.{sets}
 use borrow.Author.Tests.{leb-true, leb-false}
 use Rattle.reader.specs.Index.{tableOf}
+use Rattle.reader.proofs.Ready.{ready-nodes}
 use Rattle.labels.specs.Sheet.{sheetBytes}
 use Rattle.entries.specs.Answers.{answered}
 use Rattle.sheets.specs.Rows.{sheetIn}
@@ -26,7 +27,7 @@ module _ (d : tie.After-label-program) where
   sheet-is = labelled-sheet (d .label-program .ensures .1) (d .label-program .ensures .0)
 
 write-sheet-requires : tie.Need-write-sheet-requires
-write-sheet-requires c κs = (search needs, c .before .before .before .before .before .before .before .before .before .before .before .before .before .before .before .before .before .before .before .before .before .before .pre .isNodes, leb-true _ _ (sym (c .before .before .before .before .sheet-fits .ensures (c .before .before .before .before .before .before .before .before .before .label-program .result)) ∙ c .before .before .before .if1 .taken))
+write-sheet-requires c κs = (search needs, ready-nodes (c .before .before .before .before .before .before .before .before .before .before .before .before .before .before .before .before .before .before .before .before .before .before .pre .ready), leb-true _ _ (sym (c .before .before .before .before .sheet-fits .ensures (c .before .before .before .before .before .before .before .before .before .label-program .result)) ∙ c .before .before .before .if1 .taken))
 
 returns : tie.Need-returns
 returns c =
@@ -51,9 +52,9 @@ pub sheet-in-spec : {M : Type 1} → statement M
 sheet-in-spec =
     tie.close
     (tie.spec
-    (λ c κs. search needs)
-    (λ c κs. search needs)
-    (λ c κs. search needs)
+    (λ c κs. let pre = c .before .before .before .before .before .before .before .pre in (pre .ready .indexed, ready-nodes (pre .ready), pre .namedFit))
+    (λ c κs. (search needs, ready-nodes (c .before .before .before .before .before .before .before .before .before .before .before .before .pre .ready)))
+    (λ c κs. (search needs, ready-nodes (c .before .before .before .before .before .before .before .before .before .before .before .before .before .before .before .before .before .pre .ready)))
     write-sheet-requires
     (λ c κs. search needs)
     (λ c. search needs)

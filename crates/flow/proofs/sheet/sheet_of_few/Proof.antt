@@ -1,8 +1,6 @@
 -- `sheet_of_few` has memory for few nodes.
-use Prim.Native.Nat.{_*_, _≤_}
 use native.Mathlib.Omega.{arith}
-use denote.Ref.{now}
-use lib.ListN.{length, replicate, length-replicate}
+use Rattle.reader.proofs.Ready.{ready-nodes}
 use Rattle.flow.proofs.Reading.{label-ready}
 use borrow.Author.Needs.{needs}
 use Rattle.flow.proofs.sheet.sheet_of_few.Statement.{statement}
@@ -11,8 +9,8 @@ use Rattle.flow.proofs.sheet.sheet_of_few.Tie as tie
 sheet-in-requires : tie.Need-sheet-in-requires
 sheet-in-requires c κs =
     let start = c .before .before .before .before .before .before .before .before in
-    let few = start .pre .2 in
-    label-ready 512 1024 (start .pre .0) (start .pre .1) (omega (arith, start .pre .1, few)) (omega (arith, start .pre .1, few))
+    let same = ready-nodes (start .pre .0) in
+    label-ready 512 1024 (start .pre .0) (omega (arith, same, start .pre .1)) (omega (arith, same, start .pre .1))
 
 pub sheet-of-few-spec : {M : Type 1} → statement M
 sheet-of-few-spec =

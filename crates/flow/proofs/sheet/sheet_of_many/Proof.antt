@@ -1,8 +1,6 @@
 -- `sheet_of_many` has memory for all nodes that a table can have.
-use Prim.Native.Nat.{_*_, _≤_}
 use native.Mathlib.Omega.{arith}
 use denote.Ref.{now}
-use lib.ListN.{length, replicate, length-replicate}
 use Rattle.bytes_le.proofs.Numbers.{slice-bytes}
 use Rattle.reader.proofs.Index.{indexed-few}
 use Rattle.flow.proofs.Reading.{label-ready}
@@ -14,8 +12,8 @@ sheet-in-requires : tie.Need-sheet-in-requires
 sheet-in-requires c κs =
     let start = c .before .before .before .before .before .before .before .before in
     let table = now (start .args .table) in
-    let few = indexed-few table (now (start .args .index)) (slice-bytes table (c .before .before .before .before .before .before .before .shared-slice-known .given)) (start .pre .0) in
-    label-ready 4096 8192 (start .pre .0) (start .pre .1) (omega (arith, start .pre .1, few)) (omega (arith, start .pre .1, few))
+    let few = indexed-few table (now (start .args .index)) (slice-bytes table (c .before .before .before .before .before .before .before .shared-slice-known .given)) (start .pre .indexed) in
+    label-ready 4096 8192 (start .pre) (omega (arith, few)) (omega (arith, few))
 
 pub sheet-of-many-spec : {M : Type 1} → statement M
 sheet-of-many-spec =

@@ -9,84 +9,56 @@ use denote.Ref.{now}
 use borrow.Author.Needs.{needs}
 use Rattle.bytes_le.proofs.Numbers.{slice-bytes}
 use Rattle.awhile.specs.Encoding.{countBytes}
+use Rattle.awhile.specs.Tables.{countsStart}
 use Rattle.reader.specs.Index.{tableOf}
+use Rattle.reader.proofs.Ready.{header-arrays, header-few-arrays}
 use Rattle.hardener.proofs.TableWrites.{counts-step}
 use Rattle.hardener.proofs.tables.put_counts.Statement.{statement}
 use Rattle.hardener.proofs.tables.put_counts.Tie as tie
 
 abbrev Inv-loop : tie.InvT-loop
-Inv-loop table arrays out₀ a₀ out a =
-    (a ≤ arrays) × (length out ≡ length out₀) × (out ≡ sets out₀ 20 (flatMap countBytes (take a (tableOf table .counts))))
+Inv-loop table header out₀ a₀ out a =
+    (a ≤ header .arrays) × (length out ≡ length out₀) × (out ≡ sets out₀ (countsStart header) (flatMap countBytes (take a (tableOf table .counts))))
 
 abbrev μ-loop : tie.MeasureT-loop
-μ-loop table arrays out₀ a₀ out a = arrays - a
+μ-loop table header out₀ a₀ out a = header .arrays - a
 
 loop-holds : tie.Need-loop-holds Inv-loop μ-loop
 unfolding flatMap
-loop-holds c =
-    (omega arith, refl, refl)
+loop-holds c = (omega arith, refl, refl)
 
-mul-at : tie.Need-mul-at Inv-loop μ-loop
-mul-at c =
-    search needs
-
-add-at : tie.Need-add-at Inv-loop μ-loop
-add-at c =
-    search needs
+count-start-requires : tie.Need-count-start-requires Inv-loop μ-loop
+count-start-requires c κs = omega (arith, header-few-arrays (c .before .before .before .before .before .pre .0) (slice-bytes _ (c .before .before .before .before .shared-slice-known .given)))
 
 add-u16-at : tie.Need-add-u16-at Inv-loop μ-loop
-add-u16-at c =
-    search needs
-
-u16-at-requires : tie.Need-u16-at-requires Inv-loop μ-loop
-u16-at-requires c κs =
-    tt
+add-u16-at c = omega (arith, header-few-arrays (c .before .before .before .before .before .before .pre .0) (slice-bytes _ (c .before .before .before .before .before .shared-slice-known .given)), c .count-start .ensures)
 
 sub-put-record : tie.Need-sub-put-record Inv-loop μ-loop
-sub-put-record c =
-    omega (arith, c .before .before .loop .inv .1, c .before .before .before .before .before .pre .1 .2, c .before .loop-test)
+sub-put-record c = omega (arith, c .before .before .before .before .loop .inv .1, c .before .before .before .before .before .before .before .pre .1, c .before .count-start .ensures)
 
 part-put-record-start : tie.Need-part-put-record-start Inv-loop μ-loop
-part-put-record-start c =
-    omega (arith, c .before .before .loop .inv .1, c .before .before .before .before .before .pre .1 .2, c .before .loop-test)
-
-part-put-record-end : tie.Need-part-put-record-end Inv-loop μ-loop
-part-put-record-end c =
-    search needs
+part-put-record-start c = omega (arith, c .before .before .before .before .loop .inv .1, c .before .before .before .before .before .before .before .pre .1, c .before .count-start .ensures)
 
 put-record-requires : tie.Need-put-record-requires Inv-loop μ-loop
-put-record-requires c κs =
-    simp (length-take, length-drop) (omega (arith, c .before .before .before .loop .inv .1, c .before .before .before .before .before .before .pre .1 .2))
-
-add-a : tie.Need-add-a Inv-loop μ-loop
-add-a c =
-    search needs
-
-loop-less : tie.Need-loop-less Inv-loop μ-loop
-loop-less c =
-    search needs
+put-record-requires c κs = simp (length-take, length-drop) (omega (arith, c .before .before .before .before .before .loop .inv .1, c .before .before .before .before .before .before .before .before .pre .1, c .before .before .count-start .ensures))
 
 loop-again : tie.Need-loop-again Inv-loop μ-loop
 loop-again c =
-    let start = c .before .before .before .before .before .before .before .before .before in
-    let loop = c .before .before .before .before .before .before .loop in
+    let start = c .before .before .before .before .before .before .before .before .before .before .before in
+    let loop = c .before .before .before .before .before .before .before .before .loop in
     let table = now (start .args .table) in
     let step =
-    counts-step table (slice-bytes table (c .before .before .before .before .before .before .before .before .shared-slice-known .given)) (start .pre .0) (loop .a) (c .before .before .before .before .u16-at .result) (omega (arith, start .pre .1 .0))
-    (c .before .before .before .before .u16-at .ensures .0) (now (start .args .out)) (loop .out) (c .before .before .put-record .last .0) (omega (arith, start .pre .1 .0, start .pre .1 .2)) (loop .inv .2)
+    counts-step (slice-bytes table (c .before .before .before .before .before .before .before .before .before .before .shared-slice-known .given)) (start .pre .0) (loop .a) (c .before .before .before .before .before .count-start .result) (c .before .before .before .before .u16-at .result) (c .before .before .before .before .before .before .if1 .taken) (c .before .before .before .before .before .count-start .ensures)
+    (c .before .before .before .before .u16-at .ensures .0) (now (start .args .out)) (loop .out) (c .before .before .put-record .last .0) (start .pre .1) (loop .inv .2)
     (c .before .before .put-record .ensures .0) in
-    (omega arith, ap length step ∙ length-sets (now (start .args .out)) 20 (flatMap countBytes (take (loop .a + 1) (tableOf table .counts))), step)
-
-same-length : tie.Need-same-length Inv-loop μ-loop
-same-length c =
-    c .before .loop .inv .1
+    (omega arith, ap length step ∙ length-sets (now (start .args .out)) (countsStart (start .args .header)) (flatMap countBytes (take (loop .a + 1) (tableOf table .counts))), step)
 
 returns : tie.Need-returns Inv-loop μ-loop
 returns c =
-    let start = c .before .before .before .before in
-    let loop = c .before .loop in
+    let start = c .before .before .before .before .before in
+    let loop = c .before .before .loop in
     let cs = tableOf (now (start .args .table)) .counts in
-    loop .inv .2 ∙ ap (λ l. sets (now (start .args .out)) 20 (flatMap countBytes l)) (take-all (loop .a) cs (omega (arith, start .pre .1 .0)))
+    loop .inv .2 ∙ ap (λ l. sets (now (start .args .out)) (countsStart (start .args .header)) (flatMap countBytes l)) (take-all (loop .a) cs (omega (arith, header-arrays (start .pre .0))))
 
 pub put-counts-spec : {M : Type 1} → statement M
 put-counts-spec =
@@ -95,16 +67,15 @@ put-counts-spec =
     Inv-loop
     μ-loop
     loop-holds
-    mul-at
-    add-at
+    count-start-requires
     add-u16-at
-    u16-at-requires
+    (λ c κs. tt)
     sub-put-record
     part-put-record-start
-    part-put-record-end
+    (λ c. search needs)
     put-record-requires
-    add-a
-    loop-less
+    (λ c. search needs)
+    (λ c. search needs)
     loop-again
-    same-length
+    (λ c. c .before .before .loop .inv .1)
     returns)

@@ -10,8 +10,8 @@ use Rattle.hardener.proofs.tables.put_header.Tie as tie
 returns : tie.Need-returns
 unfolding headerBytes le
 returns c =
-    let start = c .before .before .before .before .before .before .before .before .before .before .before .before .before .before .before .before .before .before .before .before .before .before .before .before .before in
-    c .before .before .put164 .ensures ∙ ap (λ l. sets l 8 (le 2 (start .args .nodes))) (c .before .before .before .before .before .before .put82 .ensures ∙ ap (λ l. sets l 7 (le 1 (start .args .arrays))) (c .before .before .before .before .before .before .before .before .before .before .put8 .ensures ∙ ap (λ l. sets l 6 (le 1 (start .args .variables))) (c .before .before .before .before .before .before .before .before .before .before .before .before .before .before .put163 .ensures ∙ ap (λ l. sets l 4 (le 2 (1))) (c .before .before .before .before .before .before .before .before .before .before .before .before .before .before .before .before .before .before .put162 .ensures ∙ ap (λ l. sets l 2 (le 2 (1))) (c .before .before .before .before .before .before .before .before .before .before .before .before .before .before .before .before .before .before .before .before .before .before .put16 .ensures)))))
+    let header = c .before .before .before .before .before .before .before .before .before .before .before .before .before .before .before .before .before .before .before .before .before .before .before .before .before .args .header in
+    c .before .before .put164 .ensures ∙ ap (λ l. sets l 8 (le 2 (header .nodes))) (c .before .before .before .before .before .before .put82 .ensures ∙ ap (λ l. sets l 7 (le 1 (header .arrays))) (c .before .before .before .before .before .before .before .before .before .before .put8 .ensures ∙ ap (λ l. sets l 6 (le 1 (header .variables))) (c .before .before .before .before .before .before .before .before .before .before .before .before .before .before .put163 .ensures ∙ ap (λ l. sets l 4 (le 2 1)) (c .before .before .before .before .before .before .before .before .before .before .before .before .before .before .before .before .before .before .put162 .ensures ∙ ap (λ l. sets l 2 (le 2 1)) (c .before .before .before .before .before .before .before .before .before .before .before .before .before .before .before .before .before .before .before .before .before .before .put16 .ensures)))))
 
 pub put-header-spec : {M : Type 1} → statement M
 put-header-spec =

@@ -1,26 +1,34 @@
 -- `count_of` reads the count from the array's record, and has 0 for an array that is not declared.
-use Rattle.interpreter.proofs.CellPlaces.{declared-count, undeclared-count, arrays-few}
-use Rattle.bytes_le.proofs.Numbers.{slice-bytes}
 use native.Mathlib.Omega.{arith}
+use mathlib.Core.Path.{sym, ap, _∙_}
+use Prim.Native.Nat.{_+_}
+use denote.Ref.{now}
+use Rattle.bytes_le.specs.Numbers.{leAt}
+use Rattle.bytes_le.proofs.Numbers.{slice-bytes}
+use Rattle.reader.proofs.Ready.{header-few-arrays, header-count}
+use Rattle.interpreter.proofs.CellPlaces.{undeclared-count}
 use borrow.Author.Needs.{needs}
 use Rattle.interpreter.proofs.places.count_of.Statement.{statement}
 use Rattle.interpreter.proofs.places.count_of.Tie as tie
 
-mul-u16-at : tie.Need-mul-u16-at
-mul-u16-at c = omega (arith, arrays-few _ _ (c .before .before .args .a) (c .before .before .pre) (slice-bytes _ (c .before .shared-slice-known .given)))
+count-start-requires : tie.Need-count-start-requires
+count-start-requires c κs = omega (arith, header-few-arrays (c .before .before .before .pre) (slice-bytes _ (c .before .before .shared-slice-known .given)))
 
 add-u16-at : tie.Need-add-u16-at
-add-u16-at c = omega (arith, arrays-few _ _ (c .before .before .args .a) (c .before .before .pre) (slice-bytes _ (c .before .shared-slice-known .given)))
+add-u16-at c = omega (arith, header-few-arrays (c .before .before .before .before .pre) (slice-bytes _ (c .before .before .before .shared-slice-known .given)), c .count-start .ensures)
 
 returns : tie.Need-returns
-returns c = declared-count _ _ _ (c .before .before .before .pre) (slice-bytes _ (c .before .before .shared-slice-known .given)) _ (c .before .if1 .taken) (c .u16-at .ensures .0)
+returns c =
+    let start = c .before .before .before .before .before in
+    c .u16-at .ensures .0 ∙ ap (λ at. leAt 2 (now (start .args .table)) (at + 4)) (c .before .count-start .ensures)
+    ∙ sym (header-count (start .pre) (slice-bytes _ (c .before .before .before .before .shared-slice-known .given)) (start .args .a) (c .before .before .if1 .taken))
 
 pub count-of-spec : {M : Type 1} → statement M
 count-of-spec =
     tie.close
     (tie.spec
-    mul-u16-at
+    count-start-requires
     add-u16-at
     (λ c κs. search needs)
     returns
-    (λ c. undeclared-count _ _ _ (c .before .before .pre) (c .if1 .left)))
+    (λ c. undeclared-count (c .before .before .before .pre) _ (c .if1 .left)))

@@ -18,17 +18,17 @@ total-next : (table : List ℕ) (a : ℕ) → total (take (a + 1) (tableOf table
 total-next table a = rw add-one (starts-next (tableOf table .counts) a)
 
 abbrev Inv-loop : tie.InvT-loop
-Inv-loop table arrays starts₀ sum₀ a₀ starts sum a =
+Inv-loop table header starts₀ sum₀ a₀ starts sum a =
     (a ≤ 16) × (sum ≡ total (take a (tableOf table .counts))) × StartsTo (tableOf table .counts) starts a
 
 abbrev μ-loop : tie.MeasureT-loop
-μ-loop table arrays starts₀ sum₀ a₀ starts sum a = 16 - a
+μ-loop table header starts₀ sum₀ a₀ starts sum a = 16 - a
 
 -- the sum with the next count is at most the cells that a table can have
 sum-small : (c : tie.After-count-of Inv-loop μ-loop) → c .before .before .loop .sum + c .count-of .result ≤ 16384
 sum-small c =
     let start = c .before .before .before .before .before in
-    let next = starts-small _ _ (c .before .before .loop .a + 1) (start .pre .0) (slice-bytes _ (c .before .before .before .before .shared-slice-known .given)) in
+    let next = starts-small (start .pre .0) (slice-bytes _ (c .before .before .before .before .shared-slice-known .given)) (c .before .before .loop .a + 1) in
     omega (arith, total-next (start .args .table .now) (c .before .before .loop .a), c .count-of .ensures, c .before .before .loop .inv .1)
 
 slice-write-starts : tie.Need-slice-write-starts Inv-loop μ-loop
@@ -78,7 +78,7 @@ returns : tie.Need-returns Inv-loop μ-loop
 returns c =
     let start = c .before .before .before .before in
     let last : c .before .loop .a ≡ 16 = omega arith in
-    starts-all _ _ (counts-few _ _ 0 (start .pre .0) (slice-bytes _ (c .before .before .before .shared-slice-known .given))) (rw last at (c .before .loop .inv .2))
+    starts-all _ _ (counts-few (start .pre .0) (slice-bytes _ (c .before .before .before .shared-slice-known .given))) (rw last at (c .before .loop .inv .2))
 
 pub find-starts-spec : {M : Type 1} → statement M
 find-starts-spec =

@@ -3,9 +3,10 @@ use mathlib.Core.Bool.{Bool, true, false}
 use mathlib.Core.Path.{_≡_, sym, _∙_}
 use denote.Ref.{now}
 use Rattle.awhile.specs.Refusals.{got, check}
-use Rattle.awhile.specs.Tables.{Header, readHeader}
+use Rattle.awhile.specs.Tables.{readHeader}
 use Rattle.reader.specs.Reader.{headerAs}
 use Rattle.reader.proofs.Declaring.{header-refused, header-tested}
+use Rattle.awhile.specs.declared.Header.{Header}
 use Rattle.awhile.specs.declared.Refusal.the-variants.{BeyondLimit}
 use borrow.Author.Needs.{needs}
 use Rattle.reader.proofs.declarations.read_header.Statement.{statement}

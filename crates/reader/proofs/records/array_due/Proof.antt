@@ -9,8 +9,8 @@ use Rattle.reader.proofs.records.array_due.Statement.{statement}
 use Rattle.reader.proofs.records.array_due.Tie as tie
 
 -- the cells stay within the limit
-add-t12 : tie.Need-add-t12
-add-t12 c =
+add-t14 : tie.Need-add-t14
+add-t14 c =
     let read = c .before .before .before .before .before in
     omega (arith, count-fits _ _ _ _ (count-got _ _ (sym (read .read-count .ensures) ∙ c .before .before .before .count .given .1)) .total)
 
@@ -31,6 +31,6 @@ array-due-spec =
     (λ c κs. search needs)
     (λ c. search needs)
     (λ c. search needs)
-    add-t12
+    add-t14
     returns
     returns-2)

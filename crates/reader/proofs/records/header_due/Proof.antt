@@ -8,12 +8,12 @@ use Rattle.reader.proofs.records.header_due.Statement.{statement}
 use Rattle.reader.proofs.records.header_due.Tie as tie
 
 -- so many records fit a machine's number
-add-t10 : tie.Need-add-t10
-add-t10 c = omega (arith, header-limits _ _ _ _ (sym (c .before .variables .given .1) ∙ c .before .before .before .read-header .ensures) .arraysFit)
+add-t8 : tie.Need-add-t8
+add-t8 c = omega (arith, header-limits _ _ (sym (c .before .before .header .given .1) ∙ c .before .before .before .before .read-header .ensures) .arraysFit)
 
-add-t11 : tie.Need-add-t11
-add-t11 c =
-    let fit = header-limits _ _ _ _ (sym (c .before .variables .given .1) ∙ c .before .before .before .read-header .ensures) in
+add-t9 : tie.Need-add-t9
+add-t9 c =
+    let fit = header-limits _ _ (sym (c .before .before .before .header .given .1) ∙ c .before .before .before .before .before .read-header .ensures) in
     omega arith
 
 returns : tie.Need-returns
@@ -22,7 +22,7 @@ returns c = c .done .ensures ∙ ap headerDue (sym (c .before .before .refusal .
 
 returns-2 : tie.Need-returns-2
 unfolding headerDue
-returns-2 c = ap headerDue (sym (c .before .variables .given .1) ∙ c .before .before .before .read-header .ensures)
+returns-2 c = ap headerDue (sym (c .before .before .before .header .given .1) ∙ c .before .before .before .before .before .read-header .ensures)
 
 pub header-due-spec : {M : Type 1} → statement M
 header-due-spec =
@@ -32,7 +32,7 @@ header-due-spec =
     (λ c. search needs)
     (λ c κs. search needs)
     (λ c. search needs)
-    add-t10
-    add-t11
+    add-t8
+    add-t9
     returns
     returns-2)

@@ -7,11 +7,11 @@ use Rattle.reader.proofs.records.labels_due.Tie as tie
 
 returns : tie.Need-returns
 unfolding labelsDue
-returns c = c .done .ensures ∙ ap (labelsDue _) (sym (c .before .before .refusal .given .1) ∙ c .before .before .before .before .read-labels .ensures _)
+returns c = c .done .ensures ∙ ap (labelsDue _) (sym (c .before .before .refusal .given .1) ∙ c .before .before .before .before .read-labels .ensures)
 
 returns-2 : tie.Need-returns-2
 unfolding labelsDue
-returns-2 c = ap (labelsDue _) (sym (c .before .before .labels .given .1) ∙ c .before .before .before .before .read-labels .ensures _)
+returns-2 c = ap (labelsDue _) (sym (c .before .before .labels .given .1) ∙ c .before .before .before .before .read-labels .ensures)
 
 pub labels-due-spec : {M : Type 1} → statement M
 labels-due-spec =

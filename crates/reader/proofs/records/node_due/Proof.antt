@@ -9,35 +9,35 @@ use Rattle.reader.proofs.records.node_due.Statement.{statement}
 use Rattle.reader.proofs.records.node_due.Tie as tie
 
 read-node-requires : tie.Need-read-node-requires
-read-node-requires c κs = omega (arith, offset-small _ _ _ _ _ _ _ _ (c .before .before .before .before .before .pre .left))
+read-node-requires c κs = omega (arith, offset-small _ _ _ _ _ _ (c .before .before .before .before .before .before .pre .left))
 
 cast-index : tie.Need-cast-index
-cast-index c = omega (arith, offset-small _ _ _ _ _ _ _ _ (c .before .before .before .before .before .before .before .before .before .pre .left))
+cast-index c = omega (arith, offset-small _ _ _ _ _ _ (c .before .before .before .before .before .before .before .before .before .before .pre .left))
 
 count-fields-requires : tie.Need-count-fields-requires
 count-fields-requires c κs =
     let read = c .before .before .before .before in
-    let known = read .before .before .before .before .before in
+    let known = read .before .before .before .before .before .before in
     let k = known .before .pre in (
-      children-inside _ _ _ _ _ _ _ _ (k .left) (k .more) (slice-bytes _ (known .shared-slice-known .given)) _ _ (rw (c .before .before .size .given .1) at (read .read-node .ensures)) _ (omega arith),
-      uses-small _ _ _ _ _ _ _ _ (k .left) (k .few .0),
+      children-inside _ _ _ _ _ _ (k .left) (k .more) (slice-bytes _ (known .shared-slice-known .given)) _ _ (rw (c .before .before .size .given .1) at (read .read-node .ensures)) _ (omega arith),
+      uses-small _ _ _ _ _ _ (k .left) (k .few .0),
     )
 
 returns : tie.Need-returns
 returns c =
-    let k = c .before .before .before .before .before .before .before .before .before .before .pre in
-    nodeRefused _ (nodes-stop _ _ _ _ _ _ _ _ (k .left) (k .more) _ (rw (c .before .before .refusal .given .1) at (c .before .before .before .before .read-node .ensures))) (c .done .ensures)
+    let k = c .before .before .before .before .before .before .before .before .before .before .before .pre in
+    nodeRefused _ (nodes-stop _ _ _ _ _ _ (k .left) (k .more) _ (rw (c .before .before .refusal .given .1) at (c .before .before .before .before .read-node .ensures))) (c .done .ensures)
 
 returns-2 : tie.Need-returns-2
 unfolding nodeDue
 returns-2 c =
     let matched = c .before .before .before .before .before .before in
     let read = matched .before .before in
-    let known = read .before .before .before .before .before in
+    let known = read .before .before .before .before .before .before in
     let k = known .before .pre in
     nodeRead (matched .size .given .0 .0) refl
     (rw (c .before .before .before .count-fields .ensures)
-    (nodes-more _ _ _ _ _ _ _ _ (k .left) (k .more) (slice-bytes _ (known .shared-slice-known .given)) _ _ (rw (matched .size .given .1) at (read .read-node .ensures))
+    (nodes-more _ _ _ _ _ _ (k .left) (k .more) (slice-bytes _ (known .shared-slice-known .given)) _ _ (rw (matched .size .given .1) at (read .read-node .ensures))
     (omega arith) (omega arith)))
 
 pub node-due-spec : {M : Type 1} → statement M

@@ -7,20 +7,20 @@ use Rattle.reader.proofs.tables.finish.Tie as tie
 returns : tie.Need-returns
 returns c =
     let rooted = c .before .before .before .before .before in
-    finish-broken _ _ _ _ _ _ _ _ _ _ (rooted .before .before .before .before .before .pre .0) (rw (rooted .before .offset-at .ensures .0) at (rooted .sort-at .ensures)) _ _
+    finish-broken _ _ _ _ _ _ (rooted .before .before .before .before .before .pre .0) (rw (rooted .before .offset-at .ensures .0) at (rooted .sort-at .ensures)) _ _
     (rw (c .before .before .node .given .1) at (c .before .before .before .before .find-broken .ensures)) (c .offset-at2 .ensures .0)
 
 returns-2 : tie.Need-returns-2
 returns-2 c =
     let rooted = c .before .before .before .before in
-    finish-extra _ _ _ _ _ _ _ _ _ _ (rooted .before .before .before .before .before .pre .0) (rw (rooted .before .offset-at .ensures .0) at (rooted .sort-at .ensures))
+    finish-extra _ _ _ _ _ _ (rooted .before .before .before .before .before .pre .0) (rw (rooted .before .offset-at .ensures .0) at (rooted .sort-at .ensures))
     (rw (c .before .enum-told .given .1) at (c .before .before .before .find-broken .ensures)) (c .if1 .taken)
 
 returns-3 : tie.Need-returns-3
 returns-3 c =
     let rooted = c .before .before .before .before in
     let start = rooted .before .before .before .before .before in
-    finish-accepted _ _ _ _ _ _ _ _ _ _ (start .pre .0) (rw (rooted .before .offset-at .ensures .0) at (rooted .sort-at .ensures))
+    finish-accepted _ _ _ _ _ _ (start .pre .0) (rw (rooted .before .offset-at .ensures .0) at (rooted .sort-at .ensures))
     (rw (c .before .enum-told .given .1) at (c .before .before .before .find-broken .ensures)) (c .if1 .left) (start .pre .1)
 
 pub finish-spec : {M : Type 1} → statement M
