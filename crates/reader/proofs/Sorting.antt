@@ -1,9 +1,9 @@
 -- Sorts and fields told apart: what the other way of a `let .. else` knows.
-use Prim.Native.Nat.{ℕ}
+use Prim.Native.Nat.{ℕ, _+_, _≤_, _<_}
 use native.Mathlib.Omega.{arith}
 use mathlib.Core.Bool.{Bool, true, false, _&&_, and-true}
 use mathlib.Core.Logic.{⊎-elim}
-use mathlib.Core.Path.{_≡_, refl, sym, _∙_}
+use mathlib.Core.Path.{_≡_, refl, sym, ap, _∙_}
 use mathlib.Core.List.{List, [], _∷_}
 use lib.ListN.{length, getD}
 use borrow.Author.Tests.{ltb-true}
@@ -13,7 +13,7 @@ use Rattle.awhile.specs.Lists.{all}
 use Rattle.awhile.specs.Refusals.{refused, got, check}
 use Rattle.awhile.specs.Nodes.{Field, word, child, form, sizeOf, sortOf, decodeAt, fieldInRange, inRange, sameSort, fieldSorted, sorted, fieldChildren}
 use Rattle.awhile.specs.Tables.{framed, readNode}
-use Rattle.reader.specs.Reader.{checkedAs, tested, firstRefusal, fieldOf, fieldsOf, NodeAs, passedNode, wholeAs, SortAt, SortsThen, RecordChecked, NodeChecked}
+use Rattle.reader.specs.Reader.{checkedAs, tested, firstRefusal, fieldOf, fieldsOf, NodeAs, passedNode, wholeAs, Heads, ChildThere, SortAt, SortsThen, RecordChecked, NodeChecked}
 use Rattle.awhile.proofs.Lists.{all-head, all-tail, all-cons}
 use Rattle.awhile.proofs.Cases.{node-known, node-unknown}
 use Rattle.awhile.specs.declared.Sort.{Sort}
@@ -122,24 +122,51 @@ module _ (vs arrs n at : ℕ) where
       ranges-all (firstRefusal a (tested (fieldInRange vs arrs n f) (OutOfRange at))) fs
       ∙ tests-joined a (fieldInRange vs arrs n f) (all (fieldInRange vs arrs n) fs) (OutOfRange at)
 
+-- ---- the children that fields name
+-- each stands in the index
+abbrev pub AllThere : (s index : List ℕ) → List Field → Type 0
+AllThere s index [] = Unit {0}
+AllThere s index (f ∷ fs) = ChildThere s index f × AllThere s index fs
+
+module _ (s index : List ℕ) (vs arrs n at : ℕ) (h : Heads s index n) where
+  -- a child in range is one of the nodes before
+  child-there : (f : Field) → fieldInRange vs arrs n f ≡ true → ChildThere s index f
+  unfolding fieldInRange
+  child-there f ranged =
+      record {
+        there = λ sort node e.
+            let below = ltb-true node n (ap (fieldInRange vs arrs n) (sym e) ∙ ranged) in
+            (omega (arith, h .long, below), h .whole node below);
+      }
+
+  all-there : (fs : List Field) → all (fieldInRange vs arrs n) fs ≡ true → AllThere s index fs
+  all-there [] e = tt
+  all-there (f ∷ fs) e = (child-there f (all-head (fieldInRange vs arrs n) f fs e), all-there fs (all-tail (fieldInRange vs arrs n) f fs e))
+
+  -- where nothing was refused, all are
+  pub fields-there : (a ranges : Checked) (fs : List Field) → ranges ≡ rangesThen vs arrs n at a fs → ranges ≡ Passed → AllThere s index fs
+  fields-there a ranges fs g p =
+      let range = all (fieldInRange vs arrs n) fs in
+      all-there fs (test-passed range (OutOfRange at) (second-passed a (tested range (OutOfRange at)) (sym (ranges-all vs arrs n at a fs) ∙ sym g ∙ p)))
+
 -- ---- all sorts
 module _ (s index : List ℕ) (at : ℕ) where
   pub refused-then : (earlier : Checked) (fs : List Field) (r : Refusal) → earlier ≡ Refused r → SortsThen s index at earlier fs earlier
-  refused-then earlier fs r e = record { isThen = λ vs arrs ns leads ranged. refused-first earlier _ r e }
+  refused-then earlier fs r e = record { isThen = λ vs arrs ns leads ranged. refused-first earlier _ r e; passed = λ p. p }
 
   -- no fields leave it as it was
   pub nothing-then : (earlier : Checked) → SortsThen s index at earlier [] earlier
   unfolding all
-  nothing-then earlier = record { isThen = λ vs arrs ns leads ranged. test-true earlier (WrongSort at) }
+  nothing-then earlier = record { isThen = λ vs arrs ns leads ranged. test-true earlier (WrongSort at); passed = λ p. p }
 
   pub word-then : (earlier : Checked) (n : ℕ) → SortsThen s index at earlier (word n ∷ []) earlier
   unfolding all fieldSorted
-  word-then earlier n = record { isThen = λ vs arrs ns leads ranged. test-true earlier (WrongSort at) }
+  word-then earlier n = record { isThen = λ vs arrs ns leads ranged. test-true earlier (WrongSort at); passed = λ p. p }
 
   -- a field that names no child passes
   pub none-then : (earlier : Checked) (f : FieldRead) → earlier ≡ Passed → OneOf (0 ∷ 1 ∷ 2 ∷ []) (tagOf field.the-type f) → SortsThen s index at earlier (fieldOf f ∷ []) Passed
   unfolding all checkedAs check firstRefusal
-  none-then earlier f e other = record { isThen = λ vs arrs ns leads ranged. rw (e, not-child f other ns) }
+  none-then earlier f e other = record { isThen = λ vs arrs ns leads ranged. rw (e, not-child f other ns); passed = λ p. e }
 
   -- a child whose record is found by the index passes where it is of the wanted sort
   pub child-then : (earlier : Checked) (wanted found : Sort) (node : ℕ) (a : Checked) → earlier ≡ Passed → SortAt s (getD index node 0) found
@@ -151,6 +178,7 @@ module _ (s index : List ℕ) (at : ℕ) where
             let below = ltb-true node (length ns) (all-head (fieldInRange vs arrs (length ns)) (child wanted node) [] (ranged passed)) in
             let same : found ≡ sortOf (getD ns node Skip) = there .isSort (getD ns node Skip) (leads .decoded node below) in
             rw (passed, and-true, ← same) e;
+        passed = λ p. passed;
       }
 
   -- a field is checked before the others
@@ -164,6 +192,7 @@ module _ (s index : List ℕ) (at : ℕ) where
             let one : a ≡ firstRefusal earlier (tested (all (fieldSorted ns) (f ∷ [])) (WrongSort at)) = h .isThen vs arrs ns leads (λ p. all-cons range f [] (all-head range f fs (ranged p)) refl) in
             rest .isThen vs arrs ns leads (λ p. all-tail range f fs (ranged (first-passed _ _ (sym one ∙ p))))
             ∙ rw (one, and-true) (tests-joined earlier (fieldSorted ns f) (all (fieldSorted ns) fs) (WrongSort at));
+        passed = λ p. h .passed (rest .passed p);
       }
 
 -- ---- a whole record

@@ -2,7 +2,7 @@
 use Prim.Native.Nat.{ℕ, _+_, _-_, _≤_, _<_}
 use native.Mathlib.Omega.{arith}
 use mathlib.Core.Logic.{⊎-elim}
-use mathlib.Core.Path.{_≡_, refl, sym, ap}
+use mathlib.Core.Path.{_≡_, refl, sym, ap, subst}
 use mathlib.Core.List.{List, [], _∷_}
 use lib.ListN.{length}
 use types.Run.{OneOf}
@@ -10,12 +10,12 @@ use denote.Enum.Declared.{tagOf}
 use Rattle.awhile.specs.Refusals.{got}
 use Rattle.awhile.specs.Tables.{maxArrays, maxNodes, labelsStart, nodesStart, readHeader, readLabels, readCount}
 use Rattle.awhile.proofs.Accepted.{HeaderFits, header-fits}
-use Rattle.reader.specs.Reader.{headerAs, labelsAs, countAs}
+use Rattle.reader.specs.Reader.{headerAs, labelsAs, countAs, Heads}
 use Rattle.reader.specs.Index.{Answers, Finishes}
 use Rattle.reader.specs.Walk.{begun, doneWith, headerDue, labelsDue, countDue, nodeDue, CountsLeft, NodesLeft, Long, Fresh, Declared, Counted, Walking, atHeader, atLabels, atArray, atNode, atEnd}
 use Rattle.reader.specs.Walk.{Turned, Ends, BodyDue, NodeReady, NodeTurned, nodeRefused, nodeRead}
 use Rattle.reader.proofs.Declaring.{counts-start, counts-more, counts-stop, counts-done}
-use Rattle.reader.proofs.Walking.{nodes-start, offset-small}
+use Rattle.reader.proofs.Walking.{nodes-start, offset-small, heads-before}
 use Rattle.reader.proofs.Answering.{header-stop, header-got, labels-got, labels-stop, arrays-stop, nodes-stopped, nodes-finished}
 use Rattle.reader.specs.declared.Read.{Read}
 use Rattle.reader.specs.declared.Read.the-variants.{Refused}
@@ -189,7 +189,12 @@ module _ (s : List ℕ) (at : ℕ) (p : Progress) (index uses : List ℕ) where
           fits = omega (arith, array-small k);
         })
 
-    -- at the end
+    -- at the end all records are whole
+    pub end-heads : (k : AfterArrays) → p .left ≤ 1 → p .declared .header .nodes ≤ maxNodes → Heads s index (p .declared .header .nodes)
+    end-heads k few limit =
+        let all : k .n ≡ p .declared .header .nodes = omega (arith, k .sum-left, some, few) in
+        subst (λ n. Heads s index n) all (heads-before s (p .declared .header) index uses at (k .n) (k .nodesLeft) (omega (arith, all, limit, k .long .longIndex)))
+
     pub end-turn : (k : AfterArrays) → p .left ≤ 1 → (answer : Read) → Finishes s index uses (p .declared) at answer → (r : Progress) → r ≡ doneWith answer → Turned s at p r index uses
     end-turn k few answer f r e =
         turn-done answer r (omega (arith, at-small s at p index uses (k .n) (k .counted) (k .nodesLeft))) e

@@ -11,7 +11,7 @@ use Rattle.awhile.specs.Lists.{sum, all, occurrences}
 use Rattle.awhile.specs.Refusals.{refused, got}
 use Rattle.awhile.specs.Nodes.{sizeOf, decodeAt, fieldInRange, inRange, fieldChildren, childrenOf}
 use Rattle.awhile.specs.Tables.{maxNodes, nodesStart, readNode, readNodes, usesOf}
-use Rattle.reader.specs.Reader.{fieldsOf, tally, allBelow, CountsBelow, Kept, NodeKnown, NodeChecked}
+use Rattle.reader.specs.Reader.{fieldsOf, tally, allBelow, CountsBelow, Heads, Kept, NodeKnown, NodeChecked}
 use Rattle.reader.specs.Walk.{NodesLeft}
 use Rattle.awhile.proofs.Lists.{sum-append, occurrences-append, flatMap-append}
 use Rattle.awhile.proofs.Cases.{nodes-next, nodes-refused}
@@ -61,13 +61,20 @@ module _ (ns : List Node) (m : Node) where
         (λ i below. rw (index-before i below, take-append-le i ns (m ∷ []) (omega arith)) (k .offsets i below))
         (rw (index-here, take-at ns (m ∷ []) (length ns) refl) place)
 
+    heads-more : at + 4 ≤ length s → (i : ℕ) → i < length (ns ++ (m ∷ [])) → getD (set index (length ns) at) i 0 + 4 ≤ length s
+    heads-more inside =
+        each (λ i. getD (set index (length ns) at) i 0 + 4 ≤ length s)
+        (λ i below. rw (index-before i below) (k .heads i below))
+        (rw index-here inside)
+
     -- what is kept of one node more
-    kept-more : (cs : List ℕ) → cs ≡ childrenOf m → allBelow (length uses) cs ≡ true → decodeAt s at ≡ Known m
+    kept-more : (cs : List ℕ) → cs ≡ childrenOf m → allBelow (length uses) cs ≡ true → decodeAt s at ≡ Known m → at + 4 ≤ length s
         → Kept s (set index (length ns) at) (tally uses cs) start (ns ++ (m ∷ []))
-    kept-more cs same below d =
+    kept-more cs same below d inside =
         record {
           leads = record { decoded = leads-more d };
           offsets = offsets-more;
+          heads = heads-more inside;
           used = λ n. getD-tally cs uses n below ∙ rw (same, uses-more n, k .used n);
         }
 
@@ -86,6 +93,7 @@ module _ (s : List ℕ) (header : Header) where
             record {
               leads = record { decoded = λ i inside. absurd (omega arith) };
               offsets = λ i inside. absurd (omega arith);
+              heads = λ i inside. absurd (omega arith);
               used = λ n. omega (arith, none .each n);
             };
         children = omega arith;
@@ -96,6 +104,10 @@ module _ (s : List ℕ) (header : Header) where
     -- the offset is small
     pub offset-small : at ≤ nodesStart header + 10 * n
     offset-small = omega (arith, h .place, h .counted, sizes-most (h .before))
+
+    -- the records before are whole
+    pub heads-before : n ≤ length index → Heads s index n
+    heads-before long = record { long = long; whole = λ i below. h .kept .heads i (omega (arith, h .counted)) }
 
     -- the counts are small
     pub uses-small : header .nodes ≤ maxNodes → CountsBelow 65533 uses
@@ -122,6 +134,10 @@ module _ (s : List ℕ) (header : Header) where
 
         known : NodeRead s bytes header at (h .before) m
         known = node-read _ bytes _ _ _ _ (was-read .isNode)
+
+        whole : at + 4 ≤ length s
+        unfolding sizeOf
+        whole = omega (arith, known .there .inside)
 
         same-children : flatMap fieldChildren (fieldsOf fs) ≡ childrenOf m
         unfolding childrenOf
@@ -151,7 +167,7 @@ module _ (s : List ℕ) (header : Header) where
               kept =
                   subst (λ k. Kept s (set index k at) (tally uses (flatMap fieldChildren (fieldsOf fs))) (nodesStart header) (h .before ++ (m ∷ []))) (h .counted)
                   (kept-more _ m _ _ _ _ _ (h .kept) (omega (arith, h .counted)) (h .place)
-                  (flatMap fieldChildren (fieldsOf fs)) same-children (children-inside (length uses) longUses) (known .there .decoded));
+                  (flatMap fieldChildren (fieldsOf fs)) same-children (children-inside (length uses) longUses) (known .there .decoded) whole);
               children =
                   rw (flatMap-append, length-append, append-nil, ← same-children)
                   (omega (arith, h .children, fields-children (fieldsOf fs), fields-few fs));

@@ -1,5 +1,5 @@
 -- What the parts of the reader answer, given what the definitions of reading do.
-use Prim.Native.Nat.{ℕ, _+_, _-_, _<_}
+use Prim.Native.Nat.{ℕ, _+_, _-_, _≤_, _<_}
 use mathlib.Core.Bool.{Bool, true, false}
 use mathlib.Core.Path.{_≡_}
 use lib.ListN.{length, getD, set, take}
@@ -110,6 +110,15 @@ pub record SortAt (s : List ℕ) (at : ℕ) (r : Sort) : Type 0 where
 pub record Leads (s index : List ℕ) (ns : List Node) : Type 0 where
   pub decoded : (i : ℕ) → i < length ns → decodeAt s (getD index i 0) ≡ Known (getD ns i Skip)
 
+-- the first so many offsets of an index lead to whole heads of records
+pub record Heads (s index : List ℕ) (n : ℕ) : Type 0 where
+  pub long : n ≤ length index
+  pub whole : (i : ℕ) → i < n → getD index i 0 + 4 ≤ length s
+
+-- so does the one of a child that a field names
+pub record ChildThere (s index : List ℕ) (f : Field) : Type 0 where
+  pub there : (sort : Sort) (node : ℕ) → f ≡ child sort node → (node < length index) × (getD index node 0 + 4 ≤ length s)
+
 -- whether a record with these fields stands whole at an offset
 abbrev pub wholeAs : List ℕ → (at : ℕ) → List Field → Checked
 wholeAs s at fs = checkedAs (framed s at (4 + sum (map fieldSize fs)) (got tt))
@@ -118,6 +127,7 @@ wholeAs s at fs = checkedAs (framed s at (4 + sum (map fieldSize fs)) (got tt))
 pub record SortsThen (s index : List ℕ) (at : ℕ) (earlier : Checked) (fs : List Field) (r : Checked) : Type 0 where
   pub isThen : (vs arrs : ℕ) (ns : List Node) → Leads s index ns → (earlier ≡ Passed → all (fieldInRange vs arrs (length ns)) fs ≡ true)
       → r ≡ firstRefusal earlier (tested (all (fieldSorted ns) fs) (WrongSort at))
+  pub passed : r ≡ Passed → earlier ≡ Passed
 
 -- a record with these fields is tested in the order of `readNode`: its frame, all ranges, all sorts
 pub record RecordChecked (s index : List ℕ) (vs arrs n at : ℕ) (fs : List Field) (r : Checked) : Type 0 where
@@ -147,10 +157,11 @@ pub record CountsBelow (bound : ℕ) (counts : List ℕ) : Type 0 where
   pub each : (n : ℕ) → getD counts n 0 < bound
 
 -- ---- all nodes
--- what was kept of nodes that were read: offsets that lead to their records, and how often each number is a child
+-- what was kept of nodes that were read: offsets that lead to their records, which are whole, and how often each number is a child
 pub record Kept (s index uses : List ℕ) (start : ℕ) (ns : List Node) : Type 0 where
   pub leads : Leads s index ns
   pub offsets : (i : ℕ) → i < length ns → getD index i 0 ≡ start + sum (map sizeOf (take i ns))
+  pub heads : (i : ℕ) → i < length ns → getD index i 0 + 4 ≤ length s
   pub used : (n : ℕ) → getD uses n 0 ≡ usesOf ns n
 
 -- ---- the nodes as one tree

@@ -2,6 +2,7 @@
 ghost use Prim.Native.Nat.{_≤_, _<_};
 ghost use lib.ListN.{length};
 ghost use Rattle.awhile.specs.Tables.{maxNodes};
+ghost use Rattle.reader.specs.Reader.{Heads};
 ghost use Rattle.reader.specs.Index.{Answers, Finishes};
 use crate::Read;
 use crate::reader;
@@ -15,7 +16,7 @@ use awhile::Refusal;
 
 // After the last record: 6, then 7.
 pub fn finish(table: &[u8], index: &[u16], uses: &[u16], declared: Declarations, end: usize) -> Read
-    requires { ⌜ (0 < declared .header .nodes) × (declared .header .nodes ≤ length (now index)) × (declared .header .nodes ≤ length (now uses)) ⌝ }
+    requires { ⌜ (0 < declared .header .nodes) × Heads (now table) (now index) (declared .header .nodes) × (declared .header .nodes ≤ length (now uses)) ⌝ }
     ensures { λ r. ⌜ Finishes (now (table .entry)) (now (index .entry)) (now (uses .entry)) declared end r ⌝ }
 {
     let nodes = declared.header.nodes;

@@ -1,14 +1,15 @@
 // A node's record: its kind and frame, then its fields' ranges, then its children's sorts.
-ghost use Prim.Native.Nat.{_+_, _^_, _<_};
+ghost use Prim.Native.Nat.{_+_, _^_, _≤_, _<_};
 ghost use mathlib.Core.Path.{_≡_};
 ghost use mathlib.Core.List.{[], _∷_};
-ghost use lib.ListN.{getD};
+ghost use lib.ListN.{length, getD};
 ghost use Rattle.awhile.specs.Refusals.{refused, got};
 ghost use Rattle.awhile.specs.Nodes.{fieldInRange, sameSort};
 ghost use Rattle.awhile.specs.Tables.{framed};
-ghost use Rattle.reader.specs.Reader.{fieldOf, fieldsOf, tested, firstRefusal, wholeAs, SortAt, SortsThen, RecordChecked, NodeChecked};
+ghost use Rattle.reader.specs.Reader.{fieldOf, fieldsOf, tested, firstRefusal, wholeAs, Heads, ChildThere, SortAt, SortsThen, RecordChecked, NodeChecked};
 ghost use Rattle.awhile.specs.declared.Node.the-variants.{Skip};
 ghost use Rattle.awhile.specs.declared.Refusal.the-variants.{OutOfRange, WrongSort};
+ghost use Rattle.reader.specs.declared.checks.Checked.the-variants.{Passed};
 ghost use Rattle.reader.specs.declared.forms.Fields.the-variants.{One, Two, Three};
 use crate::checks;
 use crate::checks::Checked;
@@ -40,11 +41,11 @@ pub fn offset_at(index: &[u16], n: usize) -> usize
 
 // The sort of the node whose record stands at an offset, by its kind alone; of no account where no node stands.
 pub fn sort_at(table: &[u8], at: usize) -> Sort
-    requires { ⌜ at + 8 < 2 ^ 64 ⌝ }
+    requires { ⌜ at + 4 ≤ length (now table) ⌝ }
     ensures { λ r. ⌜ SortAt (now (table .entry)) at r ⌝ }
 {
     // whatever its fields hold, a node of a kind has the same sort
-    let Decoded::Known { node } = decode::node_of(get::u16_at(table, at + 2), 0, 0, 0, 0) else {
+    let Decoded::Known { node } = decode::node_of(get::whole_u16(table, at + 2), 0, 0, 0, 0) else {
         return Sort::Command;
     };
     let form = forms::form_of(node);
@@ -113,6 +114,7 @@ fn then_range(
 
 // Unless something was refused before: a child that a field names is of the wanted sort.
 fn then_sort(earlier: Checked, table: &[u8], index: &[u16], field: Field, at: usize) -> Checked
+    requires { ⌜ (earlier ≡ Passed → ChildThere (now table) (now index) (fieldOf field)) ⌝ }
     ensures { λ r. ⌜ SortsThen (now (table .entry)) (now (index .entry)) at earlier (fieldOf field ∷ []) r ⌝ }
 {
     let Checked::Passed = earlier else {
@@ -121,7 +123,8 @@ fn then_sort(earlier: Checked, table: &[u8], index: &[u16], field: Field, at: us
     let Field::Child { sort, node } = field else {
         return Checked::Passed;
     };
-    check_sort(sort_at(table, offset_at(index, node)), sort, at)
+    let child = index[node] as usize;
+    check_sort(sort_at(table, child), sort, at)
 }
 
 // A record of one field, of two, of three: its frame, then all ranges, then all sorts.
@@ -134,7 +137,7 @@ fn check_one(
     at: usize,
     first: Field,
 ) -> Checked
-    requires { ⌜ at + 10 < 2 ^ 64 ⌝ }
+    requires { ⌜ (at + 10 < 2 ^ 64) × Heads (now table) (now index) n ⌝ }
     ensures { λ r. ⌜ RecordChecked (now (table .entry)) (now (index .entry)) variables arrays n at (fieldsOf (One first)) r ⌝ }
 {
     let whole = check_frame(table, at, Fields::One { first });
@@ -152,7 +155,7 @@ fn check_two(
     first: Field,
     second: Field,
 ) -> Checked
-    requires { ⌜ at + 10 < 2 ^ 64 ⌝ }
+    requires { ⌜ (at + 10 < 2 ^ 64) × Heads (now table) (now index) n ⌝ }
     ensures { λ r. ⌜ RecordChecked (now (table .entry)) (now (index .entry)) variables arrays n at (fieldsOf (Two first second)) r ⌝ }
 {
     let whole = check_frame(table, at, Fields::Two { first, second });
@@ -173,7 +176,7 @@ fn check_three(
     second: Field,
     third: Field,
 ) -> Checked
-    requires { ⌜ at + 10 < 2 ^ 64 ⌝ }
+    requires { ⌜ (at + 10 < 2 ^ 64) × Heads (now table) (now index) n ⌝ }
     ensures { λ r. ⌜ RecordChecked (now (table .entry)) (now (index .entry)) variables arrays n at (fieldsOf (Three first second third)) r ⌝ }
 {
     let whole = check_frame(
@@ -203,7 +206,7 @@ fn check_record(
     at: usize,
     fields: Fields,
 ) -> Checked
-    requires { ⌜ at + 10 < 2 ^ 64 ⌝ }
+    requires { ⌜ (at + 10 < 2 ^ 64) × Heads (now table) (now index) n ⌝ }
     ensures { λ r. ⌜ RecordChecked (now (table .entry)) (now (index .entry)) variables arrays n at (fieldsOf fields) r ⌝ }
 {
     match fields {
@@ -249,7 +252,7 @@ pub fn read_node(
     n: usize,
     at: usize,
 ) -> NodeRead
-    requires { ⌜ at + 10 < 2 ^ 64 ⌝ }
+    requires { ⌜ (at + 10 < 2 ^ 64) × Heads (now table) (now index) n ⌝ }
     ensures { λ r. ⌜ NodeChecked (now (table .entry)) (now (index .entry)) variables arrays n at r ⌝ }
 {
     let Decoded::Known { node } = decode::decode_at(table, at) else {

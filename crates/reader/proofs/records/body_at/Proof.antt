@@ -1,7 +1,7 @@
 -- `body_at` reads an array or a node, or finishes.
 use native.Mathlib.Omega.{arith}
 use mathlib.Core.Path.{refl}
-use Rattle.reader.proofs.Turns.{array-ready, after-arrays, array-turn, node-turn, end-turn, body-limits, node-ready}
+use Rattle.reader.proofs.Turns.{array-ready, after-arrays, array-turn, node-turn, end-heads, end-turn, body-limits, node-ready}
 use borrow.Author.Needs.{needs}
 use Rattle.reader.proofs.records.body_at.Statement.{statement}
 use Rattle.reader.proofs.records.body_at.Tie as tie
@@ -42,7 +42,7 @@ finish-requires c κs =
     let b = c .before .before .before .before .before .before .before .before .pre in
     let f = body-limits _ _ _ _ _ (b .walking) (b .isBody) in
     let k = after-arrays _ _ _ _ _ (b .walking) (b .isBody) (c .before .before .before .if1 .left) in
-    (f .hasNodes, omega arith, omega arith)
+    (f .hasNodes, end-heads _ _ _ _ _ (b .some) k (c .before .before .if2 .left) (f .nodesFit), omega arith)
 
 returns-3 : tie.Need-returns-3
 returns-3 c =

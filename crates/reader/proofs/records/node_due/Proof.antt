@@ -3,13 +3,15 @@ use native.Mathlib.Omega.{arith}
 use mathlib.Core.Path.{refl}
 use Rattle.bytes_le.proofs.Numbers.{slice-bytes}
 use Rattle.reader.specs.Walk.{nodeDue, nodeRefused, nodeRead}
-use Rattle.reader.proofs.Walking.{offset-small, uses-small, nodes-stop, children-inside, nodes-more}
+use Rattle.reader.proofs.Walking.{offset-small, heads-before, uses-small, nodes-stop, children-inside, nodes-more}
 use borrow.Author.Needs.{needs}
 use Rattle.reader.proofs.records.node_due.Statement.{statement}
 use Rattle.reader.proofs.records.node_due.Tie as tie
 
 read-node-requires : tie.Need-read-node-requires
-read-node-requires c κs = omega (arith, offset-small _ _ _ _ _ _ (c .before .before .before .before .before .before .pre .left))
+read-node-requires c κs =
+    let k = c .before .before .before .before .before .before .pre in
+    (omega (arith, offset-small _ _ _ _ _ _ (k .left)), heads-before _ _ _ _ _ _ (k .left) (omega (arith, k .more, k .few .0, k .long .longIndex)))
 
 cast-index : tie.Need-cast-index
 cast-index c = omega (arith, offset-small _ _ _ _ _ _ (c .before .before .before .before .before .before .before .before .before .before .pre .left))

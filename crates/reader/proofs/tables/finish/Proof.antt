@@ -1,4 +1,5 @@
 -- `finish` looks for a node that is not in order, then for bytes after the last.
+use native.Mathlib.Omega.{arith}
 use Rattle.reader.proofs.Answering.{finish-broken, finish-extra, finish-accepted}
 use borrow.Author.Needs.{needs}
 use Rattle.reader.proofs.tables.finish.Statement.{statement}
@@ -21,7 +22,7 @@ returns-3 c =
     let rooted = c .before .before .before .before in
     let start = rooted .before .before .before .before .before in
     finish-accepted _ _ _ _ _ _ (start .pre .0) (rw (rooted .before .offset-at .ensures .0) at (rooted .sort-at .ensures))
-    (rw (c .before .enum-told .given .1) at (c .before .before .before .find-broken .ensures)) (c .if1 .left) (start .pre .1)
+    (rw (c .before .enum-told .given .1) at (c .before .before .before .find-broken .ensures)) (c .if1 .left) (start .pre .1 .long)
 
 pub finish-spec : {M : Type 1} → statement M
 finish-spec =
@@ -29,7 +30,7 @@ finish-spec =
     (tie.spec
     (λ c. search needs)
     (λ c κs. search needs)
-    (λ c κs. search needs)
+    (λ c κs. let start = c .before .before .before .before in rw (c .offset-at .ensures .0) (start .pre .1 .whole _ (omega (arith, start .pre .0))))
     (λ c κs. search needs)
     (λ c. search needs)
     (λ c κs. search needs)

@@ -8,7 +8,7 @@ use Rattle.reader.proofs.walk.sort_at.Tie as tie
 returns-2 : tie.Need-returns-2
 returns-2 c =
     let node = c .before .before .node .given in
-    rw (same-sort (node .0 .0) (c .form-of .result) (c .form-of .ensures)) (sort-by-kind _ _ _ (c .before .before .before .before .before .u16-at .ensures .0) _ (c .before .before .before .before .node-of .ensures) _ (node .1))
+    rw (same-sort (node .0 .0) (c .form-of .result) (c .form-of .ensures)) (sort-by-kind _ _ _ (c .before .before .before .before .before .whole-u16 .ensures .0) _ (c .before .before .before .before .node-of .ensures) _ (node .1))
 
 pub sort-at-spec : {M : Type 1} → statement M
 sort-at-spec =
@@ -19,6 +19,6 @@ sort-at-spec =
     (λ c κs. search needs)
     (λ c. search needs)
     (λ c. search needs)
-    (λ c. no-sort _ _ _ (c .before .before .before .u16-at .ensures .0) _ (c .before .before .node-of .ensures) _ (c .enum-told .given .1))
+    (λ c. no-sort _ _ _ (c .before .before .before .whole-u16 .ensures .0) _ (c .before .before .node-of .ensures) _ (c .enum-told .given .1))
     (λ c κs. search needs)
     returns-2)
