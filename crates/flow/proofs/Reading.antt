@@ -102,8 +102,8 @@ module _ (asked : Table → Answer (List ℕ)) where
         }
 
 -- where the reader answers an accepted table, it is ready
-pub reader-ready : {s index : List ℕ} {found : Read} {declared : Declarations} {end : ℕ} → Answers s index found → found ≡ Accepted declared end → Ready s index declared
-reader-ready answers is = accepting _ _ _ _ (rw is at answers)
+pub reader-ready : {s index : List ℕ} {found : Read} {declared : Declarations} → Answers s index found → found ≡ Accepted declared → Ready s index declared
+reader-ready answers is = accepting _ _ _ (rw is at answers)
 
 -- memory that was just made is ready for labelling
 pub label-ready : {table index : List ℕ} {declared : Declarations} (room words : ℕ) → Ready table index declared → nodesIn table ≤ room → 2 * nodesIn table ≤ words

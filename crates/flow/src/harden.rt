@@ -96,7 +96,7 @@ pub extern "C" fn flow_harden(table: &[u8], out: &mut [u8], answer: &mut [u8]) -
     let found = read(table, &mut index);
     match found {
         Read::Refused { refusal } => answer_refusal(&mut *answer, refusal),
-        Read::Accepted { declared, end: _ } => {
+        Read::Accepted { declared } => {
             answer_hardened(table, &index, declared, &mut *out, &mut *answer)
         }
     }

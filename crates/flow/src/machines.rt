@@ -140,7 +140,7 @@ fn read_and_run(
     let found = read(table, &mut index);
     match found {
         Read::Refused { refusal } => Done::Refused { refusal },
-        Read::Accepted { declared, end: _ } => run_read(
+        Read::Accepted { declared } => run_read(
             table,
             &index,
             declared,

@@ -131,7 +131,7 @@ pub extern "C" fn flow_sheet(table: &[u8], sheet: &mut [u8], answer: &mut [u8]) 
     let found = read(table, &mut index);
     match found {
         Read::Refused { refusal } => answer_refusal(&mut *answer, refusal),
-        Read::Accepted { declared, end: _ } => {
+        Read::Accepted { declared } => {
             let labels = declared.labels;
             answer_sheet(table, &index, declared, labels, &mut *sheet, &mut *answer)
         }

@@ -104,14 +104,14 @@ module _ (s index uses : List ℕ) (declared : Declarations) (end : ℕ) (root :
         }
 
     -- none: accepted
-    pub finish-accepted : length s ≤ end → declared .header .nodes ≤ length index → Finishes s index uses declared end (Accepted declared end)
+    pub finish-accepted : length s ≤ end → declared .header .nodes ≤ length index → Finishes s index uses declared end (Accepted declared)
     unfolding checkWhole offsetOf nodesIn acceptedAs
     finish-accepted whole long =
         record {
           answers = λ t read d ends k.
               let reads : readTable s ≡ accepted t = table-read s t read ∙ rw (in-order t d k, ends, le-leb (length s) end whole) in
               let same = table-of s t reads in
-              let whole : acceptedAs t ≡ Accepted declared end = λ i. Accepted (d i) (ends i) in
+              let whole : acceptedAs t ≡ Accepted declared = λ i. Accepted (d i) in
               isAccepted
               (record {
                 reads = reads ∙ ap accepted (sym same);
@@ -179,26 +179,26 @@ pub data RefusedTable (s : List ℕ) (r : Refusal) : Type 0 where
   byRecord : readTable s ≡ rejected r → RefusedTable s r
   byOrder : (t : Table) (place : ℕ) → readTable s ≡ notATree t → BreaksRule t place → r ≡ NotATree place → RefusedTable s r
 
-never-accepted : (r : Refusal) (declared : Declarations) (end : ℕ) → Accepted declared end ≡ Refused r → ⊥
-never-accepted r declared end e = let z : _≡_ {A = ℕ} 0 1 = cc in omega arith
+never-accepted : (r : Refusal) (declared : Declarations) → Accepted declared ≡ Refused r → ⊥
+never-accepted r declared e = let z : _≡_ {A = ℕ} 0 1 = cc in omega arith
 
 same-refused : (r q : Refusal) → _≡_ (Refused r) (Refused q) → r ≡ q
 same-refused r q e = cc
 
-same-declared : (declared other : Declarations) (end place : ℕ) → Accepted declared end ≡ Accepted other place → other ≡ declared
-same-declared declared other end place e = cc
+same-declared : (declared other : Declarations) → Accepted declared ≡ Accepted other → other ≡ declared
+same-declared declared other e = cc
 
 module _ (s index : List ℕ) where
   -- a table that is accepted is ready
-  pub accepting : (declared : Declarations) (end : ℕ) → Answers s index (Accepted declared end) → Ready s index declared
+  pub accepting : (declared : Declarations) → Answers s index (Accepted declared) → Ready s index declared
   unfolding acceptedAs
-  accepting declared end (isRejected r e q) = absurd (never-accepted _ _ _ q)
-  accepting declared end (isNotATree t place e b q) = absurd (never-accepted _ _ _ q)
-  accepting declared end (isAccepted i q) = record { indexed = i; declares = same-declared _ _ _ _ q }
+  accepting declared (isRejected r e q) = absurd (never-accepted _ _ q)
+  accepting declared (isNotATree t place e b q) = absurd (never-accepted _ _ q)
+  accepting declared (isAccepted i q) = record { indexed = i; declares = same-declared _ _ q }
 
   -- a refusing answer
   pub refusing : (r : Refusal) → Answers s index (Refused r) → RefusedTable s r
   unfolding acceptedAs
   refusing r (isRejected q e p) = byRecord (e ∙ ap rejected (sym (same-refused r q p)))
   refusing r (isNotATree t place e b p) = byOrder t place e b (same-refused r (NotATree place) p)
-  refusing r (isAccepted i p) = absurd (never-accepted _ _ _ (sym p))
+  refusing r (isAccepted i p) = absurd (never-accepted _ _ (sym p))

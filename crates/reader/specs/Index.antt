@@ -77,9 +77,9 @@ pub record Single (node : Node) : Type 0 where
   pub noWhile : (b c : ℕ) → node ≡ While b c → ⊥
 
 -- ---- what the reader answers
--- what an accepted table declares, and where it ends
+-- what an accepted table declares
 unfoldable pub acceptedAs : Table → Read
-acceptedAs t = Accepted (declarationsOf t) (offsetOf t (length (t .nodes)))
+acceptedAs t = Accepted (declarationsOf t)
 
 -- The reader's answer says what the bytes read as; of an accepted table the index is left. Of the index of a refused one nothing is said.
 pub data Answers (s index : List ℕ) (answer : Read) : Type 0 where

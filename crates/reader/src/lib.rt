@@ -14,8 +14,8 @@ pub mod tables;
 pub mod uses;
 pub mod walk;
 
-// What reading a table answers: why it is refused, or what it declares and where it ends.
+// What reading a table answers: why it is refused, or what it declares.
 pub enum Read {
     Refused { refusal: Refusal },
-    Accepted { declared: Declarations, end: usize },
+    Accepted { declared: Declarations },
 }

@@ -33,7 +33,7 @@ pub fn finish(table: &[u8], index: &[u16], uses: &[u16], declared: Declarations,
             refusal: Refusal::ExtraBytes { at: end },
         };
     }
-    Read::Accepted { declared, end }
+    Read::Accepted { declared }
 }
 
 // The whole table, of any bytes.
