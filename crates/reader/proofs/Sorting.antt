@@ -1,5 +1,5 @@
 -- Sorts and fields told apart: what the other way of a `let .. else` knows.
-use Prim.Native.Nat.{ℕ, _+_, _≤_, _<_}
+use Prim.Native.Nat.{ℕ}
 use native.Mathlib.Omega.{arith}
 use mathlib.Core.Bool.{Bool, true, false, _&&_, and-true}
 use mathlib.Core.Logic.{⊎-elim}
@@ -12,7 +12,7 @@ use denote.Enum.Declared.{tagOf}
 use Rattle.awhile.specs.Lists.{all}
 use Rattle.awhile.specs.Refusals.{refused, got, check}
 use Rattle.awhile.specs.Nodes.{Field, word, child, form, sizeOf, sortOf, decodeAt, fieldInRange, inRange, sameSort, fieldSorted, sorted, fieldChildren}
-use Rattle.awhile.specs.Tables.{framed, readNode}
+use Rattle.awhile.specs.Tables.{framed}
 use Rattle.reader.specs.Reader.{checkedAs, tested, firstRefusal, fieldOf, fieldsOf, NodeAs, passedNode, wholeAs, Heads, ChildThere, SortAt, SortsThen, RecordChecked, NodeChecked}
 use Rattle.awhile.proofs.Lists.{all-head, all-tail, all-cons}
 use Rattle.awhile.proofs.Cases.{node-known, node-unknown}

@@ -75,10 +75,6 @@ module _ (table index : List ℕ) (bytes : Below 256 table) (indexed : Indexed t
       root-standing n (tableOf table) (indexed-well-formed table index bytes indexed)
       ∙ ap (λ b. cond b (cond (sameSort (sortOf (nodeIn table n)) Command) 1 0) 0) (lt-ltb n (length (tableOf table .nodes)) inside)
 
-  stands-command : (n : ℕ) → n < nodesIn table → sortOf (nodeIn table n) ≡ Command → standing n (rootOf (tableOf table)) ≡ 1
-  unfolding sameSort
-  stands-command n inside s = stands-once n inside ∙ ap (λ r. cond (sameSort r Command) 1 0) s
-
   -- a node that is no command has no record
   pub no-command : (ns : List ℕ) (n : ℕ) → n < nodesIn table → (s : Sort) → sortOf (nodeIn table n) ≡ s → (sameSort s Command ≡ true → ⊥) → recordsIn table ns n ≡ []
   unfolding recordsIn commandRecords mapNotes asCommand sameSort

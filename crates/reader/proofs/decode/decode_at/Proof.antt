@@ -1,5 +1,4 @@
 -- `decode_at` reads all fields, with a test for each or with one for all, then decodes them.
-use native.Mathlib.Omega.{arith}
 use Rattle.awhile.specs.Nodes.{decodeAt}
 use borrow.Author.Needs.{needs}
 use Rattle.reader.proofs.decode.decode_at.Statement.{statement}

@@ -1,5 +1,4 @@
 -- `check_record` makes the tests that as many fields ask for.
-use mathlib.Core.Path.{refl}
 use Rattle.reader.proofs.Sorting.{nothing-checked, word-checked}
 use borrow.Author.Needs.{needs}
 use Rattle.reader.proofs.walk.check_record.Statement.{statement}

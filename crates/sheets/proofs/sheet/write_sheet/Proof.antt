@@ -1,5 +1,4 @@
 -- `write_sheet` stores the first record, and the nodes' records behind it.
-use Prim.Native.Nat.{_+_}
 use native.Mathlib.Omega.{arith}
 use mathlib.Core.Path.{sym, ap, _∙_}
 use denote.Ref.{now}
