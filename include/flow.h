@@ -62,7 +62,7 @@ enum flow_refusal {
     FLOW_OUT_OF_RANGE = 4,     /* variable not below V, array not below A, child not below its parent, constant above 1 */
     FLOW_WRONG_SORT = 5,       /* a child of the wrong sort */
     FLOW_NOT_A_TREE = 6,       /* a node not the last is a child never or more than once, or the last is no command;
-                                  the place is the record of any such node */
+                                  the place is the record of the lowest-numbered such node */
     FLOW_EXTRA_BYTES = 7,      /* bytes after the last node */
     FLOW_TOO_MANY_NODES = 8,   /* hardening with more than FLOW_MAX_HARDENED_NODES nodes */
     FLOW_NO_FREE_VARIABLE = 9, /* hardening with FLOW_MAX_VARIABLES variables: none is left for the flag */

@@ -1,4 +1,4 @@
-# Independent model of document 01 (tables, labels, sheet, hardener, both machines, four entries).
+# Independent model of documents 01 and 02, as far as 02 has landed (tables, labels, sheet, hardener, both machines, four entries).
 M32 = 1 << 32
 def le(w, n): return list(int(n).to_bytes(w, 'little'))
 def un(bs): return int.from_bytes(bytes(bs), 'little')
@@ -63,7 +63,7 @@ def readTable(bs):
         for l, v in zip(LAY[k], fs):
             if l in 'NTC': used[v] += 1
     bad = [i for i in range(N - 1) if used[i] != 1] + ([N - 1] if sort(nodes[-1][0]) != 'C' else [])
-    if bad: refuse(6, places[bad[0]])
+    if bad: refuse(6, places[min(bad)])   # P1: "the record of the lowest-numbered node that breaks the rule"
     if at < len(bs): refuse(7, at)
     def tree(i):                # (number, kind, parts..)
         k, *fs = nodes[i]

@@ -15,10 +15,10 @@ use Rattle.awhile.specs.Refusals.{Answer, refused, got, check, andThen}
 use Rattle.awhile.specs.Nodes.{form, sizeOf, nodeOf, decodeAt, inRange, sorted}
 use Rattle.awhile.specs.Tables.{Table, headerOf, maxVariables, maxArrays, maxNodes, maxCells, headerSize, labelsSize, arraySize, labelsStart, countsStart, nodesStart, offsetOf}
 use Rattle.awhile.specs.Tables.{framed, lengthOfKind, readHeader, readLabels, readCount, readCounts, readNode, readNodes, readRecords}
-use Rattle.awhile.specs.Tables.{accepted, rejected, notATree, allInOrder, checkWhole, readTable}
+use Rattle.awhile.specs.Tables.{allInOrder, checkWhole, readTable}
 use Rattle.awhile.specs.WellFormed.{WellFormed, Declared, NodeFits, wordFits}
 use Rattle.awhile.proofs.Lists.{and-first, and-second, sum-append}
-use Rattle.awhile.proofs.Cases.{counts-next, counts-refused, node-known, node-unknown, nodes-next, nodes-refused, table-read, table-refused}
+use Rattle.awhile.proofs.Cases.{counts-next, counts-refused, node-known, node-unknown, nodes-next, nodes-refused}
 use Rattle.awhile.proofs.Fitting.{FitAfter, fit-by-number}
 use Rattle.awhile.proofs.Records.{NodeAt, NodesAt, nodes-at}
 use Rattle.awhile.specs.declared.Header.{Header}
@@ -28,7 +28,7 @@ use Rattle.awhile.specs.declared.Node.the-variants.{Skip}
 use Rattle.awhile.specs.declared.Decoded.{Decoded}
 use Rattle.awhile.specs.declared.Decoded.the-variants.{Known, Unknown}
 use Rattle.awhile.specs.declared.Refusal.{Refusal}
-use Rattle.awhile.specs.declared.Refusal.the-variants.{BeyondLimit, OutOfRange, WrongSort, ExtraBytes}
+use Rattle.awhile.specs.declared.Refusal.the-variants.{BeyondLimit, OutOfRange, WrongSort}
 
 -- ---- answers that are no refusals
 module _ {A : Type 0} (r : Refusal) where
@@ -365,27 +365,19 @@ module _ (s : List ℕ) (bytes : Below 256 s) where
     oneTree : allInOrder (t .nodes) (length (t .nodes)) ≡ true
     ended : length s ≤ offsetOf t (length (t .nodes))
 
-  whole-accepted : (t u : Table) → readRecords s ≡ got u → (tree ended : Bool) (end : ℕ)
-      → allInOrder (u .nodes) (length (u .nodes)) ≡ tree → leb (length s) (offsetOf u (length (u .nodes))) ≡ ended
-      → cond tree (cond ended (accepted u) (rejected (ExtraBytes end))) (notATree u) ≡ accepted t → Accepted t
-  whole-accepted t u r true true end p q e =
-      let same : u ≡ t = cc in
-      rw (← same) (record { read = r; oneTree = p; ended = leb-true (length s) (offsetOf u (length (u .nodes))) q })
-  whole-accepted t u r true false end p q e = absurd (let z : _≡_ {A = ℕ} 0 1 = cc in omega arith)
-  whole-accepted t u r false ended end p q e = absurd (let z : _≡_ {A = ℕ} 0 1 = cc in omega arith)
-
-  table-accepted : (t : Table) → readTable s ≡ accepted t → Accepted t
-  unfolding checkWhole
-  table-accepted t e = go (readRecords s) refl
-    where
-      go : (a : Answer Table) → readRecords s ≡ a → Accepted t
-      go (refused r) f =
-          let never : rejected r ≡ accepted t = sym (table-refused s r f) ∙ e in
-          absurd (let z : _≡_ {A = ℕ} 0 1 = cc in omega arith)
-      go (got u) f = whole-accepted t u f _ _ _ refl refl (sym (table-read s u f) ∙ e)
+  table-accepted : (t : Table) → readTable s ≡ got t → Accepted t
+  unfolding readTable checkWhole
+  table-accepted t e =
+      then-got (Accepted t) (readRecords s) (checkWhole s) t e
+      (λ u read whole.
+      let rest = check-rest _ (allInOrder (u .nodes) (length (u .nodes))) _ t whole in
+      let ended = leb (length s) (offsetOf u (length (u .nodes))) in
+      let same : u ≡ t = got-same u t (check-rest _ ended _ t rest) in
+      rw (← same)
+      (record { read = read; oneTree = check-test _ (allInOrder (u .nodes) (length (u .nodes))) _ t whole; ended = leb-true _ _ (check-test _ ended _ t rest) }))
 
   -- whatever reads is well-formed
-  pub accepted-well-formed : (t : Table) → readTable s ≡ accepted t → WellFormed t
+  pub accepted-well-formed : (t : Table) → readTable s ≡ got t → WellFormed t
   accepted-well-formed t e =
       let a = table-accepted t e in
       let r = records-known t (a .read) in
@@ -403,5 +395,5 @@ module _ (s : List ℕ) (bytes : Below 256 s) where
   node-there t e i inside = nodes-at s (nodesStart (headerOf t)) (t .nodes) (records-known t e .there) i inside
 
   -- an accepted table's records were read
-  pub accepted-read : (t : Table) → readTable s ≡ accepted t → readRecords s ≡ got t
+  pub accepted-read : (t : Table) → readTable s ≡ got t → readRecords s ≡ got t
   accepted-read t e = table-accepted t e .read

@@ -8,11 +8,11 @@ use lib.ListN.{length, getD}
 use lib.Dec.{eqb}
 use borrow.Author.Tests.{eq-eqb, ne-eqb, eqb-true, eqb-false}
 use Rattle.awhile.specs.Lists.{sum}
-use Rattle.awhile.specs.Refusals.{refused, got, check}
+use Rattle.awhile.specs.Refusals.{refused, got, check, andThen}
 use Rattle.awhile.specs.Nodes.{sizeOf, sortOf, sameSort, decodeAt, inRange, sorted}
 use Rattle.awhile.specs.Tables.{Table, arraySize, framed, readCount, readCounts, readNode, readNodes, readRecords}
 use Rattle.awhile.specs.Tables.{usesOf, inOrder, allInOrder}
-use Rattle.awhile.specs.Tables.{rejected, checkWhole, readTable}
+use Rattle.awhile.specs.Tables.{checkWhole, readTable}
 use Rattle.awhile.proofs.Lists.{and-both, and-first, and-second}
 use Rattle.awhile.specs.declared.Sort.the-variants.{Command}
 use Rattle.awhile.specs.declared.Header.{Header}
@@ -70,15 +70,13 @@ module _ (s : List ℕ) (at : ℕ) where
 module _ (s : List ℕ) where
   -- where the records were read, the table as a whole decides
   pub table-read : (t : Table) → readRecords s ≡ got t → readTable s ≡ checkWhole s t
-  unfolding readTable
-  table-read t e = rw (e, readTable)
+  unfolding readTable andThen
+  table-read t e = rw e
 
   -- where a record was refused, the table is
-  pub table-refused : (r : Refusal) → readRecords s ≡ refused r → readTable s ≡ rejected r
-  unfolding readTable
-  table-refused r e = rw (e, readTable)
-
--- ---- offsets
+  pub table-refused : (r : Refusal) → readRecords s ≡ refused r → readTable s ≡ refused r
+  unfolding readTable andThen
+  table-refused r e = rw e
 
 -- ---- the nodes as one tree
 module _ (ns : List Node) where

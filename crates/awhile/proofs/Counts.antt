@@ -11,7 +11,7 @@ use Rattle.bytes_le.specs.Numbers.{leAt}
 use Rattle.bytes_le.proofs.Numbers.{Below}
 use Rattle.awhile.specs.Lists.{sum}
 use Rattle.awhile.specs.Refusals.{check, got}
-use Rattle.awhile.specs.Tables.{Table, headerOf, accepted, arraySize, labelsStart, countsStart, countStart, nodesStart, maxCells, lengthOfKind, readTable, readRecords, readHeader, readLabels, readCount, readCounts, readNodes}
+use Rattle.awhile.specs.Tables.{Table, headerOf, arraySize, labelsStart, countsStart, countStart, nodesStart, maxCells, lengthOfKind, readTable, readRecords, readHeader, readLabels, readCount, readCounts, readNodes}
 use Rattle.awhile.proofs.Accepted.{check-rest, framed-rest, got-same, then-got, counts-first, accepted-read}
 use Rattle.awhile.specs.declared.Refusal.the-variants.{BeyondLimit}
 
@@ -65,7 +65,7 @@ module _ (s : List ℕ) where
       all-there at cs r = let e : length cs ≡ _ = ap length (r .whole) ∙ r .counted in rw e r
 
 -- "array: cell count": the count of array a stands in its record, and an array that is not declared has none
-pub count-at : (s : List ℕ) → Below 256 s → (t : Table) → readTable s ≡ accepted t → (a : ℕ) → a < length (t .counts) → getD (t .counts) a 0 ≡ leAt 2 s (countStart (headerOf t) a + 4)
+pub count-at : (s : List ℕ) → Below 256 s → (t : Table) → readTable s ≡ got t → (a : ℕ) → a < length (t .counts) → getD (t .counts) a 0 ≡ leAt 2 s (countStart (headerOf t) a + 4)
 count-at s bytes t e a less =
     let r = records-counts s t (accepted-read s bytes t e) in
     ap (λ cs. getD cs a 0) (r .whole) ∙ r .there a less

@@ -2,7 +2,8 @@
 use Prim.Native.Nat.{ℕ}
 use mathlib.Core.Path.{_≡_, refl}
 use mathlib.Core.List.{List, [], _∷_}
-use Rattle.awhile.specs.Tables.{rejected, readTable}
+use Rattle.awhile.specs.Refusals.{refused}
+use Rattle.awhile.specs.Tables.{readTable}
 use Rattle.awhile.specs.declared.Refusal.the-variants.{OutOfRange}
 use Rattle.awhile.proofs.Open.{opened}
 
@@ -16,6 +17,6 @@ wrongTwice =
     ∷ []
 
 -- "Within it: 1 (head), 2, 1 (body), 3, 4, 5": 4 comes before 5, at the record's offset
-pub range-before-sort : readTable wrongTwice ≡ rejected (OutOfRange 24)
+pub range-before-sort : readTable wrongTwice ≡ refused (OutOfRange 24)
 unfolding opened
 range-before-sort = refl

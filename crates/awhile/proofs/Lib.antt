@@ -16,6 +16,8 @@ pub mod Orders
 pub mod Writing
 pub mod Accepted
 pub mod Counts
+pub mod Causes
+pub mod Lowest
 pub mod Sums
 pub mod Size
 pub mod Ranges

@@ -15,7 +15,7 @@ use Rattle.awhile.specs.Refusals.{Answer, got, check, andThen}
 use Rattle.awhile.specs.Nodes.{form, sizeOf, nodeBytes, inRange}
 use Rattle.awhile.specs.Tables.{Table, headerOf, maxVariables, maxArrays, maxNodes, maxCells, headerSize, labelsSize, arraySize, labelsStart, countsStart, nodesStart, offsetOf}
 use Rattle.awhile.specs.Tables.{framed, lengthOfKind, readHeader, readLabels, readCount, readCounts, readNode, readNodes, readRecords}
-use Rattle.awhile.specs.Tables.{accepted, checkWhole, readTable}
+use Rattle.awhile.specs.Tables.{checkWhole, readTable}
 use Rattle.awhile.specs.Encoding.{headerBytes, labelsBytes, countBytes, tableBytes}
 use Rattle.awhile.specs.WellFormed.{WellFormed, NodeFits}
 use Rattle.awhile.proofs.Lists.{sum-append, length-flatMap}
@@ -181,8 +181,8 @@ length-tableBytes t =
     (omega (arith, length-headerBytes (headerOf t), length-labelsBytes (t .labels), length-countsBytes (t .counts), length-flatMap nodeBytes sizeOf length-nodeBytes (t .nodes)))
 
 -- a well-formed table reads back from its bytes
-pub read-back : (t : Table) → WellFormed t → readTable (tableBytes t) ≡ accepted t
-unfolding checkWhole
+pub read-back : (t : Table) → WellFormed t → readTable (tableBytes t) ≡ got t
+unfolding checkWhole check
 read-back t w =
     table-read (tableBytes t) t (records-read t w (tableBytes t) (stands-whole (tableBytes t)))
     ∙ rw (w .oneTree, le-leb (length (tableBytes t)) (offsetOf t (length (t .nodes))) (omega (arith, length-tableBytes t)))

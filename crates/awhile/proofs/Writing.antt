@@ -10,7 +10,8 @@ use borrow.Author.Tests.{eq-eqb, eqb-true, eqb-false}
 use Rattle.awhile.specs.Language.{Com}
 use Rattle.awhile.specs.Lists.{all}
 use Rattle.awhile.specs.Nodes.{sortOf}
-use Rattle.awhile.specs.Tables.{Table, maxNodes, usesOf, inOrder, accepted, readTable}
+use Rattle.awhile.specs.Refusals.{got}
+use Rattle.awhile.specs.Tables.{Table, maxNodes, usesOf, inOrder, readTable}
 use Rattle.awhile.specs.Trees.{command, asCommand, trees, rootOf}
 use Rattle.awhile.specs.Encoding.{nodesOf, writeC, numbered, tableBytes}
 use Rattle.awhile.specs.WellFormed.{Declared, WellFormed, Within}
@@ -76,5 +77,5 @@ module _ {Note : Type 0} (t : Table) (c : Com Note) (e : t .nodes ≡ writeC 0 c
         }
 
     -- its bytes are read and accepted as the table
-    pub written-reads-back : readTable (tableBytes t) ≡ accepted t
+    pub written-reads-back : readTable (tableBytes t) ≡ got t
     written-reads-back = read-back t written-well-formed

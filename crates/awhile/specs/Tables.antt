@@ -17,8 +17,7 @@ use Rattle.awhile.specs.declared.Sort.the-variants.{Command}
 use Rattle.awhile.specs.declared.Node.{Node}
 use Rattle.awhile.specs.declared.Node.the-variants.{Skip}
 use Rattle.awhile.specs.declared.Decoded.the-variants.{Known, Unknown}
-use Rattle.awhile.specs.declared.Refusal.{Refusal}
-use Rattle.awhile.specs.declared.Refusal.the-variants.{Cut, WrongRecord, BeyondLimit, OutOfRange, WrongSort, ExtraBytes}
+use Rattle.awhile.specs.declared.Refusal.the-variants.{Cut, WrongRecord, BeyondLimit, OutOfRange, WrongSort, NotATree, ExtraBytes}
 
 -- ---- the limits: "V is 0 to 32, A 0 to 16, N 1 to 4,096; a cell count is 1 or more and the counts sum to at most 16,384"
 abbrev pub maxVariables : ℕ
@@ -168,31 +167,34 @@ unfoldable pub allInOrder : List Node → (count : ℕ) → Bool
 allInOrder ns zero = true
 allInOrder ns (suc n) = inOrder ns n && allInOrder ns n
 
--- "a node that breaks that rule": what document 01 leaves free is which of these a refusal by 6 names
-pub record BreaksRule (t : Table) (place : ℕ) : Type 0 where
-  pub node : ℕ
-  pub isNode : node < length (t .nodes)
-  pub broken : inOrder (t .nodes) node ≡ false
-  pub isPlace : place ≡ offsetOf t node
+-- from a node up, the first of so many that is not in order; the number behind them where all are
+unfoldable pub firstBroken : List Node → (count from : ℕ) → ℕ
+firstBroken ns zero n = n
+firstBroken ns (suc count) n = cond (inOrder ns n) (firstBroken ns count (suc n)) n
+
+-- "the lowest-numbered node that breaks the rule"
+pub record LowestBroken (ns : List Node) (node : ℕ) : Type 0 where
+  pub isNode : node < length ns
+  pub broken : inOrder ns node ≡ false
+  pub lower : (i : ℕ) → i < node → inOrder ns i ≡ true
 
 -- ---- the whole table
--- refused by one of 1 to 5 or 7; refused by 6, at the record of any node that breaks the rule; or accepted
-pub data Reading : Type 0 where
-  rejected : Refusal → Reading
-  notATree : Table → Reading
-  accepted : Table → Reading
-
--- 6, then 7: "bytes after node N-1", at the first extra byte
-unfoldable pub checkWhole : List ℕ → Table → Reading
+-- 6, at the record of the first node from 0 up that is not in order; then 7: "bytes after node N-1", at the first extra byte
+unfoldable pub checkWhole : List ℕ → Table → Answer Table
 checkWhole s t =
-    let end = offsetOf t (length (t .nodes)) in
-    cond (allInOrder (t .nodes) (length (t .nodes)))
-    (cond (leb (length s) end) (accepted t) (rejected (ExtraBytes end)))
-    (notATree t)
+    let count = length (t .nodes) in
+    let end = offsetOf t count in
+    check (allInOrder (t .nodes) count) (NotATree (offsetOf t (firstBroken (t .nodes) count 0)))
+    (check (leb (length s) end) (ExtraBytes end)
+    (got t))
 
-unfoldable pub readTable : List ℕ → Reading
-readTable s =
-    elim (readRecords s) [
-      | refused r ↦ rejected r
-      | got t ↦ checkWhole s t
-    ]
+unfoldable pub readTable : List ℕ → Answer Table
+readTable s = andThen (readRecords s) (checkWhole s)
+
+-- What a refusal by 6 says: its place is the record of the lowest-numbered node that breaks the rule, in the table whose records these bytes are
+pub record PointsAtLowest (s : List ℕ) (place : ℕ) : Type 0 where
+  pub table : Table
+  pub records : readRecords s ≡ got table
+  pub node : ℕ
+  pub lowest : LowestBroken (table .nodes) node
+  pub isPlace : place ≡ offsetOf table node

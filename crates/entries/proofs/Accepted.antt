@@ -10,7 +10,7 @@ use lib.Dec.{eqb, leb}
 use borrow.Author.Tests.{eqb-true, leb-true}
 use Rattle.awhile.specs.Lists.{sum}
 use Rattle.awhile.specs.Refusals.{Answer, refused, got, check, refusalNumber}
-use Rattle.awhile.specs.Tables.{Table, Reading, rejected, notATree, accepted, readTable}
+use Rattle.awhile.specs.Tables.{Table, readTable}
 use Rattle.awhile.specs.declared.Refusal.{Refusal}
 use Rattle.awhile.specs.declared.Refusal.the-variants.{Cut, WrongRecord, BeyondLimit, OutOfRange, WrongSort, NotATree, ExtraBytes}
 use Rattle.awhile.specs.declared.Refusal.the-variants.{TooManyNodes, NoFreeVariable, BadDirectives}
@@ -18,7 +18,6 @@ use Rattle.awhile.specs.declared.Refusal.the-variants.{WrongVariables, WrongCel
 use Rattle.machine.specs.Directives.{readDirectives}
 use Rattle.machine.specs.Runs.{guessing}
 use Rattle.machine.specs.declared.Directive.{Directive}
-use Rattle.entries.specs.Answers.{tableIn}
 use Rattle.entries.specs.Running.{Lent, Ran, notRun, lentFor, ranAll, runIn, running, guessWith, guessEntry}
 
 -- no refusal has the number 0
@@ -44,13 +43,13 @@ pub record LentFits (lent : Lent) (t : Table) : Type 0 where
   pub cells : length (lent .cells) ≡ 4 * sum (t .counts)
   pub pending : 4 * length (t .nodes) ≤ length (lent .pending)
 
-pub record GuessAccepted (place : ℕ) (table directives : List ℕ) (lent : Lent) (budget : ℕ) (answer : List ℕ) : Type 0 where
+pub record GuessAccepted (table directives : List ℕ) (lent : Lent) (budget : ℕ) (answer : List ℕ) : Type 0 where
   pub read : Table
   pub script : List Directive
-  pub reads : readTable table ≡ accepted read
+  pub reads : readTable table ≡ got read
   pub scripted : readDirectives directives ≡ some script
   pub fits : LentFits lent read
-  pub exit : guessEntry place table directives lent budget answer ≡ ranAll read lent answer (runIn read lent budget (guessing script))
+  pub exit : guessEntry table directives lent budget answer ≡ ranAll read lent answer (runIn read lent budget (guessing script))
 
 -- a check that is passed
 pub check-got : {A : Type 0} (b : Bool) (r : Refusal) (a : Answer A) (x : A) → check b r a ≡ got x → (b ≡ true) × (a ≡ got x)
@@ -66,12 +65,12 @@ lent-for lent t u e =
     let r = check-got (leb (4 * length (t .nodes)) (length (lent .pending))) ShortPending (got t) u (q .1) in
     (record { variables = eqb-true _ _ (p .0); cells = eqb-true _ _ (q .0); pending = leb-true _ _ (r .0) }, cc (r .1))
 
-module _ (place : ℕ) (table directives : List ℕ) (lent : Lent) (budget : ℕ) (answer : List ℕ) where
+module _ (table directives : List ℕ) (lent : Lent) (budget : ℕ) (answer : List ℕ) where
   -- the list is read, and the slices are looked at
   lent-accepted : (t : Table) (ds : List Directive) (a : Answer Table) → lentFor lent t ≡ a
-      → guessEntry place table directives lent budget answer ≡ running a lent budget answer (guessing ds)
-      → readTable table ≡ accepted t → readDirectives directives ≡ some ds
-      → guessEntry place table directives lent budget answer .result ≡ 0 → GuessAccepted place table directives lent budget answer
+      → guessEntry table directives lent budget answer ≡ running a lent budget answer (guessing ds)
+      → readTable table ≡ got t → readDirectives directives ≡ some ds
+      → guessEntry table directives lent budget answer .result ≡ 0 → GuessAccepted table directives lent budget answer
   unfolding running notRun
   lent-accepted t ds (refused r) e call reads scripted zero′ = absurd (refusal-not-zero r (sym (ap (λ (x : Ran). x .result) call) ∙ zero′))
   lent-accepted t ds (got u) e call reads scripted zero′ =
@@ -87,27 +86,20 @@ module _ (place : ℕ) (table directives : List ℕ) (lent : Lent) (budget : ℕ
 
   -- the table is read
   table-accepted : (t : Table) (s : Option (List Directive)) → readDirectives directives ≡ s
-      → guessEntry place table directives lent budget answer ≡ guessWith (got t) lent budget answer s → readTable table ≡ accepted t
-      → guessEntry place table directives lent budget answer .result ≡ 0 → GuessAccepted place table directives lent budget answer
+      → guessEntry table directives lent budget answer ≡ guessWith (got t) lent budget answer s → readTable table ≡ got t
+      → guessEntry table directives lent budget answer .result ≡ 0 → GuessAccepted table directives lent budget answer
   unfolding guessWith notRun
   table-accepted t none e call reads zero′ = absurd (refusal-not-zero BadDirectives (sym (ap (λ (x : Ran). x .result) call) ∙ zero′))
   table-accepted t (some ds) e call reads zero′ = lent-accepted t ds (lentFor lent t) refl call reads e zero′
 
   -- every accepted guessing call is one
-  pub guess-accepted : guessEntry place table directives lent budget answer .result ≡ 0 → GuessAccepted place table directives lent budget answer
-  unfolding tableIn guessEntry guessWith notRun
+  pub guess-accepted : guessEntry table directives lent budget answer .result ≡ 0 → GuessAccepted table directives lent budget answer
+  unfolding guessEntry guessWith notRun
   guess-accepted zero′ = go (readTable table) refl
     where
-      table-in : (t : Table) → readTable table ≡ accepted t → tableIn table place ≡ got t
-      table-in t e = rw (e, tableIn)
+      call : (a : Answer Table) → readTable table ≡ a → guessEntry table directives lent budget answer ≡ guessWith a lent budget answer (readDirectives directives)
+      call a e = ap (λ (a : Answer Table). guessWith a lent budget answer (readDirectives directives)) e
 
-      refused-call : (r : Refusal) → tableIn table place ≡ refused r → GuessAccepted place table directives lent budget answer
-      refused-call r e =
-          absurd (refusal-not-zero r (sym (ap (λ (a : Answer Table). guessWith a lent budget answer (readDirectives directives) .result) e) ∙ zero′))
-
-      go : (r : Reading) → readTable table ≡ r → GuessAccepted place table directives lent budget answer
-      go (rejected r) e = refused-call r (rw (e, tableIn))
-      go (notATree t) e = refused-call (NotATree place) (rw (e, tableIn))
-      go (accepted t) e =
-          table-accepted t (readDirectives directives) refl
-          (ap (λ (a : Answer Table). guessWith a lent budget answer (readDirectives directives)) (table-in t e)) e zero′
+      go : (a : Answer Table) → readTable table ≡ a → GuessAccepted table directives lent budget answer
+      go (refused r) e = absurd (refusal-not-zero r (sym (ap (λ (x : Ran). x .result) (call (refused r) e)) ∙ zero′))
+      go (got t) e = table-accepted t (readDirectives directives) refl (call (got t) e) e zero′

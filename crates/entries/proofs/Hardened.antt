@@ -8,41 +8,41 @@ use lib.Dec.{leb, ltb}
 use borrow.Author.Tests.{ltb-true, leb-true, lt-ltb, le-leb}
 use Rattle.bytes_le.proofs.Numbers.{Below}
 use Rattle.awhile.specs.Refusals.{got, check, andThen}
-use Rattle.awhile.specs.Tables.{Table, headerOf, accepted, readTable, maxVariables, nodesStart}
+use Rattle.awhile.specs.Tables.{Table, headerOf, readTable, maxVariables, nodesStart}
+use Rattle.awhile.proofs.Accepted.{then-got}
 use Rattle.awhile.specs.Encoding.{tableBytes}
 use Rattle.awhile.specs.declared.Refusal.the-variants.{TooManyNodes, NoFreeVariable}
 use Rattle.masks.specs.Hardening.{hardenedProgram, hardenedTable, maxHardened}
 use Rattle.masks.specs.Demands.{Demands}
 use Rattle.masks.proofs.Demands.{demands-met}
-use Rattle.entries.specs.Answers.{tableIn}
 use Rattle.entries.specs.Writing.{writtenAll, writing, hardenedIn, hardenEntry}
 use Rattle.entries.specs.Security.{CallsShowTheSame}
-use Rattle.entries.specs.Promises.{WritesAs, HardenedInto, Hardens}
+use Rattle.entries.specs.Promises.{writtenAt, HardenedInto, Hardens}
 use Rattle.entries.proofs.Accepted.{check-got}
-use Rattle.entries.proofs.Written.{table-in, front, writing-zero, table-got, exit-is}
+use Rattle.entries.proofs.Written.{front, writing-zero, answers-zero}
 use Rattle.entries.proofs.Security.{calls-related}
 
-module _ (place : ℕ) (s : List ℕ) (t : Table) (reads : readTable s ≡ accepted t) where
+module _ (s : List ℕ) (t : Table) (reads : readTable s ≡ got t) where
   module _ (small : length (t .nodes) ≤ maxHardened) (free : t .variables < maxVariables) where
-    hardens-to : andThen (tableIn s place) hardenedIn ≡ got (tableBytes (hardenedTable t))
+    hardens-to : andThen (readTable s) hardenedIn ≡ got (tableBytes (hardenedTable t))
     unfolding andThen hardenedIn check
-    hardens-to = rw (table-in place s t reads, le-leb (length (t .nodes)) maxHardened small, lt-ltb (t .variables) maxVariables free)
+    hardens-to = rw (reads, le-leb (length (t .nodes)) maxHardened small, lt-ltb (t .variables) maxVariables free)
 
     -- every accepted table of at most 512 nodes with a free variable number hardens into a buffer that has the room
     pub hardens : (buffer answer : List ℕ) → length (tableBytes (hardenedTable t)) ≤ length buffer
-        → hardenEntry place s buffer answer ≡ writtenAll (tableBytes (hardenedTable t)) buffer answer
+        → hardenEntry s buffer answer ≡ writtenAll (tableBytes (hardenedTable t)) buffer answer
     unfolding hardenEntry writing
     hardens buffer answer room = rw (hardens-to, writing, le-leb (length (tableBytes (hardenedTable t))) (length buffer) room)
 
 -- a buffer of this length has the room for the hardened form of any accepted table
-pub hardens-in-room : (place : ℕ) (s : List ℕ) (t : Table) → Below 256 s → readTable s ≡ accepted t → length (t .nodes) ≤ maxHardened → t .variables < maxVariables
+pub hardens-in-room : (s : List ℕ) (t : Table) → Below 256 s → readTable s ≡ got t → length (t .nodes) ≤ maxHardened → t .variables < maxVariables
     → (buffer answer : List ℕ) → nodesStart (headerOf t) + 80 * length (t .nodes) ≤ length buffer
-    → hardenEntry place s buffer answer ≡ writtenAll (tableBytes (hardenedTable t)) buffer answer
-hardens-in-room place s t bytes reads small free buffer answer room =
-    hardens place s t reads small free buffer answer (omega (arith, demands-met s t bytes reads small free .room))
+    → hardenEntry s buffer answer ≡ writtenAll (tableBytes (hardenedTable t)) buffer answer
+hardens-in-room s t bytes reads small free buffer answer room =
+    hardens s t reads small free buffer answer (omega (arith, demands-met s t bytes reads small free .room))
 
 -- the hardened table in the buffer
-written-into : (s : List ℕ) (t : Table) → Below 256 s → readTable s ≡ accepted t → length (t .nodes) ≤ maxHardened → t .variables < maxVariables
+written-into : (s : List ℕ) (t : Table) → Below 256 s → readTable s ≡ got t → length (t .nodes) ≤ maxHardened → t .variables < maxVariables
     → (buffer answer : List ℕ) → HardenedInto s answer (writtenAll (tableBytes (hardenedTable t)) buffer answer)
 unfolding writtenAll
 written-into s t bytes reads small free buffer answer =
@@ -61,14 +61,14 @@ written-into s t bytes reads small free buffer answer =
     }
 
 -- where the entry answers 0, the table was accepted and the demands hold of what it wrote
-pub hardened-into : (place : ℕ) (s buffer answer : List ℕ) → Below 256 s → hardenEntry place s buffer answer .result ≡ 0
-    → HardenedInto s answer (hardenEntry place s buffer answer)
+pub hardened-into : (s buffer answer : List ℕ) → Below 256 s → hardenEntry s buffer answer .result ≡ 0
+    → HardenedInto s answer (hardenEntry s buffer answer)
 unfolding hardenEntry hardenedIn
-hardened-into place s buffer answer bytes zero =
-    let Q : Type 0 = HardenedInto s answer (hardenEntry place s buffer answer) in
-    writing-zero Q (andThen (tableIn s place) hardenedIn) buffer answer zero
+hardened-into s buffer answer bytes zero =
+    let Q : Type 0 = HardenedInto s answer (hardenEntry s buffer answer) in
+    writing-zero Q (andThen (readTable s) hardenedIn) buffer answer zero
     (λ out got-out wrote.
-    table-got Q place s hardenedIn out got-out
+    then-got Q (readTable s) hardenedIn out got-out
     (λ t reads hardened.
     let small = check-got (leb (length (t .nodes)) maxHardened) TooManyNodes _ out hardened in
     let free = check-got (ltb (t .variables) maxVariables) NoFreeVariable _ out (small .1) in
@@ -77,9 +77,6 @@ hardened-into place s buffer answer bytes zero =
     (written-into s t bytes reads (leb-true (length (t .nodes)) maxHardened (small .0)) (ltb-true (t .variables) maxVariables (free .0)) buffer answer)))
 
 -- THE PROMISE of the hardening entry: an entry that writes as it is defined to meets the demands where it answers 0
-pub entry-hardens : {s out answer out′ answer′ : List ℕ} {k : ℕ} → Below 256 s → WritesAs hardenEntry s out answer k out′ answer′ → Hardens s out answer k out′ answer′
+pub entry-hardens : {s out answer out′ answer′ : List ℕ} {k : ℕ} → Below 256 s → writtenAt k out′ answer′ ≡ hardenEntry s out answer → Hardens s out answer k out′ answer′
 entry-hardens {s} {out} {answer} bytes w =
-    record {
-      writes = w;
-      demands = λ e. subst (HardenedInto s answer) (exit-is w) (hardened-into (w .place) s out answer bytes (sym (w .results) ∙ e));
-    }
+    record { writes = w; demands = λ e. subst (HardenedInto s answer) (sym w) (hardened-into s out answer bytes (answers-zero w e)) }

@@ -9,7 +9,9 @@ use lib.ListN.{length}
 use Rattle.bytes_le.specs.Numbers.{fromWords}
 use Rattle.awhile.specs.Lists.{sum}
 use Rattle.awhile.specs.declared.Labelling.{Labelling}
-use Rattle.awhile.specs.Tables.{Table, readTable, accepted}
+use Rattle.awhile.specs.Refusals.{got}
+use Rattle.awhile.specs.Tables.{Table, readTable}
+use Rattle.awhile.proofs.Accepted.{got-same}
 use Rattle.awhile.specs.Trees.{rootOf}
 use Rattle.machine.specs.Observations.{Observation, observationBytes, shownBytes}
 use Rattle.machine.specs.Memory.{nextNode, runNumbers}
@@ -47,24 +49,21 @@ ran-reports t lent answer o =
       holds = refl;
     }
 
-accepted-same : {t u : Table} → accepted t ≡ accepted u → t ≡ u
-accepted-same e = cc
-
 some-same : {ds es : List Directive} → some ds ≡ some es → ds ≡ es
 some-same e = cc
 
-module _ (place : ℕ) (table directives : List ℕ) (lent : Lent) (budget : ℕ) (answer : List ℕ) (a : GuessAccepted place table directives lent budget answer) where
+module _ (table directives : List ℕ) (lent : Lent) (budget : ℕ) (answer : List ℕ) (a : GuessAccepted table directives lent budget answer) where
   -- an accepted call runs the table and the list that its bytes are read as
   run-reported : reported table directives lent budget ≡ shownBytes (runIn (a .read) lent budget (guessing (a .script)) .machine .shown)
   unfolding reported reportedBy
   run-reported = rw (a .reads, a .scripted)
 
-  call-reports : Reports (guessEntry place table directives lent budget answer) lent answer (reported table directives lent budget)
+  call-reports : Reports (guessEntry table directives lent budget answer) lent answer (reported table directives lent budget)
   call-reports =
       subst₂ (λ (ran : Ran) (shown : List ℕ). Reports ran lent answer shown) (sym (a .exit)) (sym run-reported)
       (ran-reports (a .read) lent answer (runIn (a .read) lent budget (guessing (a .script))))
 
-module _ (t hardened : Table) (table : List ℕ) (reads : readTable table ≡ accepted hardened) (declared : hardened .variables ≡ t .variables + 1)
+module _ (t hardened : Table) (table : List ℕ) (reads : readTable table ≡ got hardened) (declared : hardened .variables ≡ t .variables + 1)
     (cells : hardened .counts ≡ t .counts) where
   -- from the state that its slices hold
   shown-by-run : (lent : Lent) (budget : ℕ) (vs cs : List ℕ) (ds : List Directive) → Holds t lent vs cs
@@ -77,22 +76,22 @@ module _ (t hardened : Table) (table : List ℕ) (reads : readTable table ≡ ac
       (ap (λ (n : ℕ). fromWords n (lent .variables)) declared ∙ h .variables)
       (ap (λ (ns : List ℕ). fromWords (sum ns) (lent .cells)) cells ∙ h .cells))
 
-  state-reported : {place : ℕ} {directives : List ℕ} {lent : Lent} {budget : ℕ} {answer : List ℕ} (vs cs : List ℕ) (script : List Directive)
-      → (a : GuessAccepted place table directives lent budget answer) → a .script ≡ script → Holds t lent vs cs
+  state-reported : {directives : List ℕ} {lent : Lent} {budget : ℕ} {answer : List ℕ} (vs cs : List ℕ) (script : List Directive)
+      → (a : GuessAccepted table directives lent budget answer) → a .script ≡ script → Holds t lent vs cs
       → reported table directives lent budget ≡ shownBytes (guessingShown hardened (bytes (length (lent .observations))) script (vs ++ (0 ∷ [])) cs budget)
-  state-reported {place} {directives} {lent} {budget} {answer} vs cs script a same h =
-      run-reported place table directives lent budget answer a
-      ∙ ap₂ (λ (x : Table) (s : List Directive). shownBytes (runIn x lent budget (guessing s) .machine .shown)) (accepted-same (sym (a .reads) ∙ reads)) same
+  state-reported {directives} {lent} {budget} {answer} vs cs script a same h =
+      run-reported table directives lent budget answer a
+      ∙ ap₂ (λ (x : Table) (s : List Directive). shownBytes (runIn x lent budget (guessing s) .machine .shown)) (got-same _ _ (sym (a .reads) ∙ reads)) same
       ∙ ap shownBytes (shown-by-run lent budget vs cs script h)
 
   -- demand 3 for the calls, from demand 3 for the runs
   pub calls-related : {l : Labelling} → ShowsTheSame l t hardened → CallsShowTheSame l t table
   calls-related secure =
       record {
-        reports = λ directives place lent budget answer zero. call-reports place table directives lent budget answer (guess-accepted place table directives lent budget answer zero);
-        related = λ vs cs ws ds agree plainly directives place₁ place₂ lent₁ lent₂ budget₁ budget₂ answer₁ answer₂ h₁ h₂ zero₁ zero₂.
-            let a = guess-accepted place₁ table directives lent₁ budget₁ answer₁ zero₁ in
-            let b = guess-accepted place₂ table directives lent₂ budget₂ answer₂ zero₂ in
+        reports = λ directives lent budget answer zero. call-reports table directives lent budget answer (guess-accepted table directives lent budget answer zero);
+        related = λ vs cs ws ds agree plainly directives lent₁ lent₂ budget₁ budget₂ answer₁ answer₂ h₁ h₂ zero₁ zero₂.
+            let a = guess-accepted table directives lent₁ budget₁ answer₁ zero₁ in
+            let b = guess-accepted table directives lent₂ budget₂ answer₂ zero₂ in
             subst₂ OneBegins
             (sym (state-reported vs cs (a .script) a refl h₁))
             (sym (state-reported ws ds (a .script) b (some-same (sym (b .scripted) ∙ a .scripted)) h₂))

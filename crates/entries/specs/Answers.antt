@@ -1,14 +1,12 @@
--- An entry's answer, and the table that it is asked about.
+-- An entry's answer.
 use Prim.Native.Nat.{ℕ}
 use mathlib.Core.Bool.{cond}
 use mathlib.Core.List.{List, [], _∷_, _++_}
 use lib.ListN.{length, drop}
 use lib.Dec.{leb}
 use Rattle.bytes_le.specs.Numbers.{le}
-use Rattle.awhile.specs.Refusals.{Answer, refused, got, refusalNumber, refusalPlace}
-use Rattle.awhile.specs.Tables.{Table, rejected, notATree, accepted, readTable}
+use Rattle.awhile.specs.Refusals.{refusalNumber, refusalPlace}
 use Rattle.awhile.specs.declared.Refusal.{Refusal}
-use Rattle.awhile.specs.declared.Refusal.the-variants.{NotATree}
 
 -- the answer slice: "the answer's numbers, in the order given here, 8 bytes each; numbers that do not fit whole are dropped";
 -- bytes that hold no whole number are as they were
@@ -19,12 +17,3 @@ answered (n ∷ ns) slice = cond (leb 8 (length slice)) (le 8 n ++ answered ns (
 -- "A refusal's answer: number and place"
 unfoldable pub refusalNumbers : Refusal → List ℕ
 refusalNumbers r = refusalNumber r ∷ refusalPlace r ∷ []
-
--- The table that bytes read as, or its refusal. The place of a refusal by 6 is free: it is given here, and a promise says what holds of it.
-unfoldable pub tableIn : List ℕ → (placeOf6 : ℕ) → Answer Table
-tableIn s place =
-    elim (readTable s) [
-      | rejected r ↦ refused r
-      | notATree t ↦ refused (NotATree place)
-      | accepted t ↦ got t
-    ]

@@ -7,7 +7,7 @@ use lib.Dec.{leb, eqb}
 use Rattle.bytes_le.specs.Numbers.{words, fromWords}
 use Rattle.awhile.specs.Lists.{sum}
 use Rattle.awhile.specs.Refusals.{Answer, refused, got, check, andThen, refusalNumber}
-use Rattle.awhile.specs.Tables.{Table}
+use Rattle.awhile.specs.Tables.{Table, readTable}
 use Rattle.awhile.specs.Trees.{rootOf}
 use Rattle.awhile.specs.declared.Refusal.{Refusal}
 use Rattle.awhile.specs.declared.Refusal.the-variants.{BadDirectives, WrongVariables, WrongCells, ShortPending}
@@ -16,7 +16,7 @@ use Rattle.machine.specs.Directives.{readDirectives}
 use Rattle.machine.specs.Runs.{Guide, plain, guessing, bytes, Outcome, run, started}
 use Rattle.machine.specs.Memory.{pendingAfter, writtenOver, runNumbers}
 use Rattle.machine.specs.declared.Directive.{Directive}
-use Rattle.entries.specs.Answers.{answered, refusalNumbers, tableIn}
+use Rattle.entries.specs.Answers.{answered, refusalNumbers}
 
 -- the lent slices of a run
 pub record Lent : Type 0 where
@@ -69,8 +69,8 @@ running (refused r) lent budget answer g = notRun r lent answer
 running (got t) lent budget answer g = ranAll t lent answer (runIn t lent budget g)
 
 -- flow_run(table, variables, cells, pending, observations, budget, answer)
-unfoldable pub runEntry : (placeOf6 : ℕ) → (table : List ℕ) → Lent → (budget : ℕ) → (answer : List ℕ) → Ran
-runEntry place table lent budget answer = running (andThen (tableIn table place) (lentFor lent)) lent budget answer plain
+unfoldable pub runEntry : (table : List ℕ) → Lent → (budget : ℕ) → (answer : List ℕ) → Ran
+runEntry table lent budget answer = running (andThen (readTable table) (lentFor lent)) lent budget answer plain
 
 -- 10: "directive list cut, or a wrong kind or length in it", after 1 to 7 and before 20
 unfoldable pub guessWith : Answer Table → Lent → (budget : ℕ) → (answer : List ℕ) → Option (List Directive) → Ran
@@ -79,5 +79,5 @@ guessWith (got t) lent budget answer none = notRun BadDirectives lent answer
 guessWith (got t) lent budget answer (some ds) = running (lentFor lent t) lent budget answer (guessing ds)
 
 -- flow_guess(table, directives, variables, cells, pending, observations, budget, answer)
-unfoldable pub guessEntry : (placeOf6 : ℕ) → (table directives : List ℕ) → Lent → (budget : ℕ) → (answer : List ℕ) → Ran
-guessEntry place table directives lent budget answer = guessWith (tableIn table place) lent budget answer (readDirectives directives)
+unfoldable pub guessEntry : (table directives : List ℕ) → Lent → (budget : ℕ) → (answer : List ℕ) → Ran
+guessEntry table directives lent budget answer = guessWith (readTable table) lent budget answer (readDirectives directives)

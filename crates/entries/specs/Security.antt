@@ -7,7 +7,8 @@ use lib.ListN.{length}
 use Rattle.bytes_le.specs.Numbers.{fromWords}
 use Rattle.awhile.specs.Lists.{sum}
 use Rattle.awhile.specs.declared.Labelling.{Labelling}
-use Rattle.awhile.specs.Tables.{Table, Reading, rejected, notATree, accepted, readTable}
+use Rattle.awhile.specs.Refusals.{Answer, refused, got}
+use Rattle.awhile.specs.Tables.{Table, readTable}
 use Rattle.machine.specs.Observations.{shownBytes}
 use Rattle.machine.specs.Directives.{readDirectives}
 use Rattle.machine.specs.Memory.{writtenOver}
@@ -19,11 +20,10 @@ use Rattle.entries.specs.Answers.{answered}
 use Rattle.entries.specs.Running.{Lent, Ran, runIn, guessEntry}
 
 -- the observation bytes of the run that a call asks for, where its table and its list are read
-unfoldable pub reportedBy : Reading → Option (List Directive) → Lent → (budget : ℕ) → List ℕ
-reportedBy (accepted t) (some ds) lent budget = shownBytes (runIn t lent budget (guessing ds) .machine .shown)
-reportedBy (accepted t) none lent budget = []
-reportedBy (notATree t) ds lent budget = []
-reportedBy (rejected r) ds lent budget = []
+unfoldable pub reportedBy : Answer Table → Option (List Directive) → Lent → (budget : ℕ) → List ℕ
+reportedBy (got t) (some ds) lent budget = shownBytes (runIn t lent budget (guessing ds) .machine .shown)
+reportedBy (got t) none lent budget = []
+reportedBy (refused r) ds lent budget = []
 
 unfoldable pub reported : (table directives : List ℕ) → Lent → (budget : ℕ) → List ℕ
 reported table directives lent budget = reportedBy (readTable table) (readDirectives directives) lent budget
@@ -46,13 +46,13 @@ pub record Holds (t : Table) (lent : Lent) (vs cs : List ℕ) : Type 0 where
 -- The claim about an original table and the bytes of a hardened one: two accepted calls of flow_guess on these bytes, with one directive list
 -- and any budgets and slices, from states that agree and whose plain runs are related, report the bytes of their runs, and one list begins the other.
 pub record CallsShowTheSame (l : Labelling) (t : Table) (hardened : List ℕ) : Type 0 where
-  pub reports : (directives : List ℕ) (place : ℕ) (lent : Lent) (budget : ℕ) (answer : List ℕ)
-      → guessEntry place hardened directives lent budget answer .result ≡ 0
-      → Reports (guessEntry place hardened directives lent budget answer) lent answer (reported hardened directives lent budget)
+  pub reports : (directives : List ℕ) (lent : Lent) (budget : ℕ) (answer : List ℕ)
+      → guessEntry hardened directives lent budget answer .result ≡ 0
+      → Reports (guessEntry hardened directives lent budget answer) lent answer (reported hardened directives lent budget)
   pub related : (vs cs ws ds : List ℕ) → AgreeingStates t l vs cs ws ds
       → ((n m : ℕ) → OneBegins (plainlyShown t vs cs n) (plainlyShown t ws ds m))
-      → (directives : List ℕ) (place₁ place₂ : ℕ) (lent₁ lent₂ : Lent) (budget₁ budget₂ : ℕ) (answer₁ answer₂ : List ℕ)
+      → (directives : List ℕ) (lent₁ lent₂ : Lent) (budget₁ budget₂ : ℕ) (answer₁ answer₂ : List ℕ)
       → Holds t lent₁ vs cs → Holds t lent₂ ws ds
-      → guessEntry place₁ hardened directives lent₁ budget₁ answer₁ .result ≡ 0
-      → guessEntry place₂ hardened directives lent₂ budget₂ answer₂ .result ≡ 0
+      → guessEntry hardened directives lent₁ budget₁ answer₁ .result ≡ 0
+      → guessEntry hardened directives lent₂ budget₂ answer₂ .result ≡ 0
       → OneBegins (reported hardened directives lent₁ budget₁) (reported hardened directives lent₂ budget₂)

@@ -5,14 +5,14 @@ use mathlib.Core.List.{List, [], _∷_}
 use lib.ListN.{length}
 use lib.Dec.{leb, ltb}
 use Rattle.awhile.specs.Refusals.{Answer, refused, got, check, andThen, refusalNumber}
-use Rattle.awhile.specs.Tables.{Table, maxVariables}
+use Rattle.awhile.specs.Tables.{Table, readTable, maxVariables}
 use Rattle.awhile.specs.Encoding.{tableBytes}
 use Rattle.awhile.specs.declared.Refusal.{Refusal}
 use Rattle.awhile.specs.declared.Refusal.the-variants.{TooManyNodes, NoFreeVariable, ShortBuffer}
 use Rattle.labels.specs.Sheet.{sheetBytes}
 use Rattle.machine.specs.Memory.{writtenOver}
 use Rattle.masks.specs.Hardening.{hardenedTable, maxHardened}
-use Rattle.entries.specs.Answers.{answered, refusalNumbers, tableIn}
+use Rattle.entries.specs.Answers.{answered, refusalNumbers}
 
 -- the result (the answer's first number), the buffer and the answer slice at exit
 pub record Written : Type 0 where
@@ -36,8 +36,8 @@ writing (got out) buffer answer =
     cond (leb (length out) (length buffer)) (writtenAll out buffer answer) (notWritten ShortBuffer buffer answer)
 
 -- flow_sheet(table, sheet, answer)
-unfoldable pub sheetEntry : (placeOf6 : ℕ) → (table sheet answer : List ℕ) → Written
-sheetEntry place table sheet answer = writing (andThen (tableIn table place) (λ t. got (sheetBytes t (t .labels)))) sheet answer
+unfoldable pub sheetEntry : (table sheet answer : List ℕ) → Written
+sheetEntry table sheet answer = writing (andThen (readTable table) (λ t. got (sheetBytes t (t .labels)))) sheet answer
 
 -- 8: hardening with N above 512; 9: hardening with V = 32
 unfoldable pub hardenedIn : Table → Answer (List ℕ)
@@ -47,5 +47,5 @@ hardenedIn t =
     (got (tableBytes (hardenedTable t))))
 
 -- flow_harden(table, out, answer)
-unfoldable pub hardenEntry : (placeOf6 : ℕ) → (table out answer : List ℕ) → Written
-hardenEntry place table out answer = writing (andThen (tableIn table place) hardenedIn) out answer
+unfoldable pub hardenEntry : (table out answer : List ℕ) → Written
+hardenEntry table out answer = writing (andThen (readTable table) hardenedIn) out answer

@@ -1,7 +1,7 @@
 -- What a call of the hardening entry answers: the two refusals of its own, and the bytes with room for them.
-use Prim.Native.Nat.{ℕ, _-_, _≤_, _<_}
+use Prim.Native.Nat.{ℕ, _≤_, _<_}
 use native.Mathlib.Omega.{arith}
-use mathlib.Core.Path.{_≡_, refl}
+use mathlib.Core.Path.{_≡_}
 use mathlib.Core.List.{List}
 use lib.ListN.{length}
 use borrow.Author.Tests.{le-leb, lt-leb, le-ltb, lt-ltb}
@@ -15,7 +15,8 @@ use Rattle.awhile.specs.declared.Refusal.{Refusal}
 use Rattle.awhile.specs.declared.Refusal.the-variants.{TooManyNodes, NoFreeVariable}
 use Rattle.masks.specs.Hardening.{hardenedTable, maxHardened}
 use Rattle.entries.specs.Answers.{answered, refusalNumbers}
-use Rattle.flow.specs.Writes.{HasHardened, Writes}
+use Rattle.flow.specs.Writes.{HasHardened}
+use Rattle.entries.specs.Promises.{writtenAt}
 use Rattle.entries.specs.Writing.{notWritten, writing, hardenedIn}
 
 module _ {s index : List ℕ} {declared : Declarations} (ready : Ready s index declared) where
@@ -38,21 +39,21 @@ module _ {s index : List ℕ} {declared : Declarations} (ready : Ready s index d
 
   -- what is refused is answered, and nothing is written
   refused-writes : (r : Refusal) → hardenedIn (tableOf s) ≡ refused r → (out answer : List ℕ) {answer′ : List ℕ} {k : ℕ}
-      → k ≡ refusalNumber r → answer′ ≡ answered (refusalNumbers r) answer → Writes (writing (hardenedIn (tableOf s)) out answer) k out answer′
+      → k ≡ refusalNumber r → answer′ ≡ answered (refusalNumbers r) answer → writtenAt k out answer′ ≡ writing (hardenedIn (tableOf s)) out answer
   unfolding writing notWritten
-  refused-writes r e out answer p q = rw e (record { results = p; buffers = refl; answers = q })
+  refused-writes r e out answer p q = rw (e, p, q)
 
   pub many-writes : maxHardened < declared .header .nodes → (out answer : List ℕ) {answer′ : List ℕ} {k : ℕ} → k ≡ refusalNumber TooManyNodes
-      → answer′ ≡ answered (refusalNumbers TooManyNodes) answer → Writes (writing (hardenedIn (tableOf s)) out answer) k out answer′
+      → answer′ ≡ answered (refusalNumbers TooManyNodes) answer → writtenAt k out answer′ ≡ writing (hardenedIn (tableOf s)) out answer
   many-writes h = refused-writes TooManyNodes (too-many h)
 
   pub no-variable-writes : declared .header .nodes ≤ maxHardened → maxVariables ≤ declared .header .variables → (out answer : List ℕ) {answer′ : List ℕ} {k : ℕ} → k ≡ refusalNumber NoFreeVariable
-      → answer′ ≡ answered (refusalNumbers NoFreeVariable) answer → Writes (writing (hardenedIn (tableOf s)) out answer) k out answer′
+      → answer′ ≡ answered (refusalNumbers NoFreeVariable) answer → writtenAt k out answer′ ≡ writing (hardenedIn (tableOf s)) out answer
   no-variable-writes h k = refused-writes NoFreeVariable (no-variable h k)
 
 -- ---- a table that has its hardened form
 pub hardened-writes : {s : List ℕ} → HasHardened s → (out answer : List ℕ) {out′ answer′ : List ℕ} {k : ℕ}
-    → Writes (writing (got (tableBytes (hardenedTable (tableOf s)))) out answer) k out′ answer′ → Writes (writing (hardenedIn (tableOf s)) out answer) k out′ answer′
+    → writtenAt k out′ answer′ ≡ writing (got (tableBytes (hardenedTable (tableOf s)))) out answer → writtenAt k out′ answer′ ≡ writing (hardenedIn (tableOf s)) out answer
 unfolding hardenedIn check nodesIn
 hardened-writes {s} has out answer h =
     rw (le-leb (length (tableOf s .nodes)) maxHardened (has .few), lt-ltb (tableOf s .variables) maxVariables (has .free)) h

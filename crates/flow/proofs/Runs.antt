@@ -4,18 +4,18 @@ use native.Mathlib.Omega.{arith}
 use mathlib.Core.Bool.{Bool, true, false, cond}
 use mathlib.Core.Option.{Option, none, some}
 use mathlib.Core.List.{List, [], _∷_}
-use mathlib.Core.Path.{_≡_, refl, sym, ap, subst, _∙_}
+use mathlib.Core.Path.{_≡_, refl, sym, ap, _∙_}
 use lib.ListN.{length}
 use lib.Dec.{eqb}
 use borrow.Author.Tests.{eq-eqb, ne-eqb, le-leb, lt-leb}
 use Rattle.bytes_le.proofs.Numbers.{Below}
 use Rattle.awhile.specs.Lists.{sum}
 use Rattle.awhile.specs.Refusals.{Answer, refused, got, check, andThen, refusalNumber}
-use Rattle.awhile.specs.Tables.{Table, readTable, rejected, notATree, accepted, BreaksRule}
+use Rattle.awhile.specs.Tables.{Table, readTable}
 use Rattle.reader.specs.Index.{Indexed, Ready, tableOf, nodesIn, Answers}
 use Rattle.reader.proofs.Index.{indexed-well-formed, indexed-few}
 use Rattle.reader.proofs.Ready.{ready-header, ready-variables, ready-nodes, ready-cells}
-use Rattle.reader.proofs.Answering.{RefusedTable, byRecord, byOrder, refusing}
+use Rattle.reader.proofs.Answering.{refusing}
 use Rattle.awhile.specs.declared.Declarations.{Declarations}
 use Rattle.reader.specs.declared.Read.{Read}
 use Rattle.reader.specs.declared.Read.the-variants.{Refused as RefusedRead}
@@ -30,10 +30,9 @@ use Rattle.interpreter.specs.Stepping.{cellsIn}
 use Rattle.interpreter.specs.Guiding.{orNone, directivesFrom, guideOf}
 use Rattle.interpreter.specs.Running.{runOf, reportOf, RunAsked, RunLeaves}
 use Rattle.interpreter.specs.declared.run.Report.{Report}
-use Rattle.entries.specs.Answers.{answered, refusalNumbers, tableIn}
+use Rattle.entries.specs.Answers.{answered, refusalNumbers}
 use Rattle.entries.specs.Running.{Lent, Ran, notRun, lentFor, ranAll, runIn, running, runEntry, guessWith, guessEntry}
-use Rattle.entries.specs.Promises.{Placed}
-use Rattle.entries.specs.Promises.{lentAt, runCall, guessCall, RunsAs}
+use Rattle.entries.specs.Promises.{lentAt, ranAt, Runs, Guesses}
 use Rattle.flow.specs.Runs.{reportNumbers, resultOf, numbersOf, runnable, CameTo, not-run, has-run, DoneAs, ReadDone}
 use Rattle.flow.specs.declared.machines.Done.{Done}
 use Rattle.flow.specs.declared.machines.Done.the-variants.{Refused, Ended}
@@ -122,38 +121,21 @@ module _ (table index list : List ℕ) (declared : Declarations) (ready : Ready 
                   }
 
 -- ---- any table
--- the place is free unless the table is refused by 6
-free-place : (table : List ℕ) (place : ℕ) → ((t : Table) → readTable table ≡ notATree t → ⊥) → Placed table place
-free-place table place never = record { broken = λ t e. absurd (never t e) }
-
-not-both : (table : List ℕ) (q : Refusal) (t : Table) → readTable table ≡ rejected q → readTable table ≡ notATree t → ⊥
-not-both table q t e f = let z : _≡_ {A = ℕ} 0 1 = cc in omega arith
-
-not-tree : (table : List ℕ) (u t : Table) → readTable table ≡ accepted u → readTable table ≡ notATree t → ⊥
-not-tree table u t e f = let z : _≡_ {A = ℕ} 0 1 = cc in omega arith
-
-same-table : (table : List ℕ) (t u : Table) → readTable table ≡ notATree t → readTable table ≡ notATree u → t ≡ u
-same-table table t u e f = cc
-
 module _ (table index list : List ℕ) (isGuessing : Bool) (budget : ℕ) (lent : Lent) where
   -- a table that the reader refuses
   pub read-refused : (found : Read) (r : Refusal) → Answers table index found → found ≡ RefusedRead r → ReadDone table list isGuessing budget lent lent (Refused r)
-  unfolding tableIn andThen
-  read-refused found r answers is = go (refusing table index r (rw is at answers))
-    where
-      go : RefusedTable table r → ReadDone table list isGuessing budget lent lent (Refused r)
-      go (byRecord e) = record { place = 0; placed = free-place table 0 (λ t f. not-both table r t e f); came = not-run r (rw (e, tableIn)) refl }
-      go (byOrder t place e b same) = record { place = place; placed = record { broken = λ u f. subst (λ t. BreaksRule t place) (same-table table t u e f) b }; came = not-run r (rw (e, tableIn, same)) refl }
+  unfolding andThen
+  read-refused found r answers is = record { came = not-run r (rw (refusing table index r (rw is at answers))) refl }
 
   -- a table that it accepts
   pub read-done : (lent′ : Lent) (d : Done) → Indexed table index → DoneAs table list isGuessing budget lent lent′ d → ReadDone table list isGuessing budget lent lent′ d
-  unfolding tableIn andThen
-  read-done lent′ d indexed done = record { place = 0; placed = free-place table 0 (λ t f. not-tree table (tableOf table) t (indexed .reads) f); came = rw (indexed .reads, tableIn) (done .came) }
+  unfolding andThen
+  read-done lent′ d indexed done = record { came = rw (indexed .reads) (done .came) }
 
 -- ---- the entries
 -- what a call came to, as all memory at exit
 abbrev exitOf : Lent → (answer : List ℕ) → Done → Ran
-exitOf lent answer d = record { result = resultOf d; lent = lent; answer = answered (numbersOf d) answer }
+exitOf lent answer d = ranAt (resultOf d) lent (answered (numbersOf d) answer)
 
 module _ (list : List ℕ) (isGuessing : Bool) (budget : ℕ) (lent lent′ : Lent) (answer : List ℕ) where
   came-to : (a : Answer Table) (d : Done) → CameTo a list isGuessing budget lent lent′ d → running a lent budget answer (guideOf isGuessing list 0) ≡ exitOf lent′ answer d
@@ -161,51 +143,35 @@ module _ (list : List ℕ) (isGuessing : Bool) (budget : ℕ) (lent lent′ : Le
   came-to a d (not-run r e same) = rw (e, running, same)
   came-to a d (has-run t r e left report) = rw (e, running, left, report)
 
--- the plain entry is the run without directives
-run-entry : (budget : ℕ) (lent : Lent) (answer : List ℕ) (table : List ℕ) (place : ℕ) → runEntry place table lent budget answer ≡ running (andThen (tableIn table place) (runnable [] lent)) lent budget answer (guideOf false [] 0)
-unfolding runEntry runnable check isSome readDirectives directivesIn guideOf
-run-entry budget lent answer table place = refl
+module _ (table : List ℕ) (budget : ℕ) (lent : Lent) (answer : List ℕ) where
+  -- the plain entry is the run without directives
+  run-entry : runEntry table lent budget answer ≡ running (andThen (readTable table) (runnable [] lent)) lent budget answer (guideOf false [] 0)
+  unfolding runEntry runnable check isSome readDirectives directivesIn guideOf
+  run-entry = refl
 
--- the guessing entry is the run under its list
-guess-entry : (list : List ℕ) (budget : ℕ) (lent : Lent) (answer : List ℕ) (table : List ℕ) (place : ℕ) → guessEntry place table list lent budget answer ≡ running (andThen (tableIn table place) (runnable list lent)) lent budget answer (guideOf true list 0)
-unfolding guessEntry guessWith andThen running runnable check isSome guideOf directivesFrom orNone
-guess-entry list budget lent answer table place = go (tableIn table place) (readDirectives list) refl
-  where
-    go : (a : Answer Table) (ds : Option _) → readDirectives list ≡ ds → guessWith a lent budget answer (readDirectives list) ≡ running (andThen a (runnable list lent)) lent budget answer (guideOf true list 0)
-    go (refused r) ds e = refl
-    go (got t) none e = rw e
-    go (got t) (some ds) e = rw e
+  -- the guessing entry is the run under its list
+  guess-entry : (list : List ℕ) → guessEntry table list lent budget answer ≡ running (andThen (readTable table) (runnable list lent)) lent budget answer (guideOf true list 0)
+  unfolding guessEntry guessWith andThen running runnable check isSome guideOf directivesFrom orNone
+  guess-entry list = go (readTable table) (readDirectives list) refl
+    where
+      go : (a : Answer Table) (ds : Option _) → readDirectives list ≡ ds → guessWith a lent budget answer (readDirectives list) ≡ running (andThen a (runnable list lent)) lent budget answer (guideOf true list 0)
+      go (refused r) ds e = refl
+      go (got t) none e = rw e
+      go (got t) (some ds) e = rw e
 
--- the promise of an entry, from what its call came to
-runs-as : (table : List ℕ) (entry : ℕ → Lent → (answer : List ℕ) → Ran) (lent lent′ : Lent) (answer answer′ : List ℕ) (d : Done) (result place : ℕ)
-    → Placed table place → entry place lent answer ≡ exitOf lent′ answer d → (result ≡ resultOf d) × (answer′ ≡ answered (numbersOf d) answer)
-    → RunsAs table entry lent answer result lent′ answer′
-runs-as table entry lent lent′ answer answer′ d result place placed e h =
-    record {
-      place = place;
-      placed = placed;
-      results = h .0 ∙ sym (ap (λ r. r .result) e);
-      variables = sym (ap (λ r. r .lent .variables) e);
-      cells = sym (ap (λ r. r .lent .cells) e);
-      pending = sym (ap (λ r. r .lent .pending) e);
-      observations = sym (ap (λ r. r .lent .observations) e);
-      answers = h .1 ∙ sym (ap (λ r. r .answer) e);
-    }
+-- what the two entries promise, from what a call came to and answers
+module _ (table list : List ℕ) (budget : ℕ) (lent lent′ : Lent) (answer answer′ : List ℕ) (d : Done) (result : ℕ)
+    (says : (result ≡ resultOf d) × (answer′ ≡ answered (numbersOf d) answer)) where
+  at-exit : ranAt result lent′ answer′ ≡ exitOf lent′ answer d
+  at-exit = λ i. ranAt (says .0 i) lent′ (says .1 i)
 
--- what the two entries promise
-module _ (table list : List ℕ) (budget : ℕ) (lent lent′ : Lent) (answer answer′ : List ℕ) (d : Done) (result : ℕ) where
-  pub run-promise : list ≡ [] → ReadDone table list false budget lent lent′ d → (result ≡ resultOf d) × (answer′ ≡ answered (numbersOf d) answer)
-      → RunsAs table (runCall table budget) lent answer result lent′ answer′
-  run-promise empty read h =
+  pub run-promise : list ≡ [] → ReadDone table list false budget lent lent′ d → Runs table lent budget answer result lent′ answer′
+  run-promise empty read =
       let done = rw empty at read in
-      runs-as table (runCall table budget) lent lent′ answer answer′ d result (done .place) (done .placed)
-      (run-entry budget lent answer table (done .place) ∙ came-to [] false budget lent lent′ answer (andThen (tableIn table (done .place)) (runnable [] lent)) d (done .came)) h
+      record { runs = at-exit ∙ sym (run-entry table budget lent answer ∙ came-to [] false budget lent lent′ answer _ d (done .came)) }
 
-  pub guess-promise : ReadDone table list true budget lent lent′ d → (result ≡ resultOf d) × (answer′ ≡ answered (numbersOf d) answer)
-      → RunsAs table (guessCall table list budget) lent answer result lent′ answer′
-  guess-promise done h =
-      runs-as table (guessCall table list budget) lent lent′ answer answer′ d result (done .place) (done .placed)
-      (guess-entry list budget lent answer table (done .place) ∙ came-to list true budget lent lent′ answer (andThen (tableIn table (done .place)) (runnable list lent)) d (done .came)) h
+  pub guess-promise : ReadDone table list true budget lent lent′ d → Guesses table list lent budget answer result lent′ answer′
+  guess-promise done = record { guesses = at-exit ∙ sym (guess-entry table budget lent answer list ∙ came-to list true budget lent lent′ answer _ d (done .came)) }
 
 -- the answer of a refusal, and of a run
 pub refused-answered : (d : Done) (r : Refusal) (result : ℕ) (exit slice : List ℕ) → d ≡ Refused r

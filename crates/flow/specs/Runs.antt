@@ -4,7 +4,7 @@ use mathlib.Core.Bool.{Bool, cond}
 use mathlib.Core.List.{List, [], _∷_}
 use mathlib.Core.Path.{_≡_}
 use Rattle.awhile.specs.Refusals.{Answer, refused, got, check, andThen, refusalNumber}
-use Rattle.awhile.specs.Tables.{Table}
+use Rattle.awhile.specs.Tables.{Table, readTable}
 use Rattle.reader.specs.Index.{tableOf}
 use Rattle.awhile.specs.declared.Refusal.{Refusal}
 use Rattle.awhile.specs.declared.Refusal.the-variants.{BadDirectives}
@@ -14,9 +14,8 @@ use Rattle.machine.specs.Runs.{endNumber}
 use Rattle.interpreter.specs.Guiding.{guideOf}
 use Rattle.interpreter.specs.Running.{reportOf}
 use Rattle.interpreter.specs.declared.run.Report.{Report}
-use Rattle.entries.specs.Answers.{refusalNumbers, tableIn}
+use Rattle.entries.specs.Answers.{refusalNumbers}
 use Rattle.entries.specs.Running.{Lent, lentFor, runIn, ranAll}
-use Rattle.entries.specs.Promises.{Placed}
 use Rattle.flow.specs.declared.machines.Done.{Done}
 use Rattle.flow.specs.declared.machines.Done.the-variants.{Refused, Ended}
 
@@ -49,6 +48,4 @@ pub record DoneAs (table list : List ℕ) (guessing : Bool) (budget : ℕ) (lent
 
 -- for any table
 pub record ReadDone (table list : List ℕ) (guessing : Bool) (budget : ℕ) (lent lent′ : Lent) (done : Done) : Type 0 where
-  pub place : ℕ
-  pub placed : Placed table place
-  pub came : CameTo (andThen (tableIn table place) (runnable list lent)) list guessing budget lent lent′ done
+  pub came : CameTo (andThen (readTable table) (runnable list lent)) list guessing budget lent lent′ done

@@ -12,17 +12,10 @@ use Rattle.awhile.specs.declared.Declarations.{Declarations}
 use Rattle.reader.specs.Index.{Ready, tableOf, nodesIn}
 use Rattle.analysis.specs.Conditions.{NoteRoom}
 use Rattle.masks.specs.Hardening.{maxHardened}
-use Rattle.entries.specs.Writing.{Written}
 
 -- one 8-byte number at an offset, if it fits whole
 unfoldable pub numberPut : List ℕ → (at number : ℕ) → List ℕ
 numberPut slice at n = cond (leb (at + 8) (length slice)) (sets slice at (le 8 n)) slice
-
--- a result, a buffer and an answer slice at exit are those of what was written
-pub record Writes (w : Written) (result : ℕ) (buffer′ answer′ : List ℕ) : Type 0 where
-  pub results : result ≡ w .result
-  pub buffers : buffer′ ≡ w .buffer
-  pub answers : answer′ ≡ w .answer
 
 -- a table that has a hardened form: neither of the causes for a refusal by 8 or 9
 pub record HasHardened (table : List ℕ) : Type 0 where

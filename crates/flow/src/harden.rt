@@ -12,14 +12,14 @@ use masking::deciding::decide_all;
 use reader::Read;
 use reader::tables::read;
 use variables::collecting::name_all;
+ghost use mathlib.Core.Path.{_≡_};
 ghost use Rattle.awhile.specs.Encoding.{tableBytes};
 ghost use Rattle.reader.specs.Index.{tableOf, Ready};
 ghost use Rattle.awhile.specs.Refusals.{got};
 ghost use Rattle.masks.specs.Hardening.{hardenedTable};
 ghost use Rattle.masking.specs.Deciding.{Decides};
 ghost use Rattle.flow.specs.Writes.{HasHardened, DecideReady};
-ghost use Rattle.entries.specs.Promises.{Hardens};
-ghost use Rattle.flow.specs.Writes.{Writes};
+ghost use Rattle.entries.specs.Promises.{writtenAt, Hardens};
 ghost use Rattle.entries.specs.Writing.{writing, hardenedIn};
 
 // The most nodes that are hardened: eight come out per node at most, and a table has no more than MAX_NODES.
@@ -51,8 +51,8 @@ fn write_masked(
     answer: &mut [u8],
 ) -> u64
     requires { ⌜ Ready (now table) (now index) declared × HasHardened (now table) ⌝ }
-    ensures { λ r. ⌜ Writes (writing (got (tableBytes (hardenedTable (tableOf (now (table .entry)))))) (now (out .entry)) (now (answer .entry)))
-        r (now (out .exit)) (now (answer .exit)) ⌝ }
+    ensures { λ r. ⌜ writtenAt r (now (out .exit)) (now (answer .exit))
+        ≡ writing (got (tableBytes (hardenedTable (tableOf (now (table .entry)))))) (now (out .entry)) (now (answer .entry)) ⌝ }
 {
     let mut decisions = [0u8; MAX_HARDENED];
     decide_program(table, index, declared, &mut decisions);
@@ -74,8 +74,8 @@ fn answer_hardened(
     answer: &mut [u8],
 ) -> u64
     requires { ⌜ Ready (now table) (now index) declared ⌝ }
-    ensures { λ r. ⌜ Writes (writing (hardenedIn (tableOf (now (table .entry)))) (now (out .entry)) (now (answer .entry)))
-        r (now (out .exit)) (now (answer .exit)) ⌝ }
+    ensures { λ r. ⌜ writtenAt r (now (out .exit)) (now (answer .exit))
+        ≡ writing (hardenedIn (tableOf (now (table .entry)))) (now (out .entry)) (now (answer .entry)) ⌝ }
 {
     let header = declared.header;
     if MAX_HARDENED < header.nodes {

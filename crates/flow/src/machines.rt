@@ -16,7 +16,7 @@ ghost use Rattle.machine.specs.Runs.{endNumber};
 ghost use Rattle.reader.specs.Index.{Ready};
 ghost use Rattle.entries.specs.Answers.{answered};
 ghost use Rattle.flow.specs.Runs.{resultOf, numbersOf, DoneAs, ReadDone};
-ghost use Rattle.entries.specs.Promises.{lentAt, RunsAs, runCall, guessCall};
+ghost use Rattle.entries.specs.Promises.{lentAt, Runs, Guesses};
 
 // What a call that runs came to.
 pub enum Done {
@@ -166,8 +166,8 @@ pub extern "C" fn flow_run(
     budget: u32,
     answer: &mut [u8],
 ) -> u64
-    ensures { λ r. ⌜ RunsAs (now (table .entry)) (runCall (now (table .entry)) budget)
-        (lentAt (now (variables .entry)) (now (cells .entry)) (now (pending .entry)) (now (observations .entry))) (now (answer .entry)) r
+    ensures { λ r. ⌜ Runs (now (table .entry))
+        (lentAt (now (variables .entry)) (now (cells .entry)) (now (pending .entry)) (now (observations .entry))) budget (now (answer .entry)) r
         (lentAt (now (variables .exit)) (now (cells .exit)) (now (pending .exit)) (now (observations .exit))) (now (answer .exit)) ⌝ }
 {
     // the plain machine asks for no directives
@@ -197,8 +197,8 @@ pub extern "C" fn flow_guess(
     budget: u32,
     answer: &mut [u8],
 ) -> u64
-    ensures { λ r. ⌜ RunsAs (now (table .entry)) (guessCall (now (table .entry)) (now (directives .entry)) budget)
-        (lentAt (now (variables .entry)) (now (cells .entry)) (now (pending .entry)) (now (observations .entry))) (now (answer .entry)) r
+    ensures { λ r. ⌜ Guesses (now (table .entry)) (now (directives .entry))
+        (lentAt (now (variables .entry)) (now (cells .entry)) (now (pending .entry)) (now (observations .entry))) budget (now (answer .entry)) r
         (lentAt (now (variables .exit)) (now (cells .exit)) (now (pending .exit)) (now (observations .exit))) (now (answer .exit)) ⌝ }
 {
     let done = read_and_run(

@@ -12,12 +12,13 @@ use sheets::sheet::sheet_fits;
 use sheets::sheet::write_sheet;
 use variables::collecting::name_all;
 ghost use Prim.Native.Nat.{_≤_};
+ghost use mathlib.Core.Path.{_≡_};
 ghost use Rattle.awhile.specs.Refusals.{got};
 ghost use Rattle.reader.specs.Index.{tableOf, Ready};
 ghost use Rattle.labels.specs.Sheet.{sheetBytes};
-ghost use Rattle.entries.specs.Promises.{Sheets};
+ghost use Rattle.entries.specs.Promises.{writtenAt, Sheets};
 ghost use Rattle.entries.specs.Writing.{writing};
-ghost use Rattle.flow.specs.Writes.{Writes, LabelReady};
+ghost use Rattle.flow.specs.Writes.{LabelReady};
 
 // A table with no more nodes is small. To clear notes for all nodes that a table can have takes longer than to label a small table.
 const FEW_NODES: usize = 512;
@@ -38,7 +39,8 @@ fn sheet_in(
     answer: &mut [u8],
 ) -> u64
     requires { ⌜ LabelReady (now table) (now index) (now named) (now notes) declared ⌝ }
-    ensures { λ r. ⌜ Writes (writing (got (sheetBytes (tableOf (now (table .entry))) labels)) (now (sheet .entry)) (now (answer .entry))) r (now (sheet .exit)) (now (answer .exit)) ⌝ }
+    ensures { λ r. ⌜ writtenAt r (now (sheet .exit)) (now (answer .exit))
+        ≡ writing (got (sheetBytes (tableOf (now (table .entry))) labels)) (now (sheet .entry)) (now (answer .entry)) ⌝ }
 {
     let nodes = declared.header.nodes;
     name_all(table, index, nodes, &mut *named);
@@ -62,7 +64,8 @@ fn sheet_of_few(
     answer: &mut [u8],
 ) -> u64
     requires { ⌜ Ready (now table) (now index) declared × (declared .header .nodes ≤ 512) ⌝ }
-    ensures { λ r. ⌜ Writes (writing (got (sheetBytes (tableOf (now (table .entry))) labels)) (now (sheet .entry)) (now (answer .entry))) r (now (sheet .exit)) (now (answer .exit)) ⌝ }
+    ensures { λ r. ⌜ writtenAt r (now (sheet .exit)) (now (answer .exit))
+        ≡ writing (got (sheetBytes (tableOf (now (table .entry))) labels)) (now (sheet .entry)) (now (answer .entry)) ⌝ }
 {
     let mut named = [0u64; FEW_NODES];
     let mut notes = [0u64; FEW_NOTES];
@@ -88,7 +91,8 @@ fn sheet_of_many(
     answer: &mut [u8],
 ) -> u64
     requires { ⌜ Ready (now table) (now index) declared ⌝ }
-    ensures { λ r. ⌜ Writes (writing (got (sheetBytes (tableOf (now (table .entry))) labels)) (now (sheet .entry)) (now (answer .entry))) r (now (sheet .exit)) (now (answer .exit)) ⌝ }
+    ensures { λ r. ⌜ writtenAt r (now (sheet .exit)) (now (answer .exit))
+        ≡ writing (got (sheetBytes (tableOf (now (table .entry))) labels)) (now (sheet .entry)) (now (answer .entry)) ⌝ }
 {
     let mut named = [0u64; MAX_NODES];
     let mut notes = [0u64; MAX_NOTES];
@@ -114,7 +118,8 @@ fn answer_sheet(
     answer: &mut [u8],
 ) -> u64
     requires { ⌜ Ready (now table) (now index) declared ⌝ }
-    ensures { λ r. ⌜ Writes (writing (got (sheetBytes (tableOf (now (table .entry))) labels)) (now (sheet .entry)) (now (answer .entry))) r (now (sheet .exit)) (now (answer .exit)) ⌝ }
+    ensures { λ r. ⌜ writtenAt r (now (sheet .exit)) (now (answer .exit))
+        ≡ writing (got (sheetBytes (tableOf (now (table .entry))) labels)) (now (sheet .entry)) (now (answer .entry)) ⌝ }
 {
     if declared.header.nodes <= FEW_NODES {
         return sheet_of_few(table, index, declared, labels, &mut *sheet, &mut *answer);

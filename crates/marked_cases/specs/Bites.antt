@@ -8,7 +8,8 @@ use mathlib.Core.Logic.{inl, inr}
 use mathlib.Core.Path.{_≡_, refl, sym, ap, subst, subst₂, _∙_}
 use lib.ListN.{getD, replicate, List·getD-append}
 use borrow.Author.Tests.{ltb-true}
-use Rattle.awhile.specs.Tables.{Table, readTable, rejected, notATree, accepted}
+use Rattle.awhile.specs.Refusals.{refused, got}
+use Rattle.awhile.specs.Tables.{Table, readTable}
 use Rattle.awhile.specs.Trees.{rootOf}
 use Rattle.labels.specs.Labellings.{arrayMark, labelOf}
 use Rattle.machine.specs.Observations.{Observation, branch, readAt}
@@ -39,12 +40,11 @@ script = Force ∷ Load 2 0 ∷ Step ∷ []
 unfoldable original : Table
 original =
     elim (readTable boundsCheck) [
-      | rejected r ↦ record { variables = 0; labels = record { variables = 0; arrays = 0 }; counts = []; nodes = [] }
-      | notATree t ↦ t
-      | accepted t ↦ t
+      | refused r ↦ record { variables = 0; labels = record { variables = 0; arrays = 0 }; counts = []; nodes = [] }
+      | got t ↦ t
     ]
 
-reads : readTable boundsCheck ≡ accepted original
+reads : readTable boundsCheck ≡ got original
 unfolding opened original
 reads = refl
 
@@ -112,7 +112,7 @@ not-related h =
     omega arith
 
 -- "The same table" is no hardened table: the claim of demand 3 is false of it
-pub unhardened-differs : (t : Table) → readTable boundsCheck ≡ accepted t → ShowsTheSame (t .labels) t t → ⊥
+pub unhardened-differs : (t : Table) → readTable boundsCheck ≡ got t → ShowsTheSame (t .labels) t t → ⊥
 unhardened-differs t e h = refuted (subst (λ (p : Table). ShowsTheSame (p .labels) p p) same h)
   where
     same : t ≡ original

@@ -149,51 +149,51 @@ showsBranch =
     6 ∷ 0 ∷ 64 ∷ 0 ∷ 1 ∷ 0  -- branch 1
     ∷ []
 
--- what a call answers and leaves, whatever the answer slice and the place that a refusal by 6 might name
-abbrev pub Runs : (table : List ℕ) → Lent → (budget : ℕ) → (answerNumbers : List ℕ) → (after : Lent) → Type 0
-Runs table lent budget answerNumbers after =
-    (place : ℕ) (answer : List ℕ) →
-    runEntry place table lent budget answer ≡ record { result = 0; lent = after; answer = answered answerNumbers answer }
+-- what a call answers and leaves, whatever the answer slice
+abbrev pub RunsTo : (table : List ℕ) → Lent → (budget : ℕ) → (answerNumbers : List ℕ) → (after : Lent) → Type 0
+RunsTo table lent budget answerNumbers after =
+    (answer : List ℕ) →
+    runEntry table lent budget answer ≡ record { result = 0; lent = after; answer = answered answerNumbers answer }
 
-abbrev pub Guesses : (table directives : List ℕ) → Lent → (budget : ℕ) → (answerNumbers : List ℕ) → (after : Lent) → Type 0
-Guesses table directives lent budget answerNumbers after =
-    (place : ℕ) (answer : List ℕ) →
-    guessEntry place table directives lent budget answer ≡ record { result = 0; lent = after; answer = answered answerNumbers answer }
+abbrev pub GuessesTo : (table directives : List ℕ) → Lent → (budget : ℕ) → (answerNumbers : List ℕ) → (after : Lent) → Type 0
+GuessesTo table directives lent budget answerNumbers after =
+    (answer : List ℕ) →
+    guessEntry table directives lent budget answer ≡ record { result = 0; lent = after; answer = answered answerNumbers answer }
 
 -- ---- the cases
 -- "Plain: branch 0, read 0 4, read 1 77."
 pub unhardened-shows-secret :
-    Guesses boundsCheck forceLoadStep (lentFrom 10 (4 ∷ 0 ∷ 0 ∷ [])) 100
+    GuessesTo boundsCheck forceLoadStep (lentFrom 10 (4 ∷ 0 ∷ 0 ∷ [])) 100
     (numbers 1 4 3 26 1 0) (lentAfter (replicate 10 0) (4 ∷ 77 ∷ 0 ∷ []) showsSecret 14)
 unfolding opened
-unhardened-shows-secret place answer = refl
+unhardened-shows-secret answer = refl
 
 -- P: hardened: branch 0, read 0 4, read 1 0. f is 0 at the start and 1 at the end
 pub hardened-shows-no-secret :
     HardensTo boundsCheck boundsCheckHardened
-    × Guesses boundsCheckHardened forceLoadStep (lentFrom 42 (4 ∷ 0 ∷ 0 ∷ 0 ∷ [])) 100
+    × GuessesTo boundsCheckHardened forceLoadStep (lentFrom 42 (4 ∷ 0 ∷ 0 ∷ 0 ∷ [])) 100
     (numbers 1 10 3 26 1 0) (lentAfter (replicate 42 0) (4 ∷ 0 ∷ 0 ∷ 1 ∷ []) showsNoSecret 14)
 unfolding opened
-hardened-shows-no-secret = (written boundsCheckHardened, λ place answer. refl)
+hardened-shows-no-secret = (written boundsCheckHardened, λ answer. refl)
 
 -- P: i = 3 with force, load: the branch shows 1, the else side skips, and the run finishes with one directive used.
 -- The hardened table's run too
 pub in-bounds-skips :
-    Guesses boundsCheck forceLoad (lentFrom 10 (3 ∷ 0 ∷ 0 ∷ [])) 100
+    GuessesTo boundsCheck forceLoad (lentFrom 10 (3 ∷ 0 ∷ 0 ∷ [])) 100
     (numbers 1 2 1 6 1 0) (lentAfter (replicate 10 0) (3 ∷ 0 ∷ 0 ∷ []) showsBranch 34)
-    × Guesses boundsCheckHardened forceLoad (lentFrom 42 (3 ∷ 0 ∷ 0 ∷ 0 ∷ [])) 100
+    × GuessesTo boundsCheckHardened forceLoad (lentFrom 42 (3 ∷ 0 ∷ 0 ∷ 0 ∷ [])) 100
     (numbers 1 4 1 6 1 0) (lentAfter (replicate 42 0) (3 ∷ 0 ∷ 0 ∷ 1 ∷ []) showsBranch 34)
 unfolding opened
-in-bounds-skips = (λ place answer. refl, λ place answer. refl)
+in-bounds-skips = (λ answer. refl, λ answer. refl)
 
 -- P: budget 0: spent, 0 steps, on both machines. The root, node 9, is still pending
 pub budget-zero :
-    Runs boundsCheck (lentFrom 10 (4 ∷ 0 ∷ 0 ∷ [])) 0
+    RunsTo boundsCheck (lentFrom 10 (4 ∷ 0 ∷ 0 ∷ [])) 0
     (numbers 2 0 0 0 0 9) (lentAfter (9 ∷ replicate 9 0) (4 ∷ 0 ∷ 0 ∷ []) [] 40)
-    × Guesses boundsCheck forceLoadStep (lentFrom 10 (4 ∷ 0 ∷ 0 ∷ [])) 0
+    × GuessesTo boundsCheck forceLoadStep (lentFrom 10 (4 ∷ 0 ∷ 0 ∷ [])) 0
     (numbers 2 0 0 0 0 9) (lentAfter (9 ∷ replicate 9 0) (4 ∷ 0 ∷ 0 ∷ []) [] 40)
 unfolding opened
-budget-zero = (λ place answer. refl, λ place answer. refl)
+budget-zero = (λ answer. refl, λ answer. refl)
 
 -- the same for every table and every directive list that is accepted
 pub budget-zero-anywhere :

@@ -1,7 +1,8 @@
--- The cases that document 01 marks P, each as a theorem over whole tables of bytes and through the entries' definitions.
--- The expected bytes were worked out from document 01 by a program that does not know these definitions.
+-- The cases that document 01 marks P, and those that a change request is computed on, each as a theorem over whole tables of bytes and through the entries' definitions.
+-- The expected bytes were worked out from the documents by a program that does not know these definitions.
 pub mod Claims
 pub mod Refused
+pub mod Orphans
 pub mod Labelled
 pub mod Hardened
 pub mod BoundsCheck

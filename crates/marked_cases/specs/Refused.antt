@@ -1,22 +1,15 @@
 -- "no bytes: 1 at 0"; "V 31 hardens, 32 is 9"
 use Prim.Native.Nat.{ℕ}
-use mathlib.Core.Path.{_≡_, refl}
+use mathlib.Core.Path.{refl}
 use mathlib.Core.List.{List, [], _∷_}
-use Rattle.entries.specs.Answers.{answered}
-use Rattle.entries.specs.Writing.{sheetEntry, hardenEntry}
-use Rattle.entries.specs.Running.{Lent, runEntry, guessEntry}
+use Rattle.entries.specs.Writing.{hardenEntry}
 use Rattle.entries.proofs.Open.{opened}
-use Rattle.marked_cases.specs.Claims.{HardensTo, Refuses, written}
+use Rattle.marked_cases.specs.Claims.{HardensTo, Refuses, AllRefuse, written}
 
 -- P: no bytes are refused by 1 at 0, by each entry; all lent memory is unchanged
-pub no-bytes :
-    Refuses sheetEntry [] 1 0 × Refuses hardenEntry [] 1 0
-    × ((place : ℕ) (lent : Lent) (budget : ℕ) (answer : List ℕ) →
-    runEntry place [] lent budget answer ≡ record { result = 1; lent = lent; answer = answered (1 ∷ 0 ∷ []) answer })
-    × ((place : ℕ) (directives : List ℕ) (lent : Lent) (budget : ℕ) (answer : List ℕ) →
-    guessEntry place [] directives lent budget answer ≡ record { result = 1; lent = lent; answer = answered (1 ∷ 0 ∷ []) answer })
+pub no-bytes : AllRefuse [] 1 0
 unfolding opened
-no-bytes = (λ place buffer answer. refl, λ place buffer answer. refl, λ place lent budget answer. refl, λ place directives lent budget answer. refl)
+no-bytes = (λ buffer answer. refl, λ buffer answer. refl, λ lent budget answer. refl, λ directives lent budget answer. refl)
 
 -- `skip`, 31 variables
 abbrev pub skip31 : List ℕ
@@ -45,4 +38,4 @@ skip32 =
 -- P: V 31 hardens, 32 is 9
 pub no-free-variable : HardensTo skip31 skip31Hardened × Refuses hardenEntry skip32 9 0
 unfolding opened
-no-free-variable = (written skip31Hardened, λ place buffer answer. refl)
+no-free-variable = (written skip31Hardened, λ buffer answer. refl)

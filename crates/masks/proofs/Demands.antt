@@ -7,7 +7,8 @@ use mathlib.Core.List.{List, [], _∷_, _++_}
 use lib.ListN.{length}
 use Rattle.bytes_le.proofs.Numbers.{Below}
 use Rattle.awhile.specs.Language.{Com, mapNotes}
-use Rattle.awhile.specs.Tables.{Table, maxVariables, accepted, readTable}
+use Rattle.awhile.specs.Refusals.{got}
+use Rattle.awhile.specs.Tables.{Table, maxVariables, readTable}
 use Rattle.awhile.specs.Trees.{rootOf}
 use Rattle.awhile.specs.Encoding.{tableBytes}
 use Rattle.awhile.specs.WellFormed.{WellFormed, Within}
@@ -88,6 +89,6 @@ module _ (t : Table) (w : WellFormed t) (small : length (t .nodes) ≤ 512) (fre
       demands-by (decide (annotated t (t .labels))) (program-decided (rootOf t) false (t .labels)) (decide-large (annotated t (t .labels))) (decide-covers (rootOf t) false (t .labels))
 
 -- THE DEMANDS, over bytes: whatever bytes are accepted as a table of at most 512 nodes with a free variable number
-pub demands-met : (s : List ℕ) (t : Table) → Below 256 s → readTable s ≡ accepted t → length (t .nodes) ≤ 512 → t .variables < maxVariables
+pub demands-met : (s : List ℕ) (t : Table) → Below 256 s → readTable s ≡ got t → length (t .nodes) ≤ 512 → t .variables < maxVariables
     → Demands t (hardenedProgram t) (tableBytes (hardenedTable t))
 demands-met s t bytes reads small free = demands-of-labels t (accepted-well-formed s bytes t reads) small free

@@ -6,7 +6,8 @@ use mathlib.Core.List.{List, [], _∷_, _++_}
 use mathlib.Core.Path.{_≡_}
 use lib.ListN.{getD, replicate}
 use Rattle.awhile.specs.Language.{Com, skip, assign, sequence, if, while, read, write}
-use Rattle.awhile.specs.Tables.{Table, accepted, readTable}
+use Rattle.awhile.specs.Refusals.{got}
+use Rattle.awhile.specs.Tables.{Table, readTable}
 use Rattle.awhile.specs.Trees.{rootOf}
 use Rattle.awhile.specs.Encoding.{nodesOfA, nodesOfB, writeC, numbered}
 use Rattle.labels.specs.Labellings.{variableMark, labelOf}
@@ -29,7 +30,7 @@ originIn program node = getD (origins program) node none
 -- Bytes that read back as the hardened program of an original table.
 pub record ReadsBack (original : Table) (program : Com Origin) (out : List ℕ) (hardened : Table) : Type 0 where
   -- the bytes are accepted as a table
-  pub accepts : readTable out ≡ accepted hardened
+  pub accepts : readTable out ≡ got hardened
   -- "the output declares V+1 variables, f public, and its own N; all else of the declarations is unchanged"
   pub variables : hardened .variables ≡ original .variables + 1
   pub flagPublic : labelOf (hardened .labels) (variableMark (original .variables)) ≡ false

@@ -11,19 +11,18 @@ use Rattle.bytes_le.specs.Numbers.{le, fromLe, leAt}
 use Rattle.bytes_le.proofs.Numbers.{Below, length-le, bytes-le, fromLe-le, le-fromLe}
 use Rattle.awhile.specs.Encoding.{tableBytes}
 use Rattle.awhile.specs.Refusals.{Answer, refused, got, andThen, refusalNumber, refusalPlace}
-use Rattle.awhile.specs.Tables.{Table, accepted, readTable, maxVariables, longestTable}
+use Rattle.awhile.specs.Tables.{Table, readTable, maxVariables, longestTable}
 use Rattle.awhile.specs.declared.Refusal.{Refusal}
 use Rattle.awhile.specs.declared.Refusal.the-variants.{TooManyNodes, NoFreeVariable}
-use Rattle.awhile.proofs.Accepted.{accepted-well-formed}
+use Rattle.awhile.proofs.Accepted.{accepted-well-formed, then-got}
 use Rattle.machine.specs.Memory.{writtenOver}
 use Rattle.masks.specs.Hardening.{hardenedTable, maxHardened}
 use Rattle.masks.proofs.Demands.{demands-met}
-use Rattle.entries.specs.Answers.{answered, refusalNumbers, tableIn}
-use Rattle.entries.specs.Promises.{WritesAs}
+use Rattle.entries.specs.Answers.{answered, refusalNumbers}
+use Rattle.entries.specs.Promises.{writtenAt}
 use Rattle.entries.specs.Writing.{Written, notWritten, writtenAll, writing, hardenedIn, hardenEntry}
 use Rattle.program.specs.Program.{refusalBytes, refusalRecord, hardenedInput, AnswersRead}
 use Rattle.entries.proofs.Accepted.{refusal-not-zero, check-got}
-use Rattle.entries.proofs.Written.{table-got}
 use Rattle.program.proofs.Program.{answers-read}
 use Rattle.flow.proofs.Reading.{written-front}
 
@@ -62,44 +61,44 @@ refusal-stored k n place a b c d =
 
 -- ---- what the entry leaves in a buffer that has the room
 -- no hardened table is longer than the longest table
-hardened-short : (s : List ℕ) (t : Table) → Below 256 s → readTable s ≡ accepted t → length (t .nodes) ≤ maxHardened → t .variables < maxVariables
+hardened-short : (s : List ℕ) (t : Table) → Below 256 s → readTable s ≡ got t → length (t .nodes) ≤ maxHardened → t .variables < maxVariables
     → length (tableBytes (hardenedTable t)) ≤ longestTable
 hardened-short s t bytes reads small free =
     omega (arith, demands-met s t bytes reads small free .room, accepted-well-formed s bytes t reads .declared .arraysFit)
 
-data Leaves (place : ℕ) (s out answer : List ℕ) : Type 0 where
-  refuses : (r : Refusal) → hardenedInput place s ≡ refusalRecord r → hardenEntry place s out answer ≡ notWritten r out answer → Leaves place s out answer
-  writes-hardened : length (hardenedInput place s) ≤ longestTable → hardenEntry place s out answer ≡ writtenAll (hardenedInput place s) out answer → Leaves place s out answer
+data Leaves (s out answer : List ℕ) : Type 0 where
+  refuses : (r : Refusal) → hardenedInput s ≡ refusalRecord r → hardenEntry s out answer ≡ notWritten r out answer → Leaves s out answer
+  writes-hardened : length (hardenedInput s) ≤ longestTable → hardenEntry s out answer ≡ writtenAll (hardenedInput s) out answer → Leaves s out answer
 
-module _ (place : ℕ) (s out answer : List ℕ) where
-  input-is : (a : Answer (List ℕ)) → andThen (tableIn s place) hardenedIn ≡ a
-      → hardenedInput place s ≡ elim a as (λ _. List ℕ) [ refused r ↦ refusalRecord r | got bytes ↦ bytes ]
+module _ (s out answer : List ℕ) where
+  input-is : (a : Answer (List ℕ)) → andThen (readTable s) hardenedIn ≡ a
+      → hardenedInput s ≡ elim a as (λ _. List ℕ) [ refused r ↦ refusalRecord r | got bytes ↦ bytes ]
   unfolding hardenedInput
   input-is a e = ap (λ (x : Answer (List ℕ)). elim x as (λ _. List ℕ) [ refused r ↦ refusalRecord r | got bytes ↦ bytes ]) e
 
-  entry-is : (a : Answer (List ℕ)) → andThen (tableIn s place) hardenedIn ≡ a → hardenEntry place s out answer ≡ writing a out answer
+  entry-is : (a : Answer (List ℕ)) → andThen (readTable s) hardenedIn ≡ a → hardenEntry s out answer ≡ writing a out answer
   unfolding hardenEntry
   entry-is a e = ap (λ (x : Answer (List ℕ)). writing x out answer) e
 
-  refuses-all : (r : Refusal) → andThen (tableIn s place) hardenedIn ≡ refused r → Leaves place s out answer
+  refuses-all : (r : Refusal) → andThen (readTable s) hardenedIn ≡ refused r → Leaves s out answer
   unfolding writing
   refuses-all r e = refuses r (input-is (refused r) e) (entry-is (refused r) e)
 
-  hardens-all : (bytes : List ℕ) → length bytes ≤ longestTable → longestTable ≤ length out → andThen (tableIn s place) hardenedIn ≡ got bytes → Leaves place s out answer
+  hardens-all : (bytes : List ℕ) → length bytes ≤ longestTable → longestTable ≤ length out → andThen (readTable s) hardenedIn ≡ got bytes → Leaves s out answer
   unfolding writing
   hardens-all bytes short room e =
-      let is : hardenedInput place s ≡ bytes = input-is (got bytes) e in
+      let is : hardenedInput s ≡ bytes = input-is (got bytes) e in
       let fits : writing (got bytes) out answer ≡ writtenAll bytes out answer = rw (le-leb (length bytes) (length out) (omega arith)) in
       writes-hardened (rw is short) (rw is (entry-is (got bytes) e ∙ fits))
 
-  leaves : Below 256 s → longestTable ≤ length out → Leaves place s out answer
+  leaves : Below 256 s → longestTable ≤ length out → Leaves s out answer
   unfolding hardenedIn
-  leaves below room = go (andThen (tableIn s place) hardenedIn) refl
+  leaves below room = go (andThen (readTable s) hardenedIn) refl
     where
-      go : (a : Answer (List ℕ)) → andThen (tableIn s place) hardenedIn ≡ a → Leaves place s out answer
+      go : (a : Answer (List ℕ)) → andThen (readTable s) hardenedIn ≡ a → Leaves s out answer
       go (refused r) e = refuses-all r e
       go (got bytes) e =
-          table-got (Leaves place s out answer) place s hardenedIn bytes e
+          then-got (Leaves s out answer) (readTable s) hardenedIn bytes e
           (λ t reads hardened.
           let small = check-got (leb (length (t .nodes)) maxHardened) TooManyNodes _ bytes hardened in
           let free = check-got (ltb (t .variables) maxVariables) NoFreeVariable _ bytes (small .1) in
@@ -108,38 +107,38 @@ module _ (place : ℕ) (s out answer : List ℕ) where
           hardens-all bytes (rw same at short) room e)
 
 -- ---- what the program makes of it
-module _ {s out out′ answer′ : List ℕ} {n : ℕ} (below : Below 256 s) (room : longestTable ≤ length out)
-    (w : WritesAs hardenEntry s out (replicate 16 0) n out′ answer′) where
+module _ (out : List ℕ) {s out′ answer′ : List ℕ} {n : ℕ} (below : Below 256 s) (room : longestTable ≤ length out)
+    (w : writtenAt n out′ answer′ ≡ hardenEntry s out (replicate 16 0)) where
   -- where the entry answers 0, the hardened table stands in the buffer
   pub hardened-answered : n ≡ 0 → {size : ℕ} → size ≡ leAt 4 answer′ 8 → AnswersRead s out′ size
   unfolding notWritten writtenAll writtenOver
-  hardened-answered zero {size} e = go (leaves (w .place) s out (replicate 16 0) below room)
+  hardened-answered zero {size} e = go (leaves s out (replicate 16 0) below room)
     where
-      go : Leaves (w .place) s out (replicate 16 0) → AnswersRead s out′ size
-      go (refuses r i x) = absurd (refusal-not-zero r (sym (w .results ∙ ap (λ (v : Written). v .result) x) ∙ zero))
+      go : Leaves s out (replicate 16 0) → AnswersRead s out′ size
+      go (refuses r i x) = absurd (refusal-not-zero r (sym (ap (λ (v : Written). v .result) (w ∙ x)) ∙ zero))
       go (writes-hardened short x) =
-          let bytes : List ℕ = hardenedInput (w .place) s in
-          let wrote : out′ ≡ bytes ++ drop (length bytes) out = w .buffers ∙ ap (λ (v : Written). v .buffer) x in
-          let said : answer′ ≡ answered (0 ∷ length bytes ∷ []) (replicate 16 0) = w .answers ∙ ap (λ (v : Written). v .answer) x in
+          let bytes : List ℕ = hardenedInput s in
+          let wrote : out′ ≡ bytes ++ drop (length bytes) out = ap (λ (v : Written). v .buffer) (w ∙ x) in
+          let said : answer′ ≡ answered (0 ∷ length bytes ∷ []) (replicate 16 0) = ap (λ (v : Written). v .answer) (w ∙ x) in
           let is : size ≡ length bytes = e ∙ ap (λ (l : List ℕ). leAt 4 l 8) said ∙ size-kept 0 (length bytes) short in
           answers-read (omega (arith, ap length wrote, length-append bytes (drop (length bytes) out)))
-          (record { place = w .place; placed = w .placed; answers = ap₂ (λ (k : ℕ) (l : List ℕ). take k l) is wrote ∙ take-at bytes (drop (length bytes) out) (length bytes) refl })
+          (ap₂ (λ (k : ℕ) (l : List ℕ). take k l) is wrote ∙ take-at bytes (drop (length bytes) out) (length bytes) refl)
 
   -- where it refuses, the record of the refusal is put over the front
   pub refused-answered : (n ≡ 0 → ⊥) → {k : ℕ} {out″ : List ℕ} → k ≡ leAt 4 answer′ 8 → out″ ≡ sets out′ 0 (refusalBytes n k) → AnswersRead s out″ 10
   unfolding notWritten writtenAll writtenOver refusalNumbers refusalRecord
-  refused-answered some {k} {out″} second e = go (leaves (w .place) s out (replicate 16 0) below room)
+  refused-answered some {k} {out″} second e = go (leaves s out (replicate 16 0) below room)
     where
-      go : Leaves (w .place) s out (replicate 16 0) → AnswersRead s out″ 10
+      go : Leaves s out (replicate 16 0) → AnswersRead s out″ 10
       go (refuses r i x) =
-          let number : n ≡ refusalNumber r = w .results ∙ ap (λ (v : Written). v .result) x in
-          let kept : out′ ≡ out = w .buffers ∙ ap (λ (v : Written). v .buffer) x in
-          let said : answer′ ≡ answered (refusalNumber r ∷ refusalPlace r ∷ []) (replicate 16 0) = w .answers ∙ ap (λ (v : Written). v .answer) x in
+          let number : n ≡ refusalNumber r = ap (λ (v : Written). v .result) (w ∙ x) in
+          let kept : out′ ≡ out = ap (λ (v : Written). v .buffer) (w ∙ x) in
+          let said : answer′ ≡ answered (refusalNumber r ∷ refusalPlace r ∷ []) (replicate 16 0) = ap (λ (v : Written). v .answer) (w ∙ x) in
           let record-is : refusalBytes n k ≡ refusalRecord r =
           ap (refusalBytes n) second ∙ ap₂ (λ (m : ℕ) (l : List ℕ). refusalBytes m (leAt 4 l 8)) number said ∙ same-refusal (refusalNumber r) (refusalPlace r) in
           let ten : length (refusalRecord r) ≡ 10 = length-refusal (refusalNumber r) (refusalPlace r) in
           let wrote : out″ ≡ refusalRecord r ++ drop (length (refusalRecord r)) out =
           e ∙ ap₂ (λ (l b : List ℕ). sets l 0 b) kept record-is ∙ written-front (refusalRecord r) out (omega arith) in
           answers-read (omega (arith, ap length wrote, length-append (refusalRecord r) (drop (length (refusalRecord r)) out)))
-          (record { place = w .place; placed = w .placed; answers = ap (take 10) wrote ∙ take-at (refusalRecord r) (drop (length (refusalRecord r)) out) 10 ten ∙ sym i })
-      go (writes-hardened short x) = absurd (some (w .results ∙ ap (λ (v : Written). v .result) x))
+          (ap (take 10) wrote ∙ take-at (refusalRecord r) (drop (length (refusalRecord r)) out) 10 ten ∙ sym i)
+      go (writes-hardened short x) = absurd (some (ap (λ (v : Written). v .result) (w ∙ x)))

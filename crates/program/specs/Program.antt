@@ -6,10 +6,8 @@ use lib.ListN.{length, take}
 use Rattle.bytes_le.specs.Numbers.{le}
 use Rattle.bytes_le.proofs.Numbers.{Below}
 use Rattle.awhile.specs.Refusals.{refused, got, andThen, refusalNumber, refusalPlace}
-use Rattle.awhile.specs.Tables.{longestTable}
+use Rattle.awhile.specs.Tables.{readTable, longestTable}
 use Rattle.awhile.specs.declared.Refusal.{Refusal}
-use Rattle.entries.specs.Answers.{tableIn}
-use Rattle.entries.specs.Promises.{Placed}
 use Rattle.entries.specs.Writing.{hardenedIn}
 
 -- kind 240
@@ -20,23 +18,17 @@ unfoldable pub refusalRecord : Refusal → List ℕ
 refusalRecord r = refusalBytes (refusalNumber r) (refusalPlace r)
 
 -- what the program writes for an input
-unfoldable pub hardenedInput : (placeOf6 : ℕ) → List ℕ → List ℕ
-hardenedInput place s =
-    elim (andThen (tableIn s place) hardenedIn) [
+unfoldable pub hardenedInput : List ℕ → List ℕ
+hardenedInput s =
+    elim (andThen (readTable s) hardenedIn) [
       | refused r ↦ refusalRecord r
       | got out ↦ out
     ]
-
--- these bytes are what the program writes for an input
-pub record AnswersInput (input written : List ℕ) : Type 0 where
-  pub place : ℕ
-  pub placed : Placed input place
-  pub answers : written ≡ hardenedInput place input
 
 -- What the program's work leaves: so many bytes at the front of the buffer at exit are what it writes for the bytes that were read,
 -- and for every input that they are the first bytes of, if they are all of it or more than the longest table has.
 pub record AnswersRead (bytes buffer : List ℕ) (size : ℕ) : Type 0 where
   pub fits : size ≤ length buffer
   pub counted : size ≡ length (take size buffer)
-  pub own : AnswersInput bytes (take size buffer)
-  pub whole : (input : List ℕ) → Below 256 input → (k : ℕ) → longestTable < k → bytes ≡ take k input → AnswersInput input (take size buffer)
+  pub own : take size buffer ≡ hardenedInput bytes
+  pub whole : (input : List ℕ) → Below 256 input → (k : ℕ) → longestTable < k → bytes ≡ take k input → take size buffer ≡ hardenedInput input

@@ -8,18 +8,18 @@ use lib.ListN.{length, getD, take}
 use lib.Seq.{take-length}
 use borrow.Author.Tests.{le-leb, lt-leb}
 use Rattle.awhile.specs.Lists.{sum}
-use Rattle.awhile.specs.Refusals.{Answer, refused, got, andThen}
+use Rattle.awhile.specs.Refusals.{Answer, refused, got, check, andThen}
 use Rattle.awhile.specs.Nodes.{sizeOf, sortOf}
 use Rattle.awhile.specs.Tables.{Table, headerOf, declarationsOf, labelsStart, countsStart, nodesStart, offsetOf}
 use Rattle.awhile.specs.Tables.{readHeader, readLabels, readCounts, readNodes, readRecords}
-use Rattle.awhile.specs.Tables.{rejected, notATree, accepted, allInOrder, checkWhole, readTable, BreaksRule}
+use Rattle.awhile.specs.Tables.{allInOrder, checkWhole, readTable}
 use Rattle.reader.specs.Reader.{headerAs, labelsAs, SortAt, Kept, OrderSearched}
-use Rattle.reader.specs.Index.{tableOf, nodesIn, Ready, acceptedAs, Answers, isRejected, isNotATree, isAccepted, Finishes}
+use Rattle.reader.specs.Index.{tableOf, nodesIn, Indexed, Ready, readAs, Answers, Finishes}
 use Rattle.reader.specs.Walk.{NodesLeft, Declared, Counted}
 use Rattle.reader.proofs.Walking.{nodes-done}
 use Rattle.awhile.proofs.Cases.{table-read, table-refused}
 use Rattle.awhile.proofs.Accepted.{HeaderFits, header-fits, counts-fit}
-use Rattle.reader.proofs.Searching.{not-all-in-order}
+use Rattle.awhile.proofs.Lowest.{lowest-refused}
 use Rattle.awhile.specs.declared.Declarations.{Declarations}
 use Rattle.awhile.specs.declared.Header.{Header}
 use Rattle.awhile.specs.declared.Labelling.{Labelling}
@@ -35,9 +35,14 @@ use Rattle.reader.specs.declared.declarations.LabelsRead.the-variants.{R
 use Rattle.reader.specs.declared.uses.Broken.the-variants.{At, Nowhere}
 
 -- the table that accepted bytes read as
-table-of : (s : List ℕ) (t : Table) → readTable s ≡ accepted t → tableOf s ≡ t
+table-of : (s : List ℕ) (t : Table) → readTable s ≡ got t → tableOf s ≡ t
 unfolding tableOf
 table-of s t e = rw (e, tableOf)
+
+-- a table that is refused is answered by its refusal
+refuses : (s index : List ℕ) (r : Refusal) → readTable s ≡ refused r → Answers s index (Refused r)
+unfolding readAs
+refuses s index r e = record { answers = sym (ap readAs e); indexes = λ t f. absurd (let z : _≡_ {A = ℕ} 0 1 = cc in omega arith) }
 
 -- ---- what the parts hand on was read
 pub labels-got : (a : Answer Labelling) (l : Labelling) → LabelsGot l ≡ labelsAs a → a ≡ got l
@@ -72,18 +77,16 @@ module _ (s index uses : List ℕ) (declared : Declarations) (end : ℕ) (root :
   root-sort t d k =
       sym (there .isSort (getD (t .nodes) (declared .header .nodes - 1) Skip) (k .leads .decoded (declared .header .nodes - 1) (omega (arith, all-nodes t d))))
 
-  -- a node that is not in order: refused by 6 at its record
+  -- the lowest node that is not in order: refused by 6 at its record
   pub finish-broken : (node place : ℕ) → OrderSearched uses (declared .header .nodes) root (At node) → place ≡ getD index node 0
       → Finishes s index uses declared end (Refused (NotATree place))
-  unfolding checkWhole offsetOf
+  unfolding offsetOf
   finish-broken node place search isPlace =
       record {
         answers = λ t read d ends k.
-            let broken = search .found (t .nodes) (all-nodes t d) (k .used) (root-sort t d k) in
-            isNotATree t place
-            (table-read s t read ∙ rw (not-all-in-order (t .nodes) (length (t .nodes)) node (broken .0) (broken .1)))
-            (record { node = node; isNode = broken .0; broken = broken .1; isPlace = isPlace ∙ k .offsets node (broken .0) })
-            refl;
+            let low = search .found (t .nodes) (all-nodes t d) (k .used) (root-sort t d k) in
+            let there : place ≡ offsetOf t node = isPlace ∙ k .offsets node (low .isNode) in
+            refuses s index (NotATree place) (rw there (lowest-refused s t read node low));
       }
 
   module _ (search : OrderSearched uses (declared .header .nodes) root Nowhere) where
@@ -94,31 +97,24 @@ module _ (s index uses : List ℕ) (declared : Declarations) (end : ℕ) (root :
 
     -- bytes after the last node: refused by 7 at the first of them
     pub finish-extra : end < length s → Finishes s index uses declared end (Refused (ExtraBytes end))
-    unfolding checkWhole
+    unfolding checkWhole check
     finish-extra extra =
         record {
           answers = λ t read d ends k.
-              isRejected (ExtraBytes end)
-              (table-read s t read ∙ rw (in-order t d k, ends, lt-leb (length s) end extra))
-              refl;
+              refuses s index (ExtraBytes end) (table-read s t read ∙ rw (in-order t d k, ends, lt-leb (length s) end extra));
         }
 
     -- none: accepted
     pub finish-accepted : length s ≤ end → declared .header .nodes ≤ length index → Finishes s index uses declared end (Accepted declared)
-    unfolding checkWhole offsetOf nodesIn acceptedAs
+    unfolding checkWhole check offsetOf nodesIn readAs
     finish-accepted whole long =
         record {
           answers = λ t read d ends k.
-              let reads : readTable s ≡ accepted t = table-read s t read ∙ rw (in-order t d k, ends, le-leb (length s) end whole) in
+              let reads : readTable s ≡ got t = table-read s t read ∙ rw (in-order t d k, ends, le-leb (length s) end whole) in
               let same = table-of s t reads in
-              let whole : acceptedAs t ≡ Accepted declared = λ i. Accepted (d i) in
-              isAccepted
-              (record {
-                reads = reads ∙ ap accepted (sym same);
-                long = rw same (omega (arith, all-nodes t d));
-                offsets = rw same (λ n inside. k .offsets n inside);
-              })
-              (rw same (sym whole));
+              let indexed : Indexed s index =
+              record { reads = reads ∙ ap got (sym same); long = rw same (omega (arith, all-nodes t d)); offsets = rw same (λ n inside. k .offsets n inside) } in
+              record { answers = sym (ap readAs reads ∙ ap Accepted d); indexes = λ u e. indexed };
         }
 
 -- ---- from the nodes on
@@ -133,16 +129,16 @@ module _ (s index : List ℕ) (declared : Declarations) where
   -- a refused labels record refuses the table
   pub labels-stop : (x : Refusal) → readHeader s ≡ got (declared .header) → LabelsRefused x ≡ labelsAs (readLabels s (declared .header) labelsStart) → Answers s index (Refused x)
   unfolding readRecords andThen
-  labels-stop x isHeader e = isRejected x (table-refused s x (rw (isHeader, labels-not-got _ x e))) refl
+  labels-stop x isHeader e = refuses s index x (table-refused s x (rw (isHeader, labels-not-got _ x e)))
 
   -- so do a refused array record and a refused node record
   pub arrays-stop : (x : Refusal) → Declared s declared → readCounts (declared .header .arrays) s (countsStart (declared .header)) [] ≡ refused x → Answers s index (Refused x)
   unfolding readRecords andThen
-  arrays-stop x d e = isRejected x (table-refused s x (rw (d .isHeader, d .isLabels, e))) refl
+  arrays-stop x d e = refuses s index x (table-refused s x (rw (d .isHeader, d .isLabels, e)))
 
   pub nodes-stopped : (x : Refusal) → Counted s declared → readNodes (declared .header .nodes) (declared .header) s (nodesStart (declared .header)) [] ≡ refused x → Answers s index (Refused x)
   unfolding andThen
-  nodes-stopped x c e = isRejected x (table-refused s x (records-then _ _ _ _ _ (c .declared .isHeader) (c .declared .isLabels) (c .isCounts) e)) refl
+  nodes-stopped x c e = refuses s index x (table-refused s x (records-then _ _ _ _ _ (c .declared .isHeader) (c .declared .isLabels) (c .isCounts) e))
 
   -- nodes that were read leave it to the end
   pub nodes-finished : (uses : List ℕ) (at n : ℕ) (answer : Read) → Counted s declared → NodesLeft s (declared .header) index uses at n → n ≡ declared .header .nodes
@@ -171,34 +167,26 @@ module _ (s index : List ℕ) where
   -- a refused header refuses the table
   pub header-stop : (x : Refusal) → HeaderRefused x ≡ headerAs (readHeader s) → Answers s index (Refused x)
   unfolding readRecords andThen
-  header-stop x e = isRejected x (table-refused s x (rw (header-not-got _ x e))) refl
+  header-stop x e = refuses s index x (table-refused s x (rw (header-not-got _ x e)))
 
 -- ---- what a caller learns from the answer
--- a refused one is rejected by that refusal, or no tree at a place that breaks the rule
-pub data RefusedTable (s : List ℕ) (r : Refusal) : Type 0 where
-  byRecord : readTable s ≡ rejected r → RefusedTable s r
-  byOrder : (t : Table) (place : ℕ) → readTable s ≡ notATree t → BreaksRule t place → r ≡ NotATree place → RefusedTable s r
-
-never-accepted : (r : Refusal) (declared : Declarations) → Accepted declared ≡ Refused r → ⊥
-never-accepted r declared e = let z : _≡_ {A = ℕ} 0 1 = cc in omega arith
-
-same-refused : (r q : Refusal) → _≡_ (Refused r) (Refused q) → r ≡ q
-same-refused r q e = cc
-
-same-declared : (declared other : Declarations) → Accepted declared ≡ Accepted other → other ≡ declared
-same-declared declared other e = cc
-
 module _ (s index : List ℕ) where
   -- a table that is accepted is ready
   pub accepting : (declared : Declarations) → Answers s index (Accepted declared) → Ready s index declared
-  unfolding acceptedAs
-  accepting declared (isRejected r e q) = absurd (never-accepted _ _ q)
-  accepting declared (isNotATree t place e b q) = absurd (never-accepted _ _ q)
-  accepting declared (isAccepted i q) = record { indexed = i; declares = same-declared _ _ q }
+  unfolding readAs
+  accepting declared h = go (readTable s) refl (h .answers)
+    where
+      go : (a : Answer Table) → readTable s ≡ a → Accepted declared ≡ readAs (readTable s) → Ready s index declared
+      go (refused r) e answers = absurd (let z : _≡_ {A = ℕ} 0 1 = cc (answers ∙ ap readAs e) in omega arith)
+      go (got t) e answers =
+          let same : declarationsOf t ≡ declared = cc (answers ∙ ap readAs e) in
+          record { indexed = h .indexes t e; declares = rw (table-of s t e) same }
 
-  -- a refusing answer
-  pub refusing : (r : Refusal) → Answers s index (Refused r) → RefusedTable s r
-  unfolding acceptedAs
-  refusing r (isRejected q e p) = byRecord (e ∙ ap rejected (sym (same-refused r q p)))
-  refusing r (isNotATree t place e b p) = byOrder t place e b (same-refused r (NotATree place) p)
-  refusing r (isAccepted i p) = absurd (never-accepted _ _ (sym p))
+  -- one that is refused is refused so
+  pub refusing : (r : Refusal) → Answers s index (Refused r) → readTable s ≡ refused r
+  unfolding readAs
+  refusing r h = go (readTable s) refl (h .answers)
+    where
+      go : (a : Answer Table) → readTable s ≡ a → Refused r ≡ readAs (readTable s) → readTable s ≡ refused r
+      go (refused q) e answers = let same : q ≡ r = cc (answers ∙ ap readAs e) in e ∙ ap refused same
+      go (got t) e answers = absurd (let z : _≡_ {A = ℕ} 0 1 = cc (answers ∙ ap readAs e) in omega arith)

@@ -3,8 +3,8 @@ use Prim.Native.Nat.{ℕ, _<_, _≤_}
 use mathlib.Core.List.{List, []}
 use mathlib.Core.Path.{_≡_}
 use lib.ListN.{length, getD}
-use Rattle.awhile.specs.Tables.{Table, headerOf, declarationsOf, rejected, notATree, accepted, readTable, offsetOf, BreaksRule, nodesStart, readRecords}
-use Rattle.awhile.specs.Refusals.{got}
+use Rattle.awhile.specs.Tables.{Table, headerOf, declarationsOf, readTable, offsetOf, nodesStart, readRecords}
+use Rattle.awhile.specs.Refusals.{Answer, refused, got}
 use Rattle.reader.specs.Reader.{Kept}
 use Rattle.awhile.specs.Language.{AExp, BExp, Com}
 use Rattle.awhile.specs.Trees.{Tree, treeAt, trees, asNumeric, asTruth, asCommand}
@@ -12,8 +12,6 @@ use Rattle.awhile.specs.declared.Declarations.{Declarations}
 use Rattle.awhile.specs.declared.Header.{Header}
 use Rattle.reader.specs.declared.Read.{Read}
 use Rattle.reader.specs.declared.Read.the-variants.{Refused, Accepted}
-use Rattle.awhile.specs.declared.Refusal.{Refusal}
-use Rattle.awhile.specs.declared.Refusal.the-variants.{NotATree}
 use Rattle.awhile.specs.Nodes.{sortOf}
 use Rattle.awhile.specs.declared.Sort.{Sort}
 use Rattle.awhile.specs.declared.Node.{Node}
@@ -23,9 +21,8 @@ use Rattle.awhile.specs.declared.Node.the-variants.{Skip, Sequence, If, While}
 unfoldable pub tableOf : List ℕ → Table
 tableOf s =
     elim (readTable s) [
-      | rejected r ↦ record { variables = 0; labels = record { variables = 0; arrays = 0 }; counts = []; nodes = [] }
-      | notATree t ↦ t
-      | accepted t ↦ t
+      | refused r ↦ record { variables = 0; labels = record { variables = 0; arrays = 0 }; counts = []; nodes = [] }
+      | got t ↦ t
     ]
 
 -- how many nodes, the node of a number, and its tree
@@ -50,7 +47,7 @@ commandIn s n = asCommand (treeIn s n)
 
 -- an index of an accepted table: entry n is the byte offset of node n's record
 pub record Indexed (table index : List ℕ) : Type 0 where
-  pub reads : readTable table ≡ accepted (tableOf table)
+  pub reads : readTable table ≡ got (tableOf table)
   pub long : nodesIn table ≤ length index
   pub offsets : (n : ℕ) → n < nodesIn table → getD index n 0 ≡ offsetOf (tableOf table) n
 
@@ -61,7 +58,7 @@ pub record Ready (table index : List ℕ) (declared : Declarations) : Type 0 whe
 
 -- a table that was read, with its header
 pub record HasHeader (table : List ℕ) (header : Header) : Type 0 where
-  pub reads : readTable table ≡ accepted (tableOf table)
+  pub reads : readTable table ≡ got (tableOf table)
   pub isHeader : headerOf (tableOf table) ≡ header
 
 -- a node of this sort, in a table that was read and indexed
@@ -77,15 +74,15 @@ pub record Single (node : Node) : Type 0 where
   pub noWhile : (b c : ℕ) → node ≡ While b c → ⊥
 
 -- ---- what the reader answers
--- what an accepted table declares
-unfoldable pub acceptedAs : Table → Read
-acceptedAs t = Accepted (declarationsOf t)
+-- a refusal, or what an accepted table declares
+unfoldable pub readAs : Answer Table → Read
+readAs (refused r) = Refused r
+readAs (got t) = Accepted (declarationsOf t)
 
--- The reader's answer says what the bytes read as; of an accepted table the index is left. Of the index of a refused one nothing is said.
-pub data Answers (s index : List ℕ) (answer : Read) : Type 0 where
-  isRejected : (r : Refusal) → readTable s ≡ rejected r → answer ≡ Refused r → Answers s index answer
-  isNotATree : (t : Table) (place : ℕ) → readTable s ≡ notATree t → BreaksRule t place → answer ≡ Refused (NotATree place) → Answers s index answer
-  isAccepted : Indexed s index → answer ≡ acceptedAs (tableOf s) → Answers s index answer
+-- The reader answers what the bytes read as; of an accepted table the index is left. Of the index of a refused one nothing is said.
+pub record Answers (s index : List ℕ) (answer : Read) : Type 0 where
+  pub answers : answer ≡ readAs (readTable s)
+  pub indexes : (t : Table) → readTable s ≡ got t → Indexed s index
 
 -- the answer where all records were read, kept in an index and in counts of uses
 pub record Finishes (s index uses : List ℕ) (declared : Declarations) (end : ℕ) (answer : Read) : Type 0 where

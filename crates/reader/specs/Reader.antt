@@ -1,6 +1,6 @@
 -- What the parts of the reader answer, given what the definitions of reading do.
 use Prim.Native.Nat.{ℕ, _+_, _-_, _≤_, _<_}
-use mathlib.Core.Bool.{Bool, true, false}
+use mathlib.Core.Bool.{Bool, true}
 use mathlib.Core.Path.{_≡_}
 use lib.ListN.{length, getD, set, take}
 use lib.Dec.{ltb}
@@ -8,7 +8,7 @@ use mathlib.Core.List.{List, [], _∷_, map}
 use Rattle.awhile.specs.Lists.{sum, all}
 use Rattle.awhile.specs.Refusals.{Answer, refused, got, check}
 use Rattle.awhile.specs.Nodes.{Field, word, constant, variable, array, child, Form, row, form, fieldSize, sizeOf, sortOf, decodeAt, fieldInRange, fieldSorted}
-use Rattle.awhile.specs.Tables.{framed, readNode, usesOf, inOrder, allInOrder}
+use Rattle.awhile.specs.Tables.{framed, readNode, usesOf, allInOrder, LowestBroken}
 use Rattle.reader.specs.declared.checks.Checked.{Checked}
 use Rattle.reader.specs.declared.checks.Checked.the-variants.{Refused as CheckRefused, Passed}
 use Rattle.reader.specs.declared.declarations.HeaderRead.{HeaderRead}
@@ -165,9 +165,9 @@ pub record Kept (s index uses : List ℕ) (start : ℕ) (ns : List Node) : Type 
   pub used : (n : ℕ) → getD uses n 0 ≡ usesOf ns n
 
 -- ---- the nodes as one tree
--- a node that is not in order, or that all are
+-- the lowest-numbered node that is not in order, or that all are
 abbrev pub OrderFound : List Node → Broken → Type 0
-OrderFound ns (At n) = (n < length ns) × (inOrder ns n ≡ false)
+OrderFound ns (At n) = LowestBroken ns n
 OrderFound ns Nowhere = allInOrder ns (length ns) ≡ true
 
 -- what looking through the counts finds, where they are those of nodes and the root's sort is the last node's

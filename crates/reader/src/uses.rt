@@ -46,13 +46,13 @@ pub fn count_fields(uses: &mut [u16], fields: Fields)
     }
 }
 
-// A node that is not in order, or that there is none.
+// The lowest-numbered node that is not in order, or that there is none.
 pub enum Broken {
     At { node: usize },
     Nowhere,
 }
 
-// The lowest-numbered node that is not in order: one but the last that is not a child exactly once, or a last one that is no command.
+// Looks through the nodes from 0 up: one but the last that is not a child exactly once is not in order, nor is a last one that is no command.
 pub fn find_broken(uses: &[u16], nodes: usize, root: Sort) -> Broken
     requires { ⌜ (0 < nodes) × (nodes ≤ length (now uses)) ⌝ }
     ensures { λ r. ⌜ OrderSearched (now (uses .entry)) nodes root r ⌝ }

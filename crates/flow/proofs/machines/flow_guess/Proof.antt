@@ -5,7 +5,9 @@ use Rattle.flow.proofs.machines.flow_guess.Statement.{statement}
 use Rattle.flow.proofs.machines.flow_guess.Tie as tie
 
 returns : tie.Need-returns
-returns c = guess-promise _ _ _ _ _ _ _ (c .before .before .before .before .before .before .before .before .before .before .before .before .read-and-run .result) _ (c .before .before .before .before .before .before .before .before .before .before .before .before .read-and-run .ensures) (c .before .before .answer-done .ensures)
+returns c =
+    let done = c .before .before .before .before .before .before .before .before .before .before .before .before .read-and-run in
+    guess-promise _ _ _ _ _ _ _ (done .result) _ (c .before .before .answer-done .ensures) (done .ensures)
 
 pub flow-guess-spec : {M : Type 1} → statement M
 flow-guess-spec =

@@ -6,7 +6,9 @@ use Rattle.flow.proofs.machines.flow_run.Statement.{statement}
 use Rattle.flow.proofs.machines.flow_run.Tie as tie
 
 returns : tie.Need-returns
-returns c = run-promise _ _ _ _ _ _ _ (c .before .before .before .before .before .before .before .before .before .before .before .before .read-and-run .result) _ refl (c .before .before .before .before .before .before .before .before .before .before .before .before .read-and-run .ensures) (c .before .before .answer-done .ensures)
+returns c =
+    let done = c .before .before .before .before .before .before .before .before .before .before .before .before .read-and-run in
+    run-promise _ _ _ _ _ _ _ (done .result) _ (c .before .before .answer-done .ensures) refl (done .ensures)
 
 pub flow-run-spec : {M : Type 1} → statement M
 flow-run-spec =

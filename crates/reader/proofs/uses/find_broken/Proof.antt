@@ -22,7 +22,7 @@ loop-again : tie.Need-loop-again Inv-loop μ-loop
 loop-again c = once-more _ _ _ _ (c .before .before .before .loop .inv) (c .before .before .loop-test .taken) (c .if1 .left)
 
 returns : tie.Need-returns Inv-loop μ-loop
-returns c = broken-child _ _ _ _ (c .before .before .loop-test .taken) (c .if1 .taken)
+returns c = broken-child _ _ _ _ (c .before .before .before .loop .inv) (c .before .before .loop-test .taken) (c .if1 .taken)
 
 returns-3 : tie.Need-returns-3 Inv-loop μ-loop
 returns-3 c =
@@ -35,7 +35,7 @@ find-broken-spec =
     (tie.spec
     Inv-loop
     μ-loop
-    (λ c. record { more = c .pre .0; once = λ i below. absurd (omega arith) })
+    (λ c. record { once = λ i below. absurd (omega arith); more = c .pre .0 })
     (λ c. omega arith)
     (λ c. omega arith)
     (λ c. omega arith)
