@@ -200,6 +200,25 @@ static void case_sizes(void)
     buffer_free(&t);
 }
 
+/* A sequence of two skips, and between these eleven nodes that are no one's children. */
+static void orphans_table(struct buffer *t)
+{
+    assemble_table(t, 0, 0, NULL, 0, 0);
+    unsigned first = skip(t);
+    for (unsigned orphans = 0; orphans < 11; orphans++)
+        number(t, orphans);
+    sequence(t, first, skip(t));
+}
+
+static void case_orphans(void)
+{
+    struct buffer t = {0};
+    orphans_table(&t);
+    expect(sheet(&t) == FLOW_NOT_A_TREE && answered(1) == 24, "eleven orphans: 6 at the record of the lowest-numbered");
+    expect(harden(&t) == FLOW_NOT_A_TREE && answered(1) == 24, "eleven orphans, hardened: the same");
+    buffer_free(&t);
+}
+
 /* One run of the bounds check, on a table and with i as given.  Array 2 holds 77. */
 static size_t guess_bounds_check(const uint8_t *table, size_t length, uint32_t i, const struct buffer *list, uint8_t *seen)
 {
@@ -272,6 +291,7 @@ bool cases_hold(void)
     case_chain();
     case_branch();
     case_sizes();
+    case_orphans();
     case_bounds_check();
     case_budget_zero();
     case_skip();

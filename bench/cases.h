@@ -1,4 +1,4 @@
-/* The cases that document 01 lists, with the answers that it gives. */
+/* The cases that document 01 lists, with the answers that it gives, and some of document 02. */
 #ifndef CASES_H
 #define CASES_H
 

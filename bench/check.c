@@ -18,8 +18,6 @@
 #include "demands.h"
 #include "flow.h"
 #include "generate.h"
-#include "little_endian.h"
-#include "reference.h"
 
 enum { DEFAULT_COUNT = 320000, HANGING_SECONDS = 120, MOST_REFUSAL = 23, MOST_END = 5 };
 
@@ -30,16 +28,6 @@ struct tally {
 };
 
 /* ---- Comparing ---------------------------------------------------------------------------------------------------------- */
-
-/* The place of refusal 6 is free: where the library's is allowed, it becomes the reference's before bytes are compared. */
-static void settle_free_place(struct call *library, const struct call *reference, uint64_t result)
-{
-    struct slice *answer = &library->slices[SLICE_ANSWER];
-    const struct slice *table = &library->slices[SLICE_TABLE];
-    if (result == FLOW_NOT_A_TREE && answer->length >= 16 &&
-        reference_breaks_tree_rule(table->bytes, table->length, call_answer(library, 1)))
-        put64(answer->bytes + 8, call_answer(reference, 1));
-}
 
 static void print_call(const struct call *call)
 {
@@ -81,7 +69,6 @@ static bool compare_call(const struct call *call, struct tally *tally)
     uint64_t library_result = call_library(&library);
     uint64_t reference_result = call_reference(&reference);
     bool same = library_result == reference_result;
-    settle_free_place(&library, &reference, library_result);
     for (unsigned i = 0; i < SLICES; i++)
         same = same && slice_equal(&library.slices[i], &reference.slices[i]);
     if (same)

@@ -552,6 +552,14 @@ static void damage_counts(struct random *r, struct buffer *table)
         put16(table->bytes + 20 + 6 * random_below(r, arrays) + RECORD_HEAD, counts[random_below(r, 6)]);
 }
 
+/* A node more, which leaves the old root over. */
+static void append_skip(struct buffer *table)
+{
+    buffer_append16(table, 4);
+    buffer_append16(table, FLOW_SKIP);
+    put16(table->bytes + 8, get16(table->bytes + 8) + 1);
+}
+
 /* Whole records go, come twice or change places. */
 static void damage_records(struct random *r, struct buffer *table, const struct records *records)
 {
@@ -576,11 +584,36 @@ static void damage_records(struct random *r, struct buffer *table, const struct 
             delete_bytes(table, at, length);
             put16(table->bytes + 8, get16(table->bytes + 8) - 1);
         } else {
-            buffer_append16(table, 4);
-            buffer_append16(table, FLOW_SKIP);
-            put16(table->bytes + 8, get16(table->bytes + 8) + 1);
+            append_skip(table);
         }
     }
+}
+
+/* A child becomes another node of its sort, if one is found below the parent: the one is left over, the other a child once more. */
+static void exchange_child(struct random *r, struct buffer *table, const struct records *records)
+{
+    const size_t *places = records->places + records->declarations;
+    unsigned node = any_node(r, records);
+    const char *fields = fields_of(get16(table->bytes + places[node] + 2));
+    unsigned which = random_below(r, 3);
+    if (node == 0 || which >= strlen(fields) || !is_child(fields[which]))
+        return;
+    for (unsigned tries = 0; tries < 8; tries++) {
+        unsigned other = random_below(r, node);
+        if (sort_of(get16(table->bytes + places[other] + 2)) == fields[which]) {
+            put16(table->bytes + places[node] + RECORD_HEAD + 2 * which, other);
+            return;
+        }
+    }
+}
+
+/* Many nodes break the tree rule at once. */
+static void damage_tree(struct random *r, struct buffer *table, const struct records *records)
+{
+    for (unsigned times = 1 + random_below(r, 11); times > 0; times--)
+        exchange_child(r, table, records);
+    for (unsigned times = random_below(r, 3); times > 0; times--)
+        append_skip(table);
 }
 
 /* The root becomes both parts of a new one: no node is left over, one is a child twice. */
@@ -601,7 +634,7 @@ void damage_table(struct random *r, struct buffer *table)
     }
     if (random_percent(r, 3))
         share_root(table);
-    switch (random_below(r, 13)) {
+    switch (random_below(r, 14)) {
     case 0: damage_bits(r, table); break;
     case 1: damage_end(r, table, &records); break;
     case 2: damage_length(r, table, &records); break;
@@ -613,6 +646,7 @@ void damage_table(struct random *r, struct buffer *table)
     case 8: damage_masks(r, table); break;
     case 9: damage_counts(r, table); break;
     case 10: share_root(table); break;
+    case 11: damage_tree(r, table, &records); break;
     default: damage_records(r, table, &records); break;
     }
 }

@@ -1,5 +1,6 @@
 #include "reference.h"
 
+#include <stdbool.h>
 #include <string.h>
 
 #include "flow.h"
@@ -177,23 +178,12 @@ static struct refusal read_program(const uint8_t *table, size_t length, struct p
     p->table = table;
     if (!read_records(&r, p))
         return r.refusal;
-    for (unsigned node = 0; node < p->nodes; node++)
+    for (unsigned node = 0; node < p->nodes; node++) /* P1: the lowest-numbered node that breaks the rule */
         if (breaks_tree_rule(p, node))
             return (struct refusal){FLOW_NOT_A_TREE, p->place[node]};
     if (r.at < length)
         return (struct refusal){FLOW_EXTRA_BYTES, r.at};
     return (struct refusal){FLOW_ACCEPTED, 0};
-}
-
-bool reference_breaks_tree_rule(const uint8_t *table, size_t table_len, uint64_t place)
-{
-    struct program p;
-    if (read_program(table, table_len, &p).number != FLOW_NOT_A_TREE)
-        return false;
-    for (unsigned node = 0; node < p.nodes; node++)
-        if (p.place[node] == place)
-            return breaks_tree_rule(&p, node);
-    return false;
 }
 
 /* ---- Labels ------------------------------------------------------------------------------------------------------------- */

@@ -1,11 +1,10 @@
 /*
- * An independent implementation of document 01 in plain C: the yardstick that libflow.a is compared with and timed against.
+ * An independent implementation of document 01, with the changes of document 02 that have landed, in plain C: the yardstick that libflow.a is compared with and timed against.
  * The entries behave as those of flow.h.
  */
 #ifndef REFERENCE_H
 #define REFERENCE_H
 
-#include <stdbool.h>
 #include <stddef.h>
 #include <stdint.h>
 
@@ -33,11 +32,5 @@ uint64_t reference_guess(const uint8_t *table, size_t table_len,
                          uint8_t *observations, size_t observations_len,
                          uint32_t budget,
                          uint8_t *answer, size_t answer_len);
-
-/*
- * Refusal 6 leaves its place free.  For a table that is refused by 6: is `place` the record of a node that breaks the rule?
- * For any other table the answer is no.
- */
-bool reference_breaks_tree_rule(const uint8_t *table, size_t table_len, uint64_t place);
 
 #endif

@@ -17,7 +17,7 @@ const char *refusal_in_words(uint64_t refusal)
     case FLOW_BEYOND_LIMITS: return "a version, count or mask is beyond the limits";
     case FLOW_OUT_OF_RANGE: return "a variable, array or child is out of range, or a constant is above 1";
     case FLOW_WRONG_SORT: return "a child is of the wrong sort";
-    case FLOW_NOT_A_TREE: return "the node is a child never or more than once, or is the last and no command";
+    case FLOW_NOT_A_TREE: return "the node is a child never or more than once, or is the last and no command; it is the lowest-numbered such node";
     case FLOW_EXTRA_BYTES: return "bytes stand after the last node";
     case FLOW_TOO_MANY_NODES: return "more than 512 nodes cannot be hardened";
     case FLOW_NO_FREE_VARIABLE: return "all 32 variables are taken, none is free for the flag";
