@@ -31,21 +31,17 @@ use Rattle.awhile.specs.declared.Refusal.{Refusal}
 use Rattle.awhile.specs.declared.Refusal.the-variants.{BeyondLimit, OutOfRange, WrongSort}
 
 -- ---- answers that are no refusals
-module _ {A : Type 0} (r : Refusal) where
-  check-test : (b : Bool) (a : Answer A) (x : A) → check b r a ≡ got x → b ≡ true
-  unfolding check
-  check-test true a x e = refl
-  check-test false a x e = cc
-
-  pub check-rest : (b : Bool) (a : Answer A) (x : A) → check b r a ≡ got x → a ≡ got x
-  unfolding check
-  check-rest true a x e = e
-  check-rest false a x e = cc
+-- a check that is passed
+pub check-got : {A : Type 0} (b : Bool) (r : Refusal) (a : Answer A) (x : A) → check b r a ≡ got x → (b ≡ true) × (a ≡ got x)
+unfolding check
+check-got true r a x e = (refl, e)
+check-got false r a x e = let z : _≡_ {A = ℕ} 0 1 = cc in absurd (omega arith)
 
 pub got-same : {A : Type 0} (x y : A) → _≡_ {A = Answer A} (got x) (got y) → x ≡ y
 got-same x y e = cc
 
-refused-got : {A : Type 0} (r : Refusal) (x : A) → _≡_ {A = Answer A} (refused r) (got x) → ⊥
+-- a refusal is no answer
+pub refused-got : {A : Type 0} (r : Refusal) (x : A) → _≡_ {A = Answer A} (refused r) (got x) → ⊥
 refused-got r x e = let z : _≡_ {A = ℕ} 0 1 = cc in omega arith
 
 -- what is gone on with was got
@@ -64,20 +60,19 @@ module _ {A : Type 0} (s : List ℕ) (at wanted : ℕ) (rest : Answer A) (x : A)
   pub framed-rest : framed s at wanted rest ≡ got x → rest ≡ got x
   unfolding framed
   framed-rest e =
-      let first = check-rest _ (leb (at + 4) (length s)) _ x e in
-      let second = check-rest _ (ltb 0 wanted && eqb (leAt 2 s at) wanted) _ x first in
-      check-rest _ (leb (at + wanted) (length s)) rest x second
+      let first = check-got (leb (at + 4) (length s)) _ _ x e in
+      let second = check-got (ltb 0 wanted && eqb (leAt 2 s at) wanted) _ _ x (first .1) in
+      check-got (leb (at + wanted) (length s)) _ rest x (second .1) .1
 
   framed-passed : framed s at wanted rest ≡ got x → Passed s at wanted
   unfolding framed
   framed-passed e =
-      let first = check-rest _ (leb (at + 4) (length s)) _ x e in
-      let second = check-rest _ (ltb 0 wanted && eqb (leAt 2 s at) wanted) _ x first in
-      let test = check-test _ (ltb 0 wanted && eqb (leAt 2 s at) wanted) _ x first in
+      let first = check-got (leb (at + 4) (length s)) _ _ x e in
+      let second = check-got (ltb 0 wanted && eqb (leAt 2 s at) wanted) _ _ x (first .1) in
       record {
-        some = ltb-true 0 wanted (and-first (ltb 0 wanted) (eqb (leAt 2 s at) wanted) test);
-        isLength = eqb-true (leAt 2 s at) wanted (and-second (ltb 0 wanted) (eqb (leAt 2 s at) wanted) test);
-        inside = leb-true (at + wanted) (length s) (check-test _ (leb (at + wanted) (length s)) rest x second);
+        some = ltb-true 0 wanted (and-first (ltb 0 wanted) (eqb (leAt 2 s at) wanted) (second .0));
+        isLength = eqb-true (leAt 2 s at) wanted (and-second (ltb 0 wanted) (eqb (leAt 2 s at) wanted) (second .0));
+        inside = leb-true (at + wanted) (length s) (check-got (leb (at + wanted) (length s)) _ rest x (second .1) .0);
       }
 
 -- ---- words
@@ -133,8 +128,9 @@ module _ (s : List ℕ) where
       let three : Bool = two && leb arrays maxArrays in
       let four : Bool = three && ltb 0 nodes in
       let all : Bool = four && leb nodes maxNodes in
-      let test : all ≡ true = check-test (BeyondLimit 0) all (got read) h e in
-      let same : read ≡ h = got-same read h (check-rest (BeyondLimit 0) all (got read) h e) in
+      let passed = check-got all (BeyondLimit 0) (got read) h e in
+      let test : all ≡ true = passed .0 in
+      let same : read ≡ h = got-same read h (passed .1) in
       let toFour : four ≡ true = and-first four (leb nodes maxNodes) test in
       let toThree : three ≡ true = and-first three (ltb 0 nodes) toFour in
       let toTwo : two ≡ true = and-first two (leb arrays maxArrays) toThree in
@@ -163,12 +159,12 @@ module _ (s : List ℕ) where
       let first : Bool = ltb (read .variables) (2 ^ h .variables) in
       let second : Bool = ltb (read .arrays) (2 ^ h .arrays) in
       let rest = framed-rest s at (lengthOfKind 3 labelsSize s at) (check (first && second) (BeyondLimit at) (got read)) l e in
-      let test = check-test (BeyondLimit at) (first && second) (got read) l rest in
-      let same : read ≡ l = got-same read l (check-rest (BeyondLimit at) (first && second) (got read) l rest) in
+      let passed = check-got (first && second) (BeyondLimit at) (got read) l rest in
+      let same : read ≡ l = got-same read l (passed .1) in
       rw (← same)
       (record {
-        variableMaskFits = ltb-true (read .variables) (2 ^ h .variables) (and-first first second test);
-        arrayMaskFits = ltb-true (read .arrays) (2 ^ h .arrays) (and-second first second test);
+        variableMaskFits = ltb-true (read .variables) (2 ^ h .variables) (and-first first second (passed .0));
+        arrayMaskFits = ltb-true (read .arrays) (2 ^ h .arrays) (and-second first second (passed .0));
       })
 
   -- ---- the arrays
@@ -181,12 +177,12 @@ module _ (s : List ℕ) where
   count-fits at before n e =
       let read : ℕ = leAt 2 s (at + 4) in
       let rest = framed-rest s at (lengthOfKind 2 arraySize s at) (check (ltb 0 read && leb (before + read) maxCells) (BeyondLimit at) (got read)) n e in
-      let test = check-test (BeyondLimit at) (ltb 0 read && leb (before + read) maxCells) (got read) n rest in
-      let same : read ≡ n = got-same read n (check-rest (BeyondLimit at) (ltb 0 read && leb (before + read) maxCells) (got read) n rest) in
+      let passed = check-got (ltb 0 read && leb (before + read) maxCells) (BeyondLimit at) (got read) n rest in
+      let same : read ≡ n = got-same read n (passed .1) in
       rw (← same)
       (record {
-        positive = ltb-true 0 read (and-first (ltb 0 read) (leb (before + read) maxCells) test);
-        total = leb-true (before + read) maxCells (and-second (ltb 0 read) (leb (before + read) maxCells) test);
+        positive = ltb-true 0 read (and-first (ltb 0 read) (leb (before + read) maxCells) (passed .0));
+        total = leb-true (before + read) maxCells (and-second (ltb 0 read) (leb (before + read) maxCells) (passed .0));
       })
 
   -- the counts read after others: so many, each positive, within the sum
@@ -254,14 +250,14 @@ module _ (s : List ℕ) where
         let rangeRest : Answer Node = check (inRange (h .variables) (h .arrays) (length before) m) (OutOfRange at) sortedRest in
         let passed = framed-passed s at (sizeOf m) rangeRest n e in
         let first = framed-rest s at (sizeOf m) rangeRest n e in
-        let second = check-rest (OutOfRange at) (inRange (h .variables) (h .arrays) (length before) m) sortedRest n first in
-        let third = check-rest (WrongSort at) (sorted before m) (got m) n second in
-        rw (← got-same m n third)
+        let second = check-got (inRange (h .variables) (h .arrays) (length before) m) (OutOfRange at) sortedRest n first in
+        let third = check-got (sorted before m) (WrongSort at) (got m) n (second .1) in
+        rw (← got-same m n (third .1))
         (record {
           fits =
               record {
-                ranged = check-test (OutOfRange at) (inRange (h .variables) (h .arrays) (length before) m) sortedRest n first;
-                wellSorted = check-test (WrongSort at) (sorted before m) (got m) n second;
+                ranged = second .0;
+                wellSorted = third .0;
                 wordsFit = subst WordsFit d (decoded-words (leAt 2 s (at + 2)) (leAt 2 s (at + 4)) (leAt 2 s (at + 6)) (leAt 2 s (at + 8)) (leAt 4 s (at + 4)) (leAt-lt 4 s (at + 4) bytes));
               };
           there = record { isLength = passed .isLength; decoded = d; inside = passed .inside };
@@ -370,11 +366,9 @@ module _ (s : List ℕ) (bytes : Below 256 s) where
   table-accepted t e =
       then-got (Accepted t) (readRecords s) (checkWhole s) t e
       (λ u read whole.
-      let rest = check-rest _ (allInOrder (u .nodes) (length (u .nodes))) _ t whole in
-      let ended = leb (length s) (offsetOf u (length (u .nodes))) in
-      let same : u ≡ t = got-same u t (check-rest _ ended _ t rest) in
-      rw (← same)
-      (record { read = read; oneTree = check-test _ (allInOrder (u .nodes) (length (u .nodes))) _ t whole; ended = leb-true _ _ (check-test _ ended _ t rest) }))
+      let tree = check-got (allInOrder (u .nodes) (length (u .nodes))) _ _ t whole in
+      let ended = check-got (leb (length s) (offsetOf u (length (u .nodes)))) _ _ t (tree .1) in
+      rw (← got-same u t (ended .1)) (record { read = read; oneTree = tree .0; ended = leb-true _ _ (ended .0) }))
 
   -- whatever reads is well-formed
   pub accepted-well-formed : (t : Table) → readTable s ≡ got t → WellFormed t

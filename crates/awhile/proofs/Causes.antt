@@ -9,6 +9,7 @@ use Rattle.awhile.specs.Refusals.{Answer, refused, got, check, andThen, 
 use Rattle.awhile.specs.Nodes.{sizeOf, decodeAt}
 use Rattle.awhile.specs.Tables.{arraySize, labelsStart, countsStart, nodesStart}
 use Rattle.awhile.specs.Tables.{framed, readHeader, readLabels, readCount, readCounts, readNode, readNodes, readRecords}
+use Rattle.awhile.proofs.Accepted.{refused-got}
 use Rattle.awhile.proofs.Cases.{counts-next, counts-refused, node-known, node-unknown, nodes-next, nodes-refused}
 use Rattle.awhile.specs.declared.Header.{Header}
 use Rattle.awhile.specs.declared.Node.{Node}
@@ -22,7 +23,7 @@ record ByRecord {A : Type 0} (a : Answer A) : Type 0 where
 
 module _ {A : Type 0} where
   by-got : (x : A) → ByRecord (got x)
-  by-got x = record { cause = λ r e. absurd (let z : _≡_ {A = ℕ} 0 1 = cc in omega arith) }
+  by-got x = record { cause = λ r e. absurd (refused-got r x (sym e)) }
 
   by-refused : (r : Refusal) → refusalNumber r ≤ 5 → ByRecord {A = A} (refused r)
   by-refused r low = record { cause = λ q e. let same : r ≡ q = cc in subst (λ (x : Refusal). refusalNumber x ≤ 5) same low }

@@ -12,7 +12,7 @@ use Rattle.bytes_le.proofs.Numbers.{Below}
 use Rattle.awhile.specs.Lists.{sum}
 use Rattle.awhile.specs.Refusals.{check, got}
 use Rattle.awhile.specs.Tables.{Table, headerOf, arraySize, labelsStart, countsStart, countStart, nodesStart, maxCells, lengthOfKind, readTable, readRecords, readHeader, readLabels, readCount, readCounts, readNodes}
-use Rattle.awhile.proofs.Accepted.{check-rest, framed-rest, got-same, then-got, counts-first, accepted-read}
+use Rattle.awhile.proofs.Accepted.{check-got, framed-rest, got-same, then-got, counts-first, accepted-read}
 use Rattle.awhile.specs.declared.Refusal.the-variants.{BeyondLimit}
 
 -- the counts that stand from an offset on, after others
@@ -29,7 +29,7 @@ module _ (s : List ℕ) where
       let read : ℕ = leAt 2 s (at + 4) in
       let test : Bool = ltb 0 read && leb (before + read) maxCells in
       let rest = framed-rest s at (lengthOfKind 2 arraySize s at) (check test (BeyondLimit at) (got read)) n e in
-      sym (got-same read n (check-rest (BeyondLimit at) test (got read) n rest))
+      sym (got-same read n (check-got test (BeyondLimit at) (got read) n rest .1))
 
   counts-more : (left at n : ℕ) (before counts : List ℕ) → n ≡ leAt 2 s (at + 4) → CountsThere s left (at + arraySize) (before ++ (n ∷ [])) counts
       → CountsThere s (suc left) at before counts

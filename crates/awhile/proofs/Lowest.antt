@@ -9,6 +9,7 @@ use lib.ListN.{length}
 use lib.Dec.{leb}
 use Rattle.awhile.specs.Refusals.{Answer, refused, got, check, refusalNumber, refusalPlace}
 use Rattle.awhile.specs.Tables.{Table, offsetOf, readRecords, inOrder, allInOrder, firstBroken, LowestBroken, checkWhole, readTable, PointsAtLowest}
+use Rattle.awhile.proofs.Accepted.{refused-got}
 use Rattle.awhile.proofs.Cases.{all-in-order, each-in-order, table-read, table-refused}
 use Rattle.awhile.proofs.Causes.{records-cause}
 use Rattle.awhile.specs.declared.Node.{Node}
@@ -82,7 +83,7 @@ lowest-refused s t read n low =
 -- 7 is not 6
 not-extra : (b : Bool) (end place : ℕ) (t : Table) → check b (ExtraBytes end) (got t) ≡ refused (NotATree place) → ⊥
 unfolding check
-not-extra true end place t e = let z : _≡_ {A = ℕ} 0 1 = cc in omega arith
+not-extra true end place t e = refused-got (NotATree place) t (sym e)
 not-extra false end place t e = let same : ExtraBytes end ≡ NotATree place = cc in omega (arith, ap refusalNumber same)
 
 -- And the other way round: "With refusal 6 the place must be the record of the lowest-numbered node that breaks the rule."

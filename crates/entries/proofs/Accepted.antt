@@ -1,7 +1,6 @@
 -- What an accepted guessing call is: its table and its list are read, its slices have their lengths, and it leaves what the run leaves.
 use Prim.Native.Nat.{ℕ, _*_, _≤_}
 use native.Mathlib.Omega.{arith}
-use mathlib.Core.Bool.{Bool, true, false}
 use mathlib.Core.Option.{Option, none, some}
 use mathlib.Core.List.{List}
 use mathlib.Core.Path.{_≡_, refl, sym, ap, _∙_}
@@ -9,8 +8,9 @@ use lib.ListN.{length}
 use lib.Dec.{eqb, leb}
 use borrow.Author.Tests.{eqb-true, leb-true}
 use Rattle.awhile.specs.Lists.{sum}
-use Rattle.awhile.specs.Refusals.{Answer, refused, got, check, refusalNumber}
+use Rattle.awhile.specs.Refusals.{Answer, refused, got, refusalNumber}
 use Rattle.awhile.specs.Tables.{Table, readTable}
+use Rattle.awhile.proofs.Accepted.{check-got}
 use Rattle.awhile.specs.declared.Refusal.{Refusal}
 use Rattle.awhile.specs.declared.Refusal.the-variants.{Cut, WrongRecord, BeyondLimit, OutOfRange, WrongSort, NotATree, ExtraBytes}
 use Rattle.awhile.specs.declared.Refusal.the-variants.{TooManyNodes, NoFreeVariable, BadDirectives}
@@ -50,12 +50,6 @@ pub record GuessAccepted (table directives : List ℕ) (lent : Lent) (budget : �
   pub scripted : readDirectives directives ≡ some script
   pub fits : LentFits lent read
   pub exit : guessEntry table directives lent budget answer ≡ ranAll read lent answer (runIn read lent budget (guessing script))
-
--- a check that is passed
-pub check-got : {A : Type 0} (b : Bool) (r : Refusal) (a : Answer A) (x : A) → check b r a ≡ got x → (b ≡ true) × (a ≡ got x)
-unfolding check
-check-got true r a x e = (refl, e)
-check-got false r a x e = let z : _≡_ {A = ℕ} 0 1 = cc in absurd (omega arith)
 
 lent-for : (lent : Lent) (t u : Table) → lentFor lent t ≡ got u → LentFits lent t × (t ≡ u)
 unfolding lentFor

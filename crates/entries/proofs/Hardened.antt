@@ -9,7 +9,7 @@ use borrow.Author.Tests.{ltb-true, leb-true, lt-ltb, le-leb}
 use Rattle.bytes_le.proofs.Numbers.{Below}
 use Rattle.awhile.specs.Refusals.{got, check, andThen}
 use Rattle.awhile.specs.Tables.{Table, headerOf, readTable, maxVariables, nodesStart}
-use Rattle.awhile.proofs.Accepted.{then-got}
+use Rattle.awhile.proofs.Accepted.{check-got, then-got}
 use Rattle.awhile.specs.Encoding.{tableBytes}
 use Rattle.awhile.specs.declared.Refusal.the-variants.{TooManyNodes, NoFreeVariable}
 use Rattle.masks.specs.Hardening.{hardenedProgram, hardenedTable, maxHardened}
@@ -18,7 +18,6 @@ use Rattle.masks.proofs.Demands.{demands-met}
 use Rattle.entries.specs.Writing.{writtenAll, writing, hardenedIn, hardenEntry}
 use Rattle.entries.specs.Security.{CallsShowTheSame}
 use Rattle.entries.specs.Promises.{writtenAt, HardenedInto, Hardens}
-use Rattle.entries.proofs.Accepted.{check-got}
 use Rattle.entries.proofs.Written.{front, writing-zero, answers-zero}
 use Rattle.entries.proofs.Security.{calls-related}
 

@@ -14,7 +14,7 @@ use Rattle.awhile.specs.Refusals.{Answer, refused, got, andThen, refusalNumber,
 use Rattle.awhile.specs.Tables.{Table, readTable, maxVariables, longestTable}
 use Rattle.awhile.specs.declared.Refusal.{Refusal}
 use Rattle.awhile.specs.declared.Refusal.the-variants.{TooManyNodes, NoFreeVariable}
-use Rattle.awhile.proofs.Accepted.{accepted-well-formed, then-got}
+use Rattle.awhile.proofs.Accepted.{accepted-well-formed, check-got, then-got}
 use Rattle.machine.specs.Memory.{writtenOver}
 use Rattle.masks.specs.Hardening.{hardenedTable, maxHardened}
 use Rattle.masks.proofs.Demands.{demands-met}
@@ -22,7 +22,7 @@ use Rattle.entries.specs.Answers.{answered, refusalNumbers}
 use Rattle.entries.specs.Promises.{writtenAt}
 use Rattle.entries.specs.Writing.{Written, notWritten, writtenAll, writing, hardenedIn, hardenEntry}
 use Rattle.program.specs.Program.{refusalBytes, refusalRecord, hardenedInput, AnswersRead}
-use Rattle.entries.proofs.Accepted.{refusal-not-zero, check-got}
+use Rattle.entries.proofs.Accepted.{refusal-not-zero}
 use Rattle.program.proofs.Program.{answers-read}
 use Rattle.flow.proofs.Reading.{written-front}
 

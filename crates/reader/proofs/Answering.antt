@@ -18,7 +18,7 @@ use Rattle.reader.specs.Index.{tableOf, nodesIn, Indexed, Ready, readAs,
 use Rattle.reader.specs.Walk.{NodesLeft, Declared, Counted}
 use Rattle.reader.proofs.Walking.{nodes-done}
 use Rattle.awhile.proofs.Cases.{table-read, table-refused}
-use Rattle.awhile.proofs.Accepted.{HeaderFits, header-fits, counts-fit}
+use Rattle.awhile.proofs.Accepted.{refused-got, HeaderFits, header-fits, counts-fit}
 use Rattle.awhile.proofs.Lowest.{lowest-refused}
 use Rattle.awhile.specs.declared.Declarations.{Declarations}
 use Rattle.awhile.specs.declared.Header.{Header}
@@ -42,7 +42,7 @@ table-of s t e = rw (e, tableOf)
 -- a table that is refused is answered by its refusal
 refuses : (s index : List ℕ) (r : Refusal) → readTable s ≡ refused r → Answers s index (Refused r)
 unfolding readAs
-refuses s index r e = record { answers = sym (ap readAs e); indexes = λ t f. absurd (let z : _≡_ {A = ℕ} 0 1 = cc in omega arith) }
+refuses s index r e = record { answers = sym (ap readAs e); indexes = λ t f. absurd (refused-got r t (sym e ∙ f)) }
 
 -- ---- what the parts hand on was read
 pub labels-got : (a : Answer Labelling) (l : Labelling) → LabelsGot l ≡ labelsAs a → a ≡ got l
