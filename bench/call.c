@@ -7,8 +7,8 @@
 #include "little_endian.h"
 #include "reference.h"
 
-const char *const entry_names[ENTRIES] = {"flow_sheet", "flow_harden", "flow_run", "flow_guess"};
-const char *const slice_names[SLICES] = {"table", "directives", "variables", "cells",
+const char *const entry_names[ENTRIES] = {"flow_sheet", "flow_questions", "flow_harden", "flow_run", "flow_guess"};
+const char *const slice_names[SLICES] = {"table", "questions", "directives", "variables", "cells",
                                          "pending", "observations", "output", "answer"};
 
 void slice_new(struct slice *s, size_t length)
@@ -62,6 +62,8 @@ uint64_t call_library(struct call *call)
     switch (call->entry) {
     case ENTRY_SHEET:
         return flow_sheet(LENT(TABLE), LENT(OUTPUT), LENT(ANSWER));
+    case ENTRY_QUESTIONS:
+        return flow_questions(LENT(TABLE), LENT(QUESTIONS), LENT(OUTPUT), LENT(ANSWER));
     case ENTRY_HARDEN:
         return flow_harden(LENT(TABLE), LENT(OUTPUT), LENT(ANSWER));
     case ENTRY_RUN:
@@ -78,6 +80,8 @@ uint64_t call_reference(struct call *call)
     switch (call->entry) {
     case ENTRY_SHEET:
         return reference_sheet(LENT(TABLE), LENT(OUTPUT), LENT(ANSWER));
+    case ENTRY_QUESTIONS:
+        return reference_questions(LENT(TABLE), LENT(QUESTIONS), LENT(OUTPUT), LENT(ANSWER));
     case ENTRY_HARDEN:
         return reference_harden(LENT(TABLE), LENT(OUTPUT), LENT(ANSWER));
     case ENTRY_RUN:

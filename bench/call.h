@@ -7,16 +7,17 @@
 #include <stdint.h>
 #include <stdio.h>
 
-enum entry { ENTRY_SHEET, ENTRY_HARDEN, ENTRY_RUN, ENTRY_GUESS, ENTRIES };
+enum entry { ENTRY_SHEET, ENTRY_QUESTIONS, ENTRY_HARDEN, ENTRY_RUN, ENTRY_GUESS, ENTRIES };
 
 enum slice_name {
     SLICE_TABLE,
+    SLICE_QUESTIONS,
     SLICE_DIRECTIVES,
     SLICE_VARIABLES,
     SLICE_CELLS,
     SLICE_PENDING,
     SLICE_OBSERVATIONS,
-    SLICE_OUTPUT, /* the sheet or the hardened table */
+    SLICE_OUTPUT, /* the sheet, the labels asked for or the hardened table */
     SLICE_ANSWER,
     SLICES
 };

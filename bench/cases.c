@@ -73,6 +73,22 @@ static void chain_table(struct buffer *t, bool in_loop)
         assemble_node2(t, FLOW_WHILE, condition, body);
 }
 
+/* while true do (q:=0; ((while true do (p:=q; q:=s)); x:=p)), q p x s numbers 0 to 3, s secret; hands the inner loop's node back */
+static unsigned inner_loop_table(struct buffer *t)
+{
+    assemble_table(t, 4, 0, NULL, 8, 0);
+    unsigned outer_condition = assemble_node1(t, FLOW_CONSTANT, 1);
+    unsigned clear = set(t, 0, 0);
+    unsigned inner_condition = assemble_node1(t, FLOW_CONSTANT, 1);
+    unsigned first = move(t, 1, 0);
+    unsigned second = move(t, 0, 3);
+    unsigned inner = assemble_node2(t, FLOW_WHILE, inner_condition, sequence(t, first, second));
+    unsigned last = move(t, 2, 1);
+    unsigned body = sequence(t, clear, sequence(t, inner, last));
+    assemble_node2(t, FLOW_WHILE, outer_condition, body);
+    return inner;
+}
+
 /* if s=0 then x:=1 else skip, x 0, s 1 and secret; then x:=2, if wanted */
 static void branch_table(struct buffer *t, bool then_assign)
 {
@@ -141,10 +157,58 @@ static uint64_t harden(const struct buffer *t)
     return flow_harden(t->bytes, t->length, output, sizeof output, answer, sizeof answer);
 }
 
+static uint64_t ask(const struct buffer *t, const uint8_t *list, size_t length, uint8_t *labels, size_t room)
+{
+    return flow_questions(t->bytes, t->length, list, length, labels, room, answer, sizeof answer);
+}
+
+/* Puts a list of so many pairs: node and variable of each in turn. */
+static void put_questions(uint8_t *list, const uint16_t *pairs, unsigned count)
+{
+    for (unsigned i = 0; i < 2 * count; i++)
+        put16(list + 2 * i, pairs[i]);
+}
+
+/* Asks four pairs in one list and each alone, all with buffers of exact length. */
+static bool answers(const struct buffer *t, const uint16_t *pairs, const uint8_t *wanted)
+{
+    uint8_t list[4 * FLOW_QUESTION_BYTES], labels[4], label;
+    put_questions(list, pairs, 4);
+    bool same = ask(t, list, sizeof list, labels, sizeof labels) == FLOW_ACCEPTED && answered(0) == FLOW_ACCEPTED &&
+                answered(1) == 4 && memcmp(labels, wanted, sizeof labels) == 0;
+    for (unsigned i = 0; i < 4; i++)
+        same = same && ask(t, list + i * FLOW_QUESTION_BYTES, FLOW_QUESTION_BYTES, &label, 1) == FLOW_ACCEPTED &&
+               answered(1) == 1 && label == wanted[i];
+    return same;
+}
+
+static uint8_t room[FLOW_MAX_QUESTIONS + 1]; /* for labels */
+enum { UNTOUCHED = 77 };
+
+/* Asks a list that is to be refused where this much room is lent: by the number, place 0, and no label is written. */
+static bool refuses(const struct buffer *t, const uint8_t *list, size_t length, size_t lent, uint64_t refusal)
+{
+    memset(room, UNTOUCHED, sizeof room);
+    bool refused = ask(t, list, length, room, lent) == refusal && answered(0) == refusal && answered(1) == 0;
+    for (size_t i = 0; i < sizeof room; i++)
+        refused = refused && room[i] == UNTOUCHED;
+    return refused;
+}
+
+/* The pair stands second, after a good one. */
+static bool refuses_pair(const struct buffer *t, uint16_t node, uint16_t x)
+{
+    const uint16_t pairs[] = {11, 0, node, x};
+    uint8_t list[2 * FLOW_QUESTION_BYTES];
+    put_questions(list, pairs, 2);
+    return refuses(t, list, sizeof list, sizeof room, FLOW_BAD_QUESTIONS);
+}
+
 static void case_no_bytes(void)
 {
     expect(flow_sheet(NULL, 0, NULL, 0, answer, sizeof answer) == FLOW_CUT && answered(1) == 0, "no bytes: 1 at 0");
     expect(flow_harden(NULL, 0, NULL, 0, NULL, 0) == FLOW_CUT, "no bytes, nothing lent: 1");
+    expect(flow_questions(NULL, 0, NULL, 0, NULL, 0, NULL, 0) == FLOW_CUT, "no bytes, nothing asked: 1");
 }
 
 static void case_limits(void)
@@ -216,6 +280,61 @@ static void case_orphans(void)
     orphans_table(&t);
     expect(sheet(&t) == FLOW_NOT_A_TREE && answered(1) == 24, "eleven orphans: 6 at the record of the lowest-numbered");
     expect(harden(&t) == FLOW_NOT_A_TREE && answered(1) == 24, "eleven orphans, hardened: the same");
+    buffer_free(&t);
+}
+
+static void case_questions(void)
+{
+    static const uint16_t in_chain[] = {11, 0, 11, 3, 4, 0, 10, 2};
+    static const uint8_t chain_labels[] = {0, 1, 1, 1};
+    struct buffer t = {0};
+    chain_table(&t, true);
+    expect(answers(&t, in_chain, chain_labels), "the chain asked: the loop as it is entered, what is inside as it settles");
+    buffer_free(&t);
+    static const uint16_t in_branch[] = {4, 0, 6, 1, 8, 0, 9, 0}; /* x before x:=1, s before the if, x before x:=2 and before all */
+    static const uint8_t branch_labels[] = {0, 1, 1, 0};
+    branch_table(&t, true);
+    expect(answers(&t, in_branch, branch_labels), "the branch asked: the context is left out, a sequence is as it is entered");
+    buffer_free(&t);
+}
+
+static void case_questions_of_loops(void)
+{
+    struct buffer t = {0};
+    uint16_t inner = (uint16_t)inner_loop_table(&t);
+    uint16_t outer = (uint16_t)(get16(t.bytes + 8) - 1);
+    const uint16_t at_inner[] = {inner, 0, inner, 1, inner, 2, inner, 3};
+    const uint16_t at_outer[] = {outer, 0, outer, 1, outer, 2, outer, 3};
+    static const uint8_t inner_labels[] = {0, 1, 1, 1}, outer_labels[] = {0, 0, 0, 1};
+    expect(answers(&t, at_inner, inner_labels), "a loop in a loop: its entry in the settled pass, before it settles itself");
+    expect(answers(&t, at_outer, outer_labels), "the loop around it: as it is entered");
+    buffer_free(&t);
+}
+
+/* On the chain in a loop, which has 12 nodes and 4 variables. */
+static void case_questions_refused(void)
+{
+    uint8_t list[(FLOW_MAX_QUESTIONS + 1) * FLOW_QUESTION_BYTES];
+    struct buffer t = {0};
+    chain_table(&t, true);
+    for (unsigned i = 0; i <= FLOW_MAX_QUESTIONS; i++)
+        put_questions(list + i * FLOW_QUESTION_BYTES, (const uint16_t[]){11, 3}, 1);
+    memset(room, UNTOUCHED, sizeof room);
+    expect(ask(&t, list, 1024, room, sizeof room) == FLOW_ACCEPTED && answered(1) == 256 && room[0] == 1 && room[255] == 1 &&
+               room[256] == UNTOUCHED,
+           "256 pairs are accepted, and no byte beyond theirs is written");
+    expect(ask(&t, NULL, 0, NULL, 0) == FLOW_ACCEPTED && answered(1) == 0, "no pairs: accepted, 0 bytes");
+    expect(refuses(&t, list, 1028, sizeof room, FLOW_BAD_QUESTIONS), "257 pairs, 1,028 bytes: 11");
+    expect(refuses(&t, list, 5, sizeof room, FLOW_BAD_QUESTIONS), "5 bytes, a list that ends inside a pair: 11");
+    expect(refuses_pair(&t, 2, 0), "a node that is an expression: 11");
+    expect(refuses_pair(&t, 12, 0), "a node not below N: 11");
+    expect(refuses_pair(&t, 11 + 256, 0), "a node far above, whose low byte is a command's: 11");
+    expect(refuses_pair(&t, 11, 4), "a variable not below V: 11");
+    expect(refuses_pair(&t, 11, 256), "a variable far above, whose low byte is one's: 11");
+    expect(refuses(&t, list, 16, 3, FLOW_OUTPUT_SHORT), "four pairs into 3 bytes: 23");
+    expect(refuses(&t, list, 15, 0, FLOW_BAD_QUESTIONS), "11 comes before 23");
+    buffer_append16(&t, 0);
+    expect(ask(&t, list, 5, NULL, 0) == FLOW_EXTRA_BYTES && answered(1) == t.length - 2, "7 comes before 11");
     buffer_free(&t);
 }
 
@@ -292,6 +411,9 @@ bool cases_hold(void)
     case_branch();
     case_sizes();
     case_orphans();
+    case_questions();
+    case_questions_of_loops();
+    case_questions_refused();
     case_bounds_check();
     case_budget_zero();
     case_skip();

@@ -1,7 +1,8 @@
 /*
- * Compares libflow.a with the reference on generated calls of all entries: the result, every byte of every slice.  Every eighth
- * time it plays demands 2 and 3 instead: of the 320,000 that it does if no count (or 0) is given, 280,000 are calls compared and
- * 40,000 programs played.  That is a number and not a time, so that a seed tries the same on any machine.
+ * Compares libflow.a with the reference on generated calls of all entries: the result, every byte of every slice.  Of lists of
+ * questions that are accepted, it asks some pairs alone too.  Every eighth time it plays demands 2 and 3 instead: of the 400,000
+ * that it does if no count (or 0) is given, 350,000 are calls compared (by chance, about 70,000 of each entry) and 50,000 programs
+ * played.  That is a number and not a time, so that a seed tries the same on any machine.
  * Usage: check [seed [count [first]]].
  */
 #define _XOPEN_SOURCE 700
@@ -19,11 +20,12 @@
 #include "flow.h"
 #include "generate.h"
 
-enum { DEFAULT_COUNT = 320000, HANGING_SECONDS = 120, MOST_REFUSAL = 23, MOST_END = 5 };
+enum { DEFAULT_COUNT = 400000, HANGING_SECONDS = 120, MOST_REFUSAL = 23, MOST_END = 5, MOST_ALONE = 8 };
 
 struct tally {
     uint64_t refusals[ENTRIES][MOST_REFUSAL + 1]; /* 0: accepted */
     uint64_t ends[ENTRIES][MOST_END + 1];
+    uint64_t alone; /* pairs of lists of questions that were asked alone too */
     struct plays plays;
 };
 
@@ -80,11 +82,60 @@ static bool compare_call(const struct call *call, struct tally *tally)
     return same;
 }
 
+/* ---- Pairs asked alone -------------------------------------------------------------------------------------------------- */
+
+enum { NO_LABEL = 2 };
+
+/* The library's byte for one pair of the list, asked in a list of its own; no label if the call is refused. */
+static uint8_t ask_alone(const struct call *list, size_t pair)
+{
+    struct call alone = {.entry = ENTRY_QUESTIONS};
+    const struct slice *table = &list->slices[SLICE_TABLE];
+    const uint8_t *question = list->slices[SLICE_QUESTIONS].bytes + pair * FLOW_QUESTION_BYTES;
+    uint8_t label = NO_LABEL;
+    slice_from(&alone.slices[SLICE_TABLE], table->bytes, table->length);
+    slice_from(&alone.slices[SLICE_QUESTIONS], question, FLOW_QUESTION_BYTES);
+    slice_from(&alone.slices[SLICE_OUTPUT], &label, 1);
+    slice_new(&alone.slices[SLICE_ANSWER], FLOW_ANSWER_BYTES);
+    if (call_library(&alone) == FLOW_ACCEPTED && call_answer(&alone, 1) == 1)
+        label = alone.slices[SLICE_OUTPUT].bytes[0];
+    call_free(&alone);
+    return label;
+}
+
+/* Of a list that the library has answered: every pair, or of a long list as many by chance, gets the same byte alone. */
+static bool pairs_alone_agree(struct random *r, const struct call *answered, struct tally *tally)
+{
+    size_t count = answered->slices[SLICE_QUESTIONS].length / FLOW_QUESTION_BYTES;
+    for (unsigned i = 0; i < MOST_ALONE && i < count; i++) {
+        size_t pair = count <= MOST_ALONE ? i : random_below(r, (uint32_t)count);
+        uint8_t in_list = answered->slices[SLICE_OUTPUT].bytes[pair];
+        uint8_t alone = ask_alone(answered, pair);
+        tally->alone++;
+        if (alone != in_list) {
+            printf("pair %zu gets %u in its list, alone %u (%u: refused)\n", pair, in_list, alone, NO_LABEL);
+            print_call(answered);
+            return false;
+        }
+    }
+    return true;
+}
+
+static bool ask_pairs_alone(struct random *r, const struct call *call, struct tally *tally)
+{
+    struct call library = call_copy(call);
+    bool agree = call_library(&library) != FLOW_ACCEPTED || pairs_alone_agree(r, &library, tally);
+    call_free(&library);
+    return agree;
+}
+
 static bool compare_generated(struct random *r, struct tally *tally)
 {
     struct call call;
     generate_call(r, false, &call);
     bool same = compare_call(&call, tally);
+    if (same && call.entry == ENTRY_QUESTIONS)
+        same = ask_pairs_alone(r, &call, tally);
     call_free(&call);
     return same;
 }
@@ -138,6 +189,8 @@ static void print_tally(const struct tally *tally)
         print_counts("refusals", tally->refusals[entry], 1, MOST_REFUSAL);
         if (entry == ENTRY_RUN || entry == ENTRY_GUESS)
             print_counts("ends    ", tally->ends[entry], 1, MOST_END);
+        if (entry == ENTRY_QUESTIONS)
+            printf("    %" PRIu64 " pairs asked alone too, with the byte that each got in its list\n", tally->alone);
     }
     const struct plays *plays = &tally->plays;
     printf("  demand 2: %" PRIu64 " runs of hardened programs without guessing, as the original's\n", plays->same_runs);

@@ -1,5 +1,5 @@
 /*
- * Writes generated calls with the reference's answers, a line each, for a comparison with another model of document 01:
+ * Writes generated calls with the reference's answers, a line each, for a comparison with another model of the documents:
  *     entry budget (slices at entry) result (slices after)
  * The slices stand in the order of enum slice_name, in hexadecimal, an empty one as -.
  * Usage: exchange [seed [count [any]]].  Tables are small, unless `any` is asked for.

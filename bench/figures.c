@@ -6,6 +6,7 @@
 #include "call.h"
 #include "flow.h"
 #include "generate.h"
+#include "kinds.h"
 #include "little_endian.h"
 #include "stack.h"
 #include "timing.h"
@@ -20,6 +21,29 @@ static struct call writing_call(enum entry entry, const struct buffer *table, si
     slice_from(&call.slices[SLICE_TABLE], table->bytes, table->length);
     slice_new(&call.slices[SLICE_OUTPUT], room);
     slice_new(&call.slices[SLICE_ANSWER], FLOW_ANSWER_BYTES);
+    return call;
+}
+
+/* As many pairs as a list may have, spread over all commands of a valid table and all its variables. */
+static void spread_questions(const struct buffer *table, struct buffer *list)
+{
+    unsigned commands[FLOW_MAX_NODES], count = 0, node = 0;
+    for (size_t at = 20 + 6 * (size_t)table->bytes[7]; at < table->length; at += get16(table->bytes + at), node++)
+        if (sort_of(get16(table->bytes + at + 2)) == 'C')
+            commands[count++] = node;
+    for (unsigned i = 0; i < FLOW_MAX_QUESTIONS; i++) {
+        buffer_append16(list, commands[i * count / FLOW_MAX_QUESTIONS]);
+        buffer_append16(list, i % table->bytes[6]);
+    }
+}
+
+static struct call asking_call(const struct buffer *table)
+{
+    struct call call = writing_call(ENTRY_QUESTIONS, table, FLOW_MAX_QUESTIONS);
+    struct buffer list = {0};
+    spread_questions(table, &list);
+    slice_from(&call.slices[SLICE_QUESTIONS], list.bytes, list.length);
+    buffer_free(&list);
     return call;
 }
 
@@ -108,6 +132,44 @@ static void figures_of_sizes(void)
         print_timing("labelling", sizes[i], time_samples(ENTRY_SHEET, sizes[i], FLOW_SHEET_BYTES));
     for (unsigned i = 0; i < COUNT && sizes[i] <= FLOW_MAX_HARDENED_NODES; i++)
         print_timing("hardening", sizes[i], time_samples(ENTRY_HARDEN, sizes[i], FLOW_TABLE_BYTES));
+}
+
+/* ---- Questions ---------------------------------------------------------------------------------------------------------- */
+
+static void print_questions(unsigned nodes, struct timing asking, struct timing labelling)
+{
+    printf("| 256 questions | %u | %.2f | %.2f | %.2f | %.2f | %.2f |\n", nodes, 1e6 * asking.library, 1e6 * asking.reference,
+           asking.library / asking.reference, 1e6 * labelling.library, asking.library / labelling.library);
+}
+
+/* Beside a sheet of the same tables: all answers come from one analysis. */
+static void figures_of_question_size(unsigned nodes)
+{
+    struct call asking[SAMPLES], labelling[SAMPLES];
+    for (unsigned sample = 0; sample < SAMPLES; sample++) {
+        struct buffer table = {0};
+        sample_table(nodes, sample, &table);
+        asking[sample] = asking_call(&table);
+        labelling[sample] = writing_call(ENTRY_SHEET, &table, FLOW_SHEET_BYTES);
+        buffer_free(&table);
+    }
+    struct timing timings[2];
+    time_groups((struct call *const[2]){asking, labelling}, SAMPLES, timings);
+    print_questions(nodes, timings[0], timings[1]);
+    for (unsigned sample = 0; sample < SAMPLES; sample++) {
+        call_free(&asking[sample]);
+        call_free(&labelling[sample]);
+    }
+}
+
+static void figures_of_questions(void)
+{
+    static const unsigned sizes[] = {64, 512, 4096};
+    printf("\n## Time of 256 questions beside one sheet of the same table (the same 8 tables of each size)\n\n"
+           "| what | N | library, µs | reference, µs | ratio | library's flow_sheet, µs | ratio to it |\n"
+           "|---|---|---|---|---|---|---|\n");
+    for (unsigned i = 0; i < sizeof sizes / sizeof *sizes; i++)
+        figures_of_question_size(sizes[i]);
 }
 
 /* ---- Nesting ------------------------------------------------------------------------------------------------------------ */
@@ -260,10 +322,12 @@ static void figures_of_nest(const struct nest *nest)
     nested_table(nest, FLOW_MAX_HARDENED_NODES, &small);
     unsigned nodes = get16(table.bytes + 8), small_nodes = get16(small.bytes + 8);
     struct call sheet = writing_call(ENTRY_SHEET, &table, FLOW_SHEET_BYTES);
+    struct call questions = asking_call(&table);
     struct call harden = writing_call(ENTRY_HARDEN, &small, FLOW_TABLE_BYTES);
     struct call run = running_call(ENTRY_RUN, &table, 5000, 2000);
     struct call guess = running_call(ENTRY_GUESS, &table, 5000, 2000);
     print_stack(nest->name, "flow_sheet", nodes, &sheet);
+    print_stack(nest->name, "flow_questions", nodes, &questions);
     print_stack(nest->name, "flow_harden", small_nodes, &harden);
     print_stack(nest->name, "flow_run", nodes, &run);
     print_stack(nest->name, "flow_guess", nodes, &guess);
@@ -283,6 +347,7 @@ int main(void)
     setvbuf(stdout, NULL, _IOLBF, 0);
     printf("# Figures\n\nTimes are the best of several rounds, library and reference in turn.\n");
     figures_of_sizes();
+    figures_of_questions();
     figures_of_nesting();
     figures_of_machines();
     figures_of_stack();

@@ -788,6 +788,137 @@ void generate_script(struct random *r, const struct call *call, unsigned most, u
     }
 }
 
+/* ---- Questions ---------------------------------------------------------------------------------------------------------- */
+
+/* A valid table as one who asks sees it. */
+struct outline {
+    unsigned nodes, variables;
+    uint8_t kinds[FLOW_MAX_NODES];
+    bool in_loop[FLOW_MAX_NODES];
+};
+
+/* Parents stand above their children, so one pass in falling order finds what is inside a loop. */
+static void find_outline(const struct slice *table, struct outline *outline)
+{
+    struct buffer view = {.bytes = table->bytes, .length = table->length};
+    struct records records;
+    find_records(&view, &records);
+    outline->nodes = records.count - records.declarations;
+    outline->variables = table->bytes[6];
+    outline->in_loop[outline->nodes - 1] = false;
+    for (unsigned node = outline->nodes; node-- > 0;) {
+        const uint8_t *record = table->bytes + records.places[records.declarations + node];
+        unsigned kind = get16(record + 2);
+        const char *fields = fields_of(kind);
+        outline->kinds[node] = (uint8_t)kind;
+        for (unsigned i = 0; fields[i]; i++)
+            if (is_child(fields[i]))
+                outline->in_loop[get16(record + RECORD_HEAD + 2 * i)] = outline->in_loop[node] || kind == FLOW_WHILE;
+    }
+}
+
+/* A command: often a loop, a command inside one, or both, where such are found. */
+static unsigned pick_asked(struct random *r, const struct outline *outline)
+{
+    bool loop = random_percent(r, 35), inside = random_percent(r, 55);
+    for (unsigned tries = 0; tries < 24; tries++) {
+        unsigned node = random_below(r, outline->nodes);
+        unsigned kind = outline->kinds[node];
+        bool wanted = (!loop || kind == FLOW_WHILE) && (!inside || outline->in_loop[node]);
+        if (sort_of(kind) == 'C' && (wanted || tries >= 12))
+            return node;
+    }
+    return outline->nodes - 1;
+}
+
+/* A node that is no command, or none at all. */
+static unsigned pick_expression(struct random *r, const struct outline *outline)
+{
+    for (unsigned tries = 0; tries < 24; tries++) {
+        unsigned node = random_below(r, outline->nodes);
+        if (sort_of(outline->kinds[node]) != 'C')
+            return node;
+    }
+    return outline->nodes;
+}
+
+static void append_question(struct buffer *list, unsigned node, unsigned variable)
+{
+    buffer_append16(list, node);
+    buffer_append16(list, variable);
+}
+
+/* Good pairs, unless there are no variables; often all variables of a command before the next command. */
+static void append_questions(struct random *r, const struct outline *outline, unsigned count, struct buffer *list)
+{
+    unsigned variables = outline->variables > 0 ? outline->variables : 1;
+    bool sweep = random_percent(r, 40);
+    unsigned node = 0;
+    for (unsigned i = 0; i < count; i++) {
+        if (!sweep || i % variables == 0)
+            node = pick_asked(r, outline);
+        append_question(list, node, sweep ? i % variables : random_below(r, variables));
+    }
+}
+
+static unsigned question_count(struct random *r)
+{
+    unsigned chance = random_below(r, 100);
+    if (chance < 5)
+        return 0;
+    if (chance < 60)
+        return 1 + random_below(r, 8);
+    if (chance < 75)
+        return 1 + random_below(r, 40);
+    return chance < 90 ? random_below(r, FLOW_MAX_QUESTIONS + 1) : FLOW_MAX_QUESTIONS;
+}
+
+/* One cause of 11, at any pair. */
+static void damage_questions(struct random *r, const struct outline *outline, struct buffer *list)
+{
+    if (list->length == 0)
+        append_questions(r, outline, 1, list);
+    unsigned count = (unsigned)(list->length / FLOW_QUESTION_BYTES);
+    uint8_t *node = list->bytes + random_below(r, count) * FLOW_QUESTION_BYTES;
+    uint8_t *variable = node + 2;
+    static const uint32_t far[] = {32, 64, 256, 512, 32768, 65504};
+    switch (random_below(r, 8)) {
+    case 0:
+    case 1: put16(node, pick_expression(r, outline)); break;
+    case 2: put16(node, outline->nodes + random_below(r, 2)); break;
+    case 3: put16(node, get16(node) + FLOW_MAX_NODES * (1 + random_below(r, 15))); break; /* a command, but for the high bits */
+    case 4: put16(variable, outline->variables + random_below(r, 2)); break;
+    case 5: put16(variable, get16(variable) + far[random_below(r, 6)]); break;
+    case 6: list->length -= 1 + random_below(r, 3); break;
+    default: /* one pair too many, or some more; now and then the last is cut too */
+        append_questions(r, outline, FLOW_MAX_QUESTIONS + 1 - count + (random_percent(r, 50) ? 0 : random_below(r, 260)), list);
+        list->length -= random_percent(r, 20) ? 1 + random_below(r, 3) : 0;
+    }
+}
+
+/* Pairs for a table that is refused: whatever they are, it must not show. */
+static void append_blind_questions(struct random *r, struct buffer *list)
+{
+    for (unsigned count = random_below(r, random_percent(r, 10) ? 300 : 6); count > 0; count--)
+        append_question(list, random_below(r, 40), random_below(r, 6));
+    if (list->length > 0 && random_percent(r, 20))
+        list->length -= 1 + random_below(r, 3);
+}
+
+static void generate_questions(struct random *r, const struct slice *table, struct buffer *list)
+{
+    if (reference_questions(table->bytes, table->length, NULL, 0, NULL, 0, NULL, 0) != FLOW_ACCEPTED) {
+        append_blind_questions(r, list);
+        return;
+    }
+    struct outline outline;
+    find_outline(table, &outline);
+    if (outline.variables > 0 || random_percent(r, 20))
+        append_questions(r, &outline, question_count(r), list);
+    if (random_percent(r, 20))
+        damage_questions(r, &outline, list);
+}
+
 /* ---- Calls -------------------------------------------------------------------------------------------------------------- */
 
 static void fill_slice(struct random *r, struct slice *s, size_t length)
@@ -859,6 +990,17 @@ static void lend_output(struct random *r, struct call *call)
 {
     size_t right = output_length(call);
     fill_slice(r, &call->slices[SLICE_OUTPUT], random_percent(r, 40) ? right : odd_length(r, right, 100));
+}
+
+static void lend_questions(struct random *r, struct call *call)
+{
+    struct buffer list = {0};
+    generate_questions(r, &call->slices[SLICE_TABLE], &list);
+    size_t right = list.length / FLOW_QUESTION_BYTES;
+    if (list.length > 0 || random_percent(r, 50))
+        slice_from(&call->slices[SLICE_QUESTIONS], list.bytes, list.length);
+    fill_slice(r, &call->slices[SLICE_OUTPUT], random_percent(r, 50) ? right : odd_length(r, right, 100));
+    buffer_free(&list);
 }
 
 /* The last step of a list that fits becomes a directive that may not: a load in bounds, a force at a read. */
@@ -939,6 +1081,8 @@ void generate_call(struct random *r, bool small, struct call *call)
     fill_slice(r, &call->slices[SLICE_ANSWER], random_percent(r, 50) ? FLOW_ANSWER_BYTES : random_below(r, 61));
     if (call->entry == ENTRY_SHEET || call->entry == ENTRY_HARDEN)
         lend_output(r, call);
+    else if (call->entry == ENTRY_QUESTIONS)
+        lend_questions(r, call);
     else
         lend_state(r, &plan, call);
 }

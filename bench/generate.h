@@ -1,4 +1,4 @@
-/* Tables, states, directive lists and whole calls by chance, the same for the same seed. */
+/* Tables, states, lists of directives or questions and whole calls by chance, the same for the same seed. */
 #ifndef GENERATE_H
 #define GENERATE_H
 

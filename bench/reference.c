@@ -204,14 +204,16 @@ static bool same_labelling(struct labelling one, struct labelling other)
 }
 
 /*
- * What the analysis knows of each node: for an expression, the variables in it; for a command, the context and the labelling that
- * its sheet record is made from.  That is, of a sequence, the one after its first part; of a loop, the settled one; of any other
- * command, the one that enters it.  Inside a loop a later pass overwrites what an earlier one noted, so the settled pass stays.
+ * What the analysis knows of each node: for an expression, the variables in it; for a command, the context, the labelling that
+ * enters it and the one that its sheet record is made from.  That is, of a sequence, the one after its first part; of a loop, the
+ * settled one; of any other command, the one that enters it.  Inside a loop a later pass overwrites what an earlier one noted, so
+ * the settled pass stays.
  */
 struct analysis {
     const struct program *program;
     struct labelling final;
     uint32_t variables_in[FLOW_MAX_NODES];
+    struct labelling entering[FLOW_MAX_NODES];
     struct labelling noted[FLOW_MAX_NODES];
     bool context[FLOW_MAX_NODES];
 };
@@ -295,6 +297,7 @@ static struct labelling analyse(struct analysis *a, unsigned node, struct labell
     const struct program *p = a->program;
     unsigned kind = kind_at(p, node);
     a->context[node] = context;
+    a->entering[node] = at; /* of a loop too: its own passes, and where they start, come after this */
     if (kind == FLOW_WHILE)
         return analyse_while(a, node, at, context);
     a->noted[node] = at;
@@ -902,6 +905,44 @@ uint64_t reference_sheet(const uint8_t *table, size_t table_len,
     analyse_program(&a, &p);
     write_sheet(sheet, &a);
     return answer_length(length, answer, answer_len);
+}
+
+static bool is_question(const struct program *p, unsigned node, unsigned variable)
+{
+    return node < p->nodes && sort_of(kind_at(p, node)) == 'C' && variable < p->variables;
+}
+
+static bool is_question_list(const struct program *p, const uint8_t *questions, size_t length)
+{
+    if (length > FLOW_MAX_QUESTIONS * FLOW_QUESTION_BYTES || length % FLOW_QUESTION_BYTES != 0)
+        return false;
+    for (size_t at = 0; at < length; at += FLOW_QUESTION_BYTES)
+        if (!is_question(p, get16(questions + at), get16(questions + at + 2)))
+            return false;
+    return true;
+}
+
+uint64_t reference_questions(const uint8_t *table, size_t table_len,
+                             const uint8_t *questions, size_t questions_len,
+                             uint8_t *labels, size_t labels_len,
+                             uint8_t *answer, size_t answer_len)
+{
+    struct program p;
+    struct refusal refusal = read_program(table, table_len, &p);
+    if (refusal.number != FLOW_ACCEPTED)
+        return answer_refusal(refusal, answer, answer_len);
+    if (!is_question_list(&p, questions, questions_len))
+        return answer_number(FLOW_BAD_QUESTIONS, answer, answer_len);
+    size_t count = questions_len / FLOW_QUESTION_BYTES;
+    if (count > labels_len)
+        return answer_number(FLOW_OUTPUT_SHORT, answer, answer_len);
+    struct analysis a;
+    analyse_program(&a, &p);
+    for (size_t i = 0; i < count; i++) {
+        const uint8_t *pair = questions + i * FLOW_QUESTION_BYTES;
+        labels[i] = (uint8_t)(a.entering[get16(pair)].variables >> get16(pair + 2) & 1);
+    }
+    return answer_length(count, answer, answer_len);
 }
 
 uint64_t reference_harden(const uint8_t *table, size_t table_len,

@@ -12,6 +12,11 @@ uint64_t reference_sheet(const uint8_t *table, size_t table_len,
                          uint8_t *sheet, size_t sheet_len,
                          uint8_t *answer, size_t answer_len);
 
+uint64_t reference_questions(const uint8_t *table, size_t table_len,
+                             const uint8_t *questions, size_t questions_len,
+                             uint8_t *labels, size_t labels_len,
+                             uint8_t *answer, size_t answer_len);
+
 uint64_t reference_harden(const uint8_t *table, size_t table_len,
                           uint8_t *out, size_t out_len,
                           uint8_t *answer, size_t answer_len);

@@ -7,6 +7,12 @@ uint64_t flow_sheet(const uint8_t *table, size_t table_len, uint8_t *sheet, size
     return reference_sheet(table, table_len, sheet, sheet_len, answer, answer_len);
 }
 
+uint64_t flow_questions(const uint8_t *table, size_t table_len, const uint8_t *questions, size_t questions_len, uint8_t *labels,
+                        size_t labels_len, uint8_t *answer, size_t answer_len)
+{
+    return reference_questions(table, table_len, questions, questions_len, labels, labels_len, answer, answer_len);
+}
+
 uint64_t flow_harden(const uint8_t *table, size_t table_len, uint8_t *out, size_t out_len, uint8_t *answer, size_t answer_len)
 {
     return reference_harden(table, table_len, out, out_len, answer, answer_len);

@@ -39,14 +39,40 @@ static void keep_least(double *least, double seconds, unsigned calls)
         *least = seconds / calls;
 }
 
+/* The turns of a round, on each. */
+struct turns {
+    unsigned library, reference;
+};
+
+static struct turns find_turns(struct call *calls, unsigned count)
+{
+    unsigned library = turns_for_round(call_library, calls, count);
+    return (struct turns){library, turns_for_round(call_reference, calls, count)};
+}
+
+static void time_round(struct call *calls, unsigned count, struct turns turns, struct timing *best)
+{
+    keep_least(&best->library, time_turns(call_library, calls, count, turns.library), turns.library * count);
+    keep_least(&best->reference, time_turns(call_reference, calls, count, turns.reference), turns.reference * count);
+}
+
 struct timing time_calls(struct call *calls, unsigned count)
 {
     struct timing best = {0, 0};
-    unsigned library_turns = turns_for_round(call_library, calls, count);
-    unsigned reference_turns = turns_for_round(call_reference, calls, count);
-    for (unsigned round = 0; round < ROUNDS; round++) {
-        keep_least(&best.library, time_turns(call_library, calls, count, library_turns), library_turns * count);
-        keep_least(&best.reference, time_turns(call_reference, calls, count, reference_turns), reference_turns * count);
-    }
+    struct turns turns = find_turns(calls, count);
+    for (unsigned round = 0; round < ROUNDS; round++)
+        time_round(calls, count, turns, &best);
     return best;
+}
+
+void time_groups(struct call *const groups[2], unsigned count, struct timing timings[2])
+{
+    struct turns turns[2];
+    for (unsigned i = 0; i < 2; i++) {
+        timings[i] = (struct timing){0, 0};
+        turns[i] = find_turns(groups[i], count);
+    }
+    for (unsigned round = 0; round < ROUNDS; round++)
+        for (unsigned i = 0; i < 2; i++)
+            time_round(groups[i], count, turns[i], &timings[i]);
 }

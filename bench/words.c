@@ -22,10 +22,12 @@ const char *refusal_in_words(uint64_t refusal)
     case FLOW_TOO_MANY_NODES: return "more than 512 nodes cannot be hardened";
     case FLOW_NO_FREE_VARIABLE: return "all 32 variables are taken, none is free for the flag";
     case FLOW_BAD_DIRECTIVES: return "the directive list is cut or holds a wrong kind or length";
+    case FLOW_BAD_QUESTIONS:
+        return "more than 256 pairs are asked, the list ends inside a pair, a node is no command or a variable is not declared";
     case FLOW_VARIABLES_LENGTH: return "the variables lent are not 4 bytes for each variable";
     case FLOW_CELLS_LENGTH: return "the cells lent are not 4 bytes for each cell";
     case FLOW_PENDING_SHORT: return "the pending list lent has fewer than 4 bytes for each node";
-    case FLOW_OUTPUT_SHORT: return "the sheet or hardened table is longer than its buffer";
+    case FLOW_OUTPUT_SHORT: return "the sheet, list of labels or hardened table is longer than its buffer";
     default: return "no refusal that document 01 knows";
     }
 }
@@ -83,7 +85,7 @@ static const char *field_in_words(char field)
     }
 }
 
-static const char *label_in_words(uint32_t label)
+const char *label_in_words(uint32_t label)
 {
     return label ? "secret" : "public";
 }

@@ -8,6 +8,7 @@
 
 const char *refusal_in_words(uint64_t refusal);
 const char *end_in_words(uint64_t end);
+const char *label_in_words(uint32_t label);
 
 /* The record of a table that begins at this place, as far as it is there. */
 void print_record(FILE *to, const uint8_t *table, size_t length, uint64_t place);

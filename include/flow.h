@@ -8,7 +8,8 @@
  * THE ANSWER.  An entry returns 0 if it accepted the call, else the number of the refusal.  The same number stands first in the
  * answer slice, which holds numbers of 8 bytes each:
  *
- *     accepted, flow_sheet and flow_harden:  0, bytes written                                                        (2 numbers)
+ *     accepted, flow_sheet, flow_questions
+ *     and flow_harden:                       0, bytes written                                                        (2 numbers)
  *     accepted, flow_run and flow_guess:     0, end, steps, directives used, observation bytes, flag, next node      (7 numbers)
  *     refused, every entry:                  refusal, place                                                          (2 numbers)
  *
@@ -17,8 +18,8 @@
  *
  * A REFUSED CALL changes no lent memory except the answer slice.  Nothing is ever refused but for the causes listed below.
  *
- * STACK.  A call recurses as deep as its table nests and allocates nothing.  On the deepest tables flow_sheet takes 616 KiB,
- * flow_run and flow_guess 392 KiB, flow_harden 152 KiB (measured on x86-64 by `make -C bench run`): 1 MiB suffices.
+ * STACK.  A call recurses as deep as its table nests and allocates nothing.  On the deepest tables flow_sheet and flow_questions
+ * take 616 KiB, flow_run and flow_guess 392 KiB, flow_harden 152 KiB (measured on x86-64 by `make -C bench run`): 1 MiB suffices.
  * An entry keeps nothing between calls: what it answers depends on what it is lent alone.
  */
 #ifndef FLOW_H
@@ -31,7 +32,7 @@
 extern "C" {
 #endif
 
-/* The limits of a table. */
+/* The limits of a table, and of a list of questions. */
 enum {
     FLOW_VERSION = 1,
     FLOW_MAX_VARIABLES = 32,
@@ -39,7 +40,9 @@ enum {
     FLOW_MAX_NODES = 4096,
     FLOW_MAX_CELLS = 16384,          /* all arrays together */
     FLOW_MAX_HARDENED_NODES = 512,   /* the most nodes of a table that flow_harden takes */
-    FLOW_GROWTH = 8                  /* at most this many nodes come out of flow_harden per node put in */
+    FLOW_GROWTH = 8,                 /* at most this many nodes come out of flow_harden per node put in */
+    FLOW_MAX_QUESTIONS = 256,        /* pairs in a list that flow_questions takes; as many bytes hold all their labels */
+    FLOW_QUESTION_BYTES = 4          /* of a pair: node, then variable, 2 bytes each */
 };
 
 /* Buffers of these lengths always suffice. */
@@ -52,7 +55,7 @@ enum {
 /*
  * Refusals.  The place is the byte offset, in the table, of the record concerned; for 7 it is the offset of the first extra byte,
  * and from 8 up it is 0.  The first failing record decides; within a record the order is 1 (head), 2, 1 (body), 3, 4, 5.
- * Then come 6, 7, 8, 9, 10 and then 20 to 23.
+ * Then come 6, 7, 8, 9, 10, 11 and then 20 to 23.
  */
 enum flow_refusal {
     FLOW_ACCEPTED = 0,
@@ -67,10 +70,12 @@ enum flow_refusal {
     FLOW_TOO_MANY_NODES = 8,   /* hardening with more than FLOW_MAX_HARDENED_NODES nodes */
     FLOW_NO_FREE_VARIABLE = 9, /* hardening with FLOW_MAX_VARIABLES variables: none is left for the flag */
     FLOW_BAD_DIRECTIVES = 10,  /* directive list cut, or a wrong kind or length in it */
+    FLOW_BAD_QUESTIONS = 11,   /* more than FLOW_MAX_QUESTIONS pairs, a list that ends inside a pair, a node that is not a command
+                                  (one not below N too), or a variable not below V */
     FLOW_VARIABLES_LENGTH = 20, /* the variables slice is not exactly 4 V bytes */
     FLOW_CELLS_LENGTH = 21,    /* the cells slice is not exactly 4 bytes for each cell of all arrays */
     FLOW_PENDING_SHORT = 22,   /* the pending slice is shorter than 4 N bytes */
-    FLOW_OUTPUT_SHORT = 23     /* the sheet or the hardened table is longer than its buffer */
+    FLOW_OUTPUT_SHORT = 23     /* the sheet, the list of labels or the hardened table is longer than its buffer */
 };
 
 /* How a run ended.  Before each step these are tested in this order. */
@@ -132,6 +137,23 @@ enum flow_kind {
 uint64_t flow_sheet(const uint8_t *table, size_t table_len,
                     uint8_t *sheet, size_t sheet_len,
                     uint8_t *answer, size_t answer_len);
+
+/*
+ * Answers a list of questions from one analysis of a table: is this variable secret just before this command?  `questions` holds
+ * at most FLOW_MAX_QUESTIONS pairs of FLOW_QUESTION_BYTES each: a node, which must be a command, then a variable.  For each pair,
+ * in their order, one byte is written to the front of `labels`: 1 if the variable is secret in the labelling that enters the
+ * command, else 0.  The context that the command stands in is not part of the answer.
+ *   inside a loop       the labelling meant is that of the settled pass of every loop around the command.
+ *   for a loop itself   it is the one on entry, before the loop settles; for a loop inside a loop, the one on its entry in the
+ *                       settled pass of the outer loop.
+ * A pair asked alone gets the byte that it gets in any list.  A list of no pairs is accepted and nothing is written.  Bytes of
+ * `labels` beyond the reported length, which is the number of pairs, are unchanged; exact length suffices.
+ * Refusals: 1 to 7, 11, 23.
+ */
+uint64_t flow_questions(const uint8_t *table, size_t table_len,
+                        const uint8_t *questions, size_t questions_len,
+                        uint8_t *labels, size_t labels_len,
+                        uint8_t *answer, size_t answer_len);
 
 /*
  * Hardens a table and writes the hardened table to the front of `out`.  It declares one variable more, the flag, whose number is

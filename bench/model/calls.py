@@ -1,10 +1,11 @@
 # The calls that crates/cases plays, and what document 01 says that each leaves, by model.py.
-# `sheet`, `harden`, `run` and `guess` add a call and answer what the model gave. Worked out by hand, where given: `want`, the answer's
-# numbers, and `variables_left`, `cells_left`, `pending_left` and `shown`, with which those slices begin at exit.
+# `sheet`, `harden`, `run`, `guess` and `questions` add a call and answer what the model gave. Worked out by hand, where given: `want`, the
+# answer's numbers, `secret`, the bytes written for a list of questions, and `variables_left`, `cells_left`, `pending_left` and `shown`, with
+# which those slices begin at exit.
 import model
 from model import le, over, words
-SHEET, HARDEN, RUN, GUESS = 1, 2, 3, 4
-NAMES = {SHEET: 'sheet', HARDEN: 'harden', RUN: 'run', GUESS: 'guess'}
+SHEET, HARDEN, RUN, GUESS, QUESTIONS = 1, 2, 3, 4, 5
+NAMES = {SHEET: 'sheet', HARDEN: 'harden', RUN: 'run', GUESS: 'guess', QUESTIONS: 'questions'}
 calls = []
 # what a slice holds at entry that an entry only writes
 FILL = 170
@@ -17,7 +18,7 @@ def answered(numbers, lent):
         out += le(8, number)
     return over(lent, out)
 def add(entry, budget, taken, lent, numbers, left, answer, want):
-    """taken: table, directives; lent and left: variables, cells, pending, output, before and after"""
+    """taken: table, directives or questions; lent and left: variables, cells, pending, output, before and after"""
     if want is not None: assert numbers == list(want), ('call', len(calls), 'gives', numbers, 'wanted', want)
     calls.append((entry, budget, taken + lent + [filled(answer)], numbers[0], [answered(numbers, filled(answer))] + left))
 def writes(entry, make, table, room, answer, want):
@@ -26,6 +27,17 @@ def writes(entry, make, table, room, answer, want):
     return numbers, out
 def sheet(table, room, answer=16, want=None, make=model.sheet): return writes(SHEET, make, table, room, answer, want)
 def harden(table, room, answer=16, want=None, make=model.hardened): return writes(HARDEN, make, table, room, answer, want)
+def questions(table, asked, room, answer=16, want=None, secret=None, make=model.replies):
+    """the list goes where the other entries take directives"""
+    ask = lambda asked, room: model.questionsEntry(list(table), list(asked), filled(room), make)
+    numbers, out = ask(asked, room)
+    add(QUESTIONS, 0, [list(table), list(asked)], [[], [], [], filled(room)], numbers, [[], [], [], out], answer, want)
+    count = numbers[1] if numbers[0] == 0 else 0
+    if secret is not None: assert out[:count] == secret, ('call', len(calls) - 1, 'writes', out[:count], 'wanted', secret)
+    # P2: "A pair asked alone gets the byte it gets in a list"
+    for at in range(count): assert ask(asked[4 * at:4 * at + 4], 1) == ([0, 1], out[at:at + 1])
+    assert out[count:] == filled(room - count)   # beyond these, and after a refusal, nothing is written
+    return numbers, out
 def slot(given, size):
     """bytes as they are; a list of words; a number of bytes"""
     if isinstance(given, bytes): return list(given)
@@ -44,6 +56,8 @@ def run(table, variables, cells, budget=100, room=40, pending=None, answer=56, w
     return runs(RUN, table, [], variables, cells, budget, room, pending, answer, want, leaves)
 def guess(table, directives, variables, cells, budget=100, room=40, pending=None, answer=56, want=None, **leaves):
     return runs(GUESS, table, directives, variables, cells, budget, room, pending, answer, want, leaves)
+# pairs of a list of questions: node and variable
+def asks(pairs): return [b for node, variable in pairs for b in le(2, node) + le(2, variable)]
 # records: directives, and observations as they are expected
 STEP, FORCE = le(2, 4) + le(2, 72), le(2, 4) + le(2, 73)
 def load(array, index): return le(2, 10) + le(2, 74) + le(2, array) + le(4, index)

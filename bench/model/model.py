@@ -1,4 +1,4 @@
-# Independent model of documents 01 and 02, as far as 02 has landed (tables, labels, sheet, hardener, both machines, four entries).
+# Independent model of documents 01 and 02, as far as 02 has landed (tables, labels, sheet, hardener, both machines, label questions, five entries).
 M32 = 1 << 32
 def le(w, n): return list(int(n).to_bytes(w, 'little'))
 def un(bs): return int.from_bytes(bytes(bs), 'little')
@@ -68,7 +68,7 @@ def readTable(bs):
     def tree(i):                # (number, kind, parts..)
         k, *fs = nodes[i]
         return (i, k) + tuple(tree(v) if l in 'NTC' else v for l, v in zip(LAY[k], fs))
-    return dict(V=V, A=A, N=N, vm=vm, am=am, counts=counts, root=tree(N - 1))
+    return dict(V=V, A=A, N=N, vm=vm, am=am, counts=counts, kinds=[k for k, *_ in nodes], root=tree(N - 1))
 def strip(t):
     return (t[1],) + tuple(strip(s) if isinstance(s, tuple) else s for s in t[2:])
 # ---- labels (trees with numbers)
@@ -81,21 +81,22 @@ def vars_of(t):
 def elabel(e, L): return int(any(L[0] >> x & 1 for x in vars_of(e)))
 def setbit(m, x, b): return (m | 1 << x) if b else (m & ~(1 << x))
 def join(L, K): return (L[0] | K[0], L[1] | K[1])
-def analyse(t, ctx, L, notes):
-    """labelling after t; notes[n] = the sheet fields of command n (last pass wins: that is the settled one)"""
+def analyse(t, ctx, L, notes, before):
+    """labelling after t; notes[n] = the sheet fields of command n, before[n] = the labelling that enters it (last pass wins: that is the settled one)"""
     n, k = t[0], t[1]
+    before[n] = L   # also for a loop: the passes below are its body's, and the labelling they settle at is not the one on entry
     if k == 'skip': return L
     if k == 'assign': return (setbit(L[0], t[2], elabel(t[3], L) | ctx), L[1])
     if k == 'seq':
-        M = analyse(t[2], ctx, L, notes); notes[n] = ('seq', M)
-        return analyse(t[3], ctx, M, notes)
+        M = analyse(t[2], ctx, L, notes, before); notes[n] = ('seq', M)
+        return analyse(t[3], ctx, M, notes, before)
     if k == 'if':
         c = elabel(t[2], L); notes[n] = ('if', c)
-        return join(analyse(t[3], ctx | c, L, notes), analyse(t[4], ctx | c, L, notes))
+        return join(analyse(t[3], ctx | c, L, notes, before), analyse(t[4], ctx | c, L, notes, before))
     if k == 'while':
         while True:
             c = elabel(t[2], L)
-            M = join(L, analyse(t[3], ctx | c, L, notes))
+            M = join(L, analyse(t[3], ctx | c, L, notes, before))
             if M == L: break
             L = M
         notes[n] = ('while', c, L)
@@ -108,7 +109,7 @@ def analyse(t, ctx, L, notes):
         return (L[0], L[1] | ((i | elabel(t[4], L) | ctx) << t[2]))
 def masks(L): return le(4, L[0]) + le(2, L[1])
 def sheet(p):
-    notes = {}; F = analyse(p['root'], 0, (p['vm'], p['am']), notes)
+    notes = {}; F = analyse(p['root'], 0, (p['vm'], p['am']), notes, {})
     rs = [le(2,14)+le(2,128)+le(2,1)+le(2,p['N'])+masks(F)]
     for n in sorted(notes):
         t = notes[n]; k = t[0]
@@ -118,9 +119,21 @@ def sheet(p):
         if k == 'read': rs.append(le(2,10)+le(2,132)+le(2,n)+le(2,t[1])+le(2,t[2]))
         if k == 'write': rs.append(le(2,8)+le(2,133)+le(2,n)+le(2,t[1]))
     return rs
+# ---- label questions, P2
+def questions(p, bs):
+    # "more than 256 pairs, the list ends inside a pair, the node is not a command or the variable is not declared"
+    if len(bs) > 4 * 256 or len(bs) % 4: refuse(11, 0)
+    pairs = [(un(bs[at:at+2]), un(bs[at+2:at+4])) for at in range(0, len(bs), 4)]
+    for n, x in pairs:
+        if n >= p['N'] or sort(p['kinds'][n]) != 'C' or x >= p['V']: refuse(11, 0)
+    return pairs
+def replies(p, pairs):
+    """a byte for each pair (node, variable), all from one analysis"""
+    before = {}; analyse(p['root'], 0, (p['vm'], p['am']), {}, before)
+    return [before[n][0] >> x & 1 for n, x in pairs]
 # ---- masks
 def hardened(p):
-    notes = {}; analyse(p['root'], 0, (p['vm'], p['am']), notes)
+    notes = {}; analyse(p['root'], 0, (p['vm'], p['am']), notes, {})
     f = p['V']; F = ('var', f); one = ('num', 1); zero = ('num', 0)
     def cond(c, s): return ('and', ('eq', F, zero), c) if s else c
     def index(i, s): return ('choice', ('eq', F, one), zero, i) if s else i
@@ -215,6 +228,13 @@ def writeEntry(make, tab, buf, hard=False):
     except Refused as r: return list(r.args), list(buf)
 def sheetEntry(tab, buf): return writeEntry(sheet, tab, buf)
 def hardenEntry(tab, buf): return writeEntry(hardened, tab, buf, True)
+def questionsEntry(tab, asked, buf, make=replies):
+    try:
+        p = readTable(tab)
+        pairs = questions(p, asked)
+        if len(pairs) > len(buf): refuse(23, 0)
+        return [0, len(pairs)], over(buf, make(p, pairs))
+    except Refused as r: return list(r.args), list(buf)
 def runEntry(tab, vs, cells, pend, obs, budget, dirs=None):
     try:
         p = readTable(tab)

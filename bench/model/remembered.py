@@ -2,7 +2,7 @@
 import model
 from model import *
 from programs import v, n, skip
-# the analysis with results remembered; the notes come from one walk at the settled labelling (= the model's last pass)
+# the analysis with results remembered; the notes, and what enters each command, come from one walk at the settled labelling (= the model's last pass)
 def remembered(p):
     memo={}
     def res(t,ctx,L):
@@ -20,26 +20,26 @@ def remembered(p):
         if k=='if':
             c=elabel(t[2],L); return join(res(t[3],ctx|c,L),res(t[4],ctx|c,L))
         if k=='while': return settled(t,ctx,L)[1]
-        return model.analyse(t,ctx,L,{})
-    notes={}
+        return model.analyse(t,ctx,L,{},{})
+    notes,before={},{}
     def walk(t,ctx,L):
-        k=t[1]
+        k=t[1]; before[t[0]]=L
         if k=='seq':
             M=res(t[2],ctx,L); notes[t[0]]=('seq',M); walk(t[2],ctx,L); walk(t[3],ctx,M)
         elif k=='if':
             c=elabel(t[2],L); notes[t[0]]=('if',c); walk(t[3],ctx|c,L); walk(t[4],ctx|c,L)
         elif k=='while':
             c,S=settled(t,ctx,L); notes[t[0]]=('while',c,S); walk(t[3],ctx|c,S)
-        else: model.analyse(t,ctx,L,notes)
+        else: model.analyse(t,ctx,L,notes,{})
     L0=(p['vm'],p['am']); walk(p['root'],0,L0)
-    return res(p['root'],0,L0), notes
+    return res(p['root'],0,L0), notes, before
 def remembering(make):
-    def made(p):
-        F,notes=remembered(p)
+    def made(p,*more):
+        F,notes,before=remembered(p)
         old=model.analyse
-        def fake(t,ctx,L,out): out.update(notes); return F
+        def fake(t,ctx,L,out,entered): out.update(notes); entered.update(before); return F
         model.analyse=fake
-        try: return make(p)
+        try: return make(p,*more)
         finally: model.analyse=old
     return made
 # d loops, each with a variable that its end makes secret and its start public again

@@ -26,7 +26,8 @@ use Rattle.variables.specs.Named.{expressionOf, fieldExpressions, expressionsOf
 use Rattle.variables.proofs.Naming.{numeric-label, truth-label}
 use Rattle.reader.proofs.NodeKinds.{unnamedCommand, unnamedSingle, command-kinds}
 use Rattle.analysis.specs.Notes.{noteIn, secondWord}
-use Rattle.analysis.specs.Warm.{standing, Distinct, InOrder}
+use Rattle.awhile.specs.Standing.{standing, Distinct}
+use Rattle.analysis.specs.Warm.{InOrder}
 use Rattle.analysis.specs.Conditions.{labelAt, SingleFits, SingleAfter, NoteRoom, Analysable, Analysed, Settleable, SettledLoop}
 use Rattle.analysis.proofs.CommandNotes.{NotedAt, note-stored, distinct-part, alone-analysed}
 use Rattle.analysis.proofs.CommandNotes.{first-in-order, second-in-order, sequence-analysed, if-analysed, loop-ready, while-analysed, while-remembered}

@@ -14,7 +14,8 @@ use Rattle.labels.specs.Labellings.{labelOfB, join, _⊑_}
 use Rattle.labels.specs.Analysis.{analyse}
 use Rattle.labels.specs.Annotation.{Entry, entered, annotate}
 use Rattle.analysis.specs.Notes.{noteIn, secondWord, Noted}
-use Rattle.analysis.specs.Warm.{standing, Distinct, keptIn, InOrder}
+use Rattle.awhile.specs.Standing.{standing, Distinct}
+use Rattle.analysis.specs.Warm.{keptIn, InOrder}
 use Rattle.analysis.specs.Conditions.{Analysed, SettledLoop}
 use Rattle.labels.proofs.Masks.{digit-small}
 use Rattle.analysis.proofs.Warm.{SameOn, outside-same, body-in-order, in-order-same, noted-same, noted-note, remembered-noted}

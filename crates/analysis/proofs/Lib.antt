@@ -4,6 +4,5 @@ pub mod Warm
 pub mod Settling
 pub mod CommandNotes
 pub mod CommandCases
-pub mod Standing
 pub mod WholeProgram
 pub mod NotedPrograms

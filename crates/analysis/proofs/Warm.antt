@@ -11,7 +11,8 @@ use Rattle.labels.specs.Labellings.{labelOfB, join, _⊑_}
 use Rattle.labels.specs.Analysis.{analyse}
 use Rattle.labels.specs.Annotation.{Entry, entered, annotate}
 use Rattle.analysis.specs.Notes.{noteIn, Noted}
-use Rattle.analysis.specs.Warm.{standing, Outside, keptIn, Remembered, InOrder}
+use Rattle.awhile.specs.Standing.{standing}
+use Rattle.analysis.specs.Warm.{Outside, keptIn, Remembered, InOrder}
 use Rattle.labels.proofs.Booleans.{or-mono}
 use Rattle.labels.proofs.Order.{⊑-trans, ⊑-antisym, join-right, labelOfB-mono}
 use Rattle.labels.proofs.Analysis.{analyse-mono, loop-settles}

@@ -6,8 +6,10 @@ use mathlib.Core.Path.{_≡_, refl, sym, ap, _∙_}
 use native.Mathlib.Omega.{arith}
 use lib.ListN.{length, getD, replicate, length-replicate}
 use Rattle.bytes_le.proofs.Numbers.{Below}
-use Rattle.reader.specs.Index.{Indexed, tableOf, nodesIn, commandIn}
+use Rattle.reader.specs.Index.{Indexed, Ready, tableOf, nodesIn, commandIn}
 use Rattle.awhile.specs.Trees.{rootOf}
+use Rattle.awhile.proofs.Standing.{root-distinct}
+use Rattle.awhile.specs.declared.Declarations.{Declarations}
 use Rattle.awhile.specs.declared.Labelling.{Labelling}
 use Rattle.reader.proofs.Index.{indexed-well-formed, indexed-some, indexed-root, indexed-root-sort}
 use Rattle.labels.specs.Analysis.{analyse}
@@ -15,10 +17,9 @@ use Rattle.analysis.specs.Notes.{noteIn}
 use Rattle.labels.specs.Annotation.{entered}
 use Rattle.labels.specs.Sheet.{annotated, finalLabels}
 use Rattle.variables.specs.Named.{Named}
-use Rattle.analysis.specs.Conditions.{Analysable, Analysed, Fresh, Labelled}
+use Rattle.analysis.specs.Conditions.{Analysable, Analysed, Fresh, LabelReady, Labelled}
 use Rattle.analysis.proofs.AllPublic.{nothing}
 use Rattle.analysis.proofs.CommandCases.{same-room}
-use Rattle.analysis.proofs.Standing.{root-distinct}
 use Rattle.analysis.proofs.Warm.{fresh-in-order}
 
 module _ {table index named ns : List ℕ} (bytes : Below 256 table) (h : Fresh table index named ns) where
@@ -66,4 +67,15 @@ fresh-zeros room i n h =
       names = n;
       notesFit = record { room = rw (length-replicate {A = ℕ} room 0) h };
       zeros = zero-at room;
+    }
+
+-- memory that was just made is ready for labelling
+pub label-ready : {table index : List ℕ} {declared : Declarations} (room words : ℕ) → Ready table index declared → nodesIn table ≤ room → 2 * nodesIn table ≤ words
+    → LabelReady table index (replicate room 0) (replicate words 0) declared
+label-ready room words ready h k =
+    record {
+      ready = ready;
+      namedFit = rw (length-replicate {A = ℕ} room 0) h;
+      notesFit = record { room = rw (length-replicate {A = ℕ} words 0) k };
+      zeros = zero-at words;
     }

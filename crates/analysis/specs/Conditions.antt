@@ -4,8 +4,10 @@ use mathlib.Core.Bool.{Bool, _||_}
 use mathlib.Core.List.{List}
 use mathlib.Core.Path.{_≡_}
 use lib.ListN.{length, getD}
-use Rattle.reader.specs.Index.{Indexed, tableOf, nodesIn, truthIn, commandIn, OfSort}
+use Rattle.reader.specs.Index.{Indexed, Ready, tableOf, nodesIn, truthIn, commandIn, OfSort}
 use Rattle.awhile.specs.Language.{BExp, Com, while, noteOf}
+use Rattle.awhile.specs.Standing.{Distinct}
+use Rattle.awhile.specs.declared.Declarations.{Declarations}
 use Rattle.awhile.specs.declared.Labelling.{Labelling}
 use Rattle.awhile.specs.declared.Node.{Node}
 use Rattle.awhile.specs.declared.Node.the-variants.{Skip, Assign, Read, Write}
@@ -17,7 +19,7 @@ use Rattle.labels.specs.Sheet.{annotated}
 use Rattle.variables.specs.Variables.{meet}
 use Rattle.variables.specs.Named.{Named}
 use Rattle.analysis.specs.Notes.{Noted}
-use Rattle.analysis.specs.Warm.{Distinct, Outside, keptIn, InOrder}
+use Rattle.analysis.specs.Warm.{Outside, keptIn, InOrder}
 
 -- ---- commands without parts, by what is named for their expressions
 -- the label of the expression at a node
@@ -80,6 +82,13 @@ pub record SettledLoop (b : BExp) (c : Com ℕ) (x : Bool) (l : Labelling) (ns n
 pub record Fresh (table index named notes : List ℕ) : Type 0 where
   pub indexed : Indexed table index
   pub names : Named table named
+  pub notesFit : NoteRoom table notes
+  pub zeros : (p : ℕ) → getD notes p 0 ≡ 0
+
+-- what labelling a table that was read requires: memory for its expressions' variables and for notes that are all zero
+pub record LabelReady (table index named notes : List ℕ) (declared : Declarations) : Type 0 where
+  pub ready : Ready table index declared
+  pub namedFit : nodesIn table ≤ length named
   pub notesFit : NoteRoom table notes
   pub zeros : (p : ℕ) → getD notes p 0 ≡ 0
 

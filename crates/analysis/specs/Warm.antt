@@ -1,31 +1,17 @@
 -- Warm starts: a loop starts its passes from the entering labelling joined with what it last settled at, so that nested loops settle in
 -- few passes; and where a loop is entered as it last was, it makes no pass. What it last settled at is kept where the notes are, as the note of
 -- its body. The results are those of the analysis.
-use Prim.Native.Nat.{ℕ, _+_, _≤_}
-use mathlib.Core.Bool.{Bool, cond, _||_}
+use Prim.Native.Nat.{ℕ}
+use mathlib.Core.Bool.{Bool, _||_}
 use mathlib.Core.List.{List}
 use mathlib.Core.Path.{_≡_}
-use lib.Dec.{eqb}
 use Rattle.awhile.specs.Language.{Com, skip, assign, sequence, if, while, read, write, noteOf}
+use Rattle.awhile.specs.Standing.{standing}
 use Rattle.awhile.specs.declared.Labelling.{Labelling}
 use Rattle.labels.specs.Labellings.{labelOfB, join, _⊑_}
 use Rattle.labels.specs.Analysis.{analyse}
 use Rattle.labels.specs.Annotation.{annotate}
 use Rattle.analysis.specs.Notes.{noteIn, Noted}
-
--- how many commands with this number stand in a command, itself included
-unfoldable pub standing : (node : ℕ) → Com ℕ → ℕ
-standing p (skip n) = cond (eqb p n) 1 0
-standing p (assign n v e) = cond (eqb p n) 1 0
-standing p (sequence n c d) = cond (eqb p n) 1 0 + standing p c + standing p d
-standing p (if n b c d) = cond (eqb p n) 1 0 + standing p c + standing p d
-standing p (while n b c) = cond (eqb p n) 1 0 + standing p c
-standing p (read n v a i) = cond (eqb p n) 1 0
-standing p (write n a i e) = cond (eqb p n) 1 0
-
--- no two commands of a command have one number
-pub record Distinct (c : Com ℕ) : Type 0 where
-  pub once : (p : ℕ) → standing p c ≤ 1
 
 -- the notes of all commands other than those of a command are the same before and after
 pub record Outside (c : Com ℕ) (ns ns′ : List ℕ) : Type 0 where

@@ -30,6 +30,12 @@ fn put_digit(mask: u64, n: usize, secret: bool) -> u64
     if secret { set } else { set - one }
 }
 
+pub fn variable_label(labels: Labelling, variable: usize) -> bool
+    ensures { λ r. ⌜ r ≡ labelOf labels (variableMark variable) ⌝ }
+{
+    digit(labels.variables, variable)
+}
+
 pub fn array_label(labels: Labelling, array: usize) -> bool
     ensures { λ r. ⌜ r ≡ labelOf labels (arrayMark array) ⌝ }
 {

@@ -6,6 +6,14 @@ ghost use Rattle.labels.specs.Sheet.{finalLabels};
 ghost use Rattle.reader.specs.Index.{tableOf, nodesIn};
 ghost use Rattle.analysis.specs.Conditions.{Fresh, Labelled};
 
+// A table with no more nodes is small. To clear memory for all nodes that a table can have takes longer than to label a small table, so a small one is
+// labelled in memory for these. The notes are two words a node.
+pub const FEW_NODES: usize = 512;
+
+pub const FEW_NOTES: usize = 1024;
+
+pub const MAX_NOTES: usize = 8192;
+
 // The labelling after a table's program, where it starts from this one. The notes, all zero before, are those of the program's commands after.
 pub fn label_program(
     table: &[u8],

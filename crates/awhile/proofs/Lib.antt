@@ -20,5 +20,6 @@ pub mod Causes
 pub mod Lowest
 pub mod Sums
 pub mod Size
+pub mod Standing
 pub mod Ranges
 pub mod LongInput

@@ -5,5 +5,6 @@ pub mod Refusals
 pub mod Nodes
 pub mod Tables
 pub mod Trees
+pub mod Standing
 pub mod Encoding
 pub mod WellFormed

@@ -4,7 +4,7 @@ use Prim.Native.Nat.{ℕ}
 use mathlib.Core.Bool.{Bool, true, false}
 use Rattle.awhile.specs.declared.Refusal.{Refusal}
 use Rattle.awhile.specs.declared.Refusal.the-variants.{Cut, WrongRecord, BeyondLimit, OutOfRange, WrongSort, NotATree, ExtraBytes}
-use Rattle.awhile.specs.declared.Refusal.the-variants.{TooManyNodes, NoFreeVariable, BadDirectives}
+use Rattle.awhile.specs.declared.Refusal.the-variants.{TooManyNodes, NoFreeVariable, BadDirectives, BadQuestions}
 use Rattle.awhile.specs.declared.Refusal.the-variants.{WrongVariables, WrongCells, ShortPending, ShortBuffer}
 
 abbrev pub refusalNumber : Refusal → ℕ
@@ -18,6 +18,7 @@ refusalNumber (ExtraBytes at) = 7
 refusalNumber TooManyNodes = 8
 refusalNumber NoFreeVariable = 9
 refusalNumber BadDirectives = 10
+refusalNumber BadQuestions = 11
 refusalNumber WrongVariables = 20
 refusalNumber WrongCells = 21
 refusalNumber ShortPending = 22
@@ -34,6 +35,7 @@ refusalPlace (ExtraBytes at) = at
 refusalPlace TooManyNodes = 0
 refusalPlace NoFreeVariable = 0
 refusalPlace BadDirectives = 0
+refusalPlace BadQuestions = 0
 refusalPlace WrongVariables = 0
 refusalPlace WrongCells = 0
 refusalPlace ShortPending = 0

@@ -136,6 +136,8 @@ pub enum Refusal {
     NoFreeVariable,
     // 10: a directive list that is cut or holds a wrong record
     BadDirectives,
+    // 11: a list of label questions that is too long, is cut or asks what cannot be asked
+    BadQuestions,
     // 20: not as many variable words as variables
     WrongVariables,
     // 21: not as many cell words as cells

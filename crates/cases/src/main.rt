@@ -7,12 +7,14 @@ use libc::STDIN_FILENO;
 use libc::STDOUT_FILENO;
 ghost use Rattle.io.specs.Counts.{Counts};
 
-// The entries' numbers; any other is flow_guess.
+// The entries' numbers; any other is flow_guess. The list of a call holds directives or, for flow_questions, questions.
 const SHEET: u32 = 1;
 
 const HARDEN: u32 = 2;
 
 const RUN: u32 = 3;
+
+const QUESTIONS: u32 = 5;
 
 // The next number of the input.
 fn number() -> u32 {
@@ -59,7 +61,7 @@ fn enter(
     entry: u32,
     budget: u32,
     table: &[u8],
-    directives: &[u8],
+    list: &[u8],
     variables: &mut [u8],
     cells: &mut [u8],
     pending: &mut [u8],
@@ -73,11 +75,15 @@ fn enter(
             b"run ",
             flow::machines::flow_run(table, variables, cells, pending, output, budget, answer),
         ),
+        QUESTIONS => print_result(
+            b"questions ",
+            flow::ask::flow_questions(table, list, output, answer),
+        ),
         _ => print_result(
             b"guess ",
             flow::machines::flow_guess(
                 table,
-                directives,
+                list,
                 variables,
                 cells,
                 pending,
@@ -94,7 +100,7 @@ fn call(
     entry: u32,
     budget: u32,
     table: &[u8],
-    directives: &[u8],
+    list: &[u8],
     variables: &mut [u8],
     cells: &mut [u8],
     pending: &mut [u8],
@@ -105,7 +111,7 @@ fn call(
         entry,
         budget,
         table,
-        directives,
+        list,
         &mut *variables,
         &mut *cells,
         &mut *pending,
@@ -125,8 +131,8 @@ fn play() {
     let budget = number();
     let mut table = [170u8; 65536];
     let table_length = fill(&mut table);
-    let mut directives = [170u8; 4096];
-    let directives_length = fill(&mut directives);
+    let mut list = [170u8; 4096];
+    let list_length = fill(&mut list);
     let mut variables = [170u8; 256];
     let variables_length = fill(&mut variables);
     let mut cells = [170u8; 65600];
@@ -141,7 +147,7 @@ fn play() {
         entry,
         budget,
         &table[..table_length],
-        &directives[..directives_length],
+        &list[..list_length],
         &mut variables[..variables_length],
         &mut cells[..cells_length],
         &mut pending[..pending_length],

@@ -13,7 +13,7 @@ use Rattle.awhile.specs.Tables.{Table, readTable}
 use Rattle.awhile.proofs.Accepted.{check-got}
 use Rattle.awhile.specs.declared.Refusal.{Refusal}
 use Rattle.awhile.specs.declared.Refusal.the-variants.{Cut, WrongRecord, BeyondLimit, OutOfRange, WrongSort, NotATree, ExtraBytes}
-use Rattle.awhile.specs.declared.Refusal.the-variants.{TooManyNodes, NoFreeVariable, BadDirectives}
+use Rattle.awhile.specs.declared.Refusal.the-variants.{TooManyNodes, NoFreeVariable, BadDirectives, BadQuestions}
 use Rattle.awhile.specs.declared.Refusal.the-variants.{WrongVariables, WrongCells, ShortPending, ShortBuffer}
 use Rattle.machine.specs.Directives.{readDirectives}
 use Rattle.machine.specs.Runs.{guessing}
@@ -32,6 +32,7 @@ refusal-not-zero (ExtraBytes at) e = omega arith
 refusal-not-zero TooManyNodes e = omega arith
 refusal-not-zero NoFreeVariable e = omega arith
 refusal-not-zero BadDirectives e = omega arith
+refusal-not-zero BadQuestions e = omega arith
 refusal-not-zero WrongVariables e = omega arith
 refusal-not-zero WrongCells e = omega arith
 refusal-not-zero ShortPending e = omega arith

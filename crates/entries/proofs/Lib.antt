@@ -3,5 +3,6 @@ pub mod Open
 pub mod Accepted
 pub mod Written
 pub mod Sheet
+pub mod Questions
 pub mod Security
 pub mod Hardened

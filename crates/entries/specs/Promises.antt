@@ -1,11 +1,11 @@
--- WHAT THE FOUR ENTRIES PROMISE, on any bytes: the result, each lent slice and the answer slice at exit, by an equation with the entry's
--- definition; of a label sheet, that its labels are the least; and of a table that was hardened, the demands.
+-- WHAT THE FIVE ENTRIES PROMISE, on any bytes: the result, each lent slice and the answer slice at exit, by an equation with the entry's
+-- definition; of a label sheet and of answers to questions, that the labels are the least; and of a table that was hardened, the demands.
 -- Nothing is left free, the place of a refusal by 6 no more than any other (awhile/proofs/Lowest says whose record it is).
-use Prim.Native.Nat.{ℕ}
+use Prim.Native.Nat.{ℕ, _*_, _<_, _≤_}
 use mathlib.Core.Bool.{false}
 use mathlib.Core.List.{List, [], _∷_}
 use mathlib.Core.Path.{_≡_}
-use lib.ListN.{length, take}
+use lib.ListN.{length, getD, take}
 use Rattle.awhile.specs.Language.{Com}
 use Rattle.awhile.specs.Refusals.{got}
 use Rattle.awhile.specs.Tables.{Table, readTable}
@@ -14,10 +14,11 @@ use Rattle.awhile.specs.declared.Labelling.{Labelling}
 use Rattle.labels.specs.Annotation.{Entry}
 use Rattle.labels.specs.Rules.{LeastAnnotation}
 use Rattle.labels.specs.Sheet.{sheetOf}
+use Rattle.labels.specs.Questions.{maxQuestions, pairAt, questionAt, TellsLabel}
 use Rattle.masks.specs.Hardening.{hardenedProgram}
 use Rattle.masks.specs.Demands.{Demands}
 use Rattle.entries.specs.Answers.{answered}
-use Rattle.entries.specs.Writing.{Written, sheetEntry, hardenEntry}
+use Rattle.entries.specs.Writing.{Written, writtenAll, sheetEntry, questionsEntry, hardenEntry}
 use Rattle.entries.specs.Running.{Lent, Ran, runEntry, guessEntry}
 use Rattle.entries.specs.Security.{CallsShowTheSame}
 
@@ -53,6 +54,32 @@ pub record SheetInto (table answer : List ℕ) (exit : Written) : Type 0 where
 pub record Sheets (table sheet answer : List ℕ) (result : ℕ) (sheet′ answer′ : List ℕ) : Type 0 where
   pub writes : writtenAt result sheet′ answer′ ≡ sheetEntry table sheet answer
   pub labels : result ≡ 0 → SheetInto table answer (writtenAt result sheet′ answer′)
+
+-- ---- label questions
+-- What a caller of the questions entry has where it answers 0, from the table's bytes, the list and the answer slice at entry and what stands at exit
+pub record AnswersInto (table questions answer : List ℕ) (exit : Written) : Type 0 where
+  -- the table that was accepted
+  pub original : Table
+  pub reads : readTable table ≡ got original
+  -- the least annotation of its program, from the labels record's labelling and in a public context
+  pub annotation : Com Entry
+  pub final : Labelling
+  pub labels : LeastAnnotation (rootOf original) false (original .labels) annotation final
+  -- how many pairs the list has, as the answer says: no more than 256, and the list ends with the last
+  pub pairs : ℕ
+  pub few : pairs ≤ maxQuestions
+  pub whole : length questions ≡ 4 * pairs
+  pub answers : exit .answer ≡ answered (0 ∷ pairs ∷ []) answer
+  -- byte i of the buffer tells the label that pair i asks for, by this annotation
+  pub tells : (i : ℕ) → i < pairs → TellsLabel annotation (questionAt questions i) (getD (exit .buffer) i 0)
+  -- "A pair asked alone gets the byte it gets in a list": in any buffer of at least one byte
+  pub alone : (i : ℕ) → i < pairs → (buffer slice : List ℕ) → 1 ≤ length buffer
+      → questionsEntry table (pairAt questions i) buffer slice ≡ writtenAll (getD (exit .buffer) i 0 ∷ []) buffer slice
+
+-- THE PROMISE of the questions entry: all that stands at exit, by an equation; and where it answers 0, the least labels, each pair as if it were asked alone
+pub record AnswersQuestions (table questions labels answer : List ℕ) (result : ℕ) (labels′ answer′ : List ℕ) : Type 0 where
+  pub writes : writtenAt result labels′ answer′ ≡ questionsEntry table questions labels answer
+  pub tells : result ≡ 0 → AnswersInto table questions answer (writtenAt result labels′ answer′)
 
 -- ---- the hardened table
 -- What a caller of the hardening entry has where it answers 0, from the table's bytes and the answer slice at entry and what stands at exit

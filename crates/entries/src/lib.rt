@@ -1,1 +1,1 @@
-// The four entries as definitions of all memory at exit, what they promise, and demand 3 for their calls. The code is crate `flow`.
+// The five entries as definitions of all memory at exit, what they promise, and demand 3 for their calls. The code is crate `flow` and what it stands on.

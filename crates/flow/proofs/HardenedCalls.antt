@@ -11,13 +11,13 @@ use Rattle.reader.proofs.Ready.{ready-variables, ready-nodes}
 use Rattle.awhile.specs.Refusals.{refused, got, check, refusalNumber}
 use Rattle.awhile.specs.Tables.{maxVariables}
 use Rattle.awhile.specs.declared.Declarations.{Declarations}
-use Rattle.awhile.specs.declared.Refusal.{Refusal}
 use Rattle.awhile.specs.declared.Refusal.the-variants.{TooManyNodes, NoFreeVariable}
 use Rattle.masks.specs.Hardening.{hardenedTable, maxHardened}
 use Rattle.entries.specs.Answers.{answered, refusalNumbers}
+use Rattle.answers.proofs.Reading.{refused-writes}
 use Rattle.flow.specs.Writes.{HasHardened}
 use Rattle.entries.specs.Promises.{writtenAt}
-use Rattle.entries.specs.Writing.{notWritten, writing, hardenedIn}
+use Rattle.entries.specs.Writing.{writing, hardenedIn}
 
 module _ {s index : List ℕ} {declared : Declarations} (ready : Ready s index declared) where
   -- ---- the two refusals
@@ -37,12 +37,7 @@ module _ {s index : List ℕ} {declared : Declarations} (ready : Ready s index d
   pub has-hardened : declared .header .nodes ≤ maxHardened → declared .header .variables < maxVariables → HasHardened s
   has-hardened h k = record { few = omega (arith, ready-nodes ready); free = omega (arith, ready-variables ready) }
 
-  -- what is refused is answered, and nothing is written
-  refused-writes : (r : Refusal) → hardenedIn (tableOf s) ≡ refused r → (out answer : List ℕ) {answer′ : List ℕ} {k : ℕ}
-      → k ≡ refusalNumber r → answer′ ≡ answered (refusalNumbers r) answer → writtenAt k out answer′ ≡ writing (hardenedIn (tableOf s)) out answer
-  unfolding writing notWritten
-  refused-writes r e out answer p q = rw (e, p, q)
-
+  -- are answered, and nothing is written
   pub many-writes : maxHardened < declared .header .nodes → (out answer : List ℕ) {answer′ : List ℕ} {k : ℕ} → k ≡ refusalNumber TooManyNodes
       → answer′ ≡ answered (refusalNumbers TooManyNodes) answer → writtenAt k out answer′ ≡ writing (hardenedIn (tableOf s)) out answer
   many-writes h = refused-writes TooManyNodes (too-many h)

@@ -1,7 +1,7 @@
 // The hardened form of a table.
-use crate::answer::answer_refusal;
-use crate::answer::answer_two;
 use analysis::program::label_program;
+use answers::slice::answer_refusal;
+use answers::slice::answer_two;
 use awhile::Declarations;
 use awhile::MAX_NODES;
 use awhile::MAX_VARIABLES;

@@ -1,5 +1,5 @@
 // The exported entries, and nothing else.
-mod answer;
+pub mod ask;
 pub mod harden;
 pub mod machines;
 pub mod sheet;

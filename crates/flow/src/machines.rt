@@ -1,6 +1,6 @@
 // Runs of a table, on the plain machine and on the guessing one.
-use crate::answer::answer_refusal;
-use crate::answer::answer_run;
+use answers::slice::answer_refusal;
+use answers::slice::answer_run;
 use awhile::Declarations;
 use awhile::MAX_NODES;
 use awhile::Refusal;

@@ -1,7 +1,10 @@
 // The label sheet of a table.
-use crate::answer::answer_refusal;
-use crate::answer::answer_two;
+use analysis::program::FEW_NODES;
+use analysis::program::FEW_NOTES;
+use analysis::program::MAX_NOTES;
 use analysis::program::label_program;
+use answers::slice::answer_refusal;
+use answers::slice::answer_two;
 use awhile::Declarations;
 use awhile::Labelling;
 use awhile::MAX_NODES;
@@ -18,14 +21,7 @@ ghost use Rattle.reader.specs.Index.{tableOf, Ready};
 ghost use Rattle.labels.specs.Sheet.{sheetBytes};
 ghost use Rattle.entries.specs.Promises.{writtenAt, Sheets};
 ghost use Rattle.entries.specs.Writing.{writing};
-ghost use Rattle.flow.specs.Writes.{LabelReady};
-
-// A table with no more nodes is small. To clear notes for all nodes that a table can have takes longer than to label a small table.
-const FEW_NODES: usize = 512;
-
-const FEW_NOTES: usize = 1024;
-
-const MAX_NOTES: usize = 8192;
+ghost use Rattle.analysis.specs.Conditions.{LabelReady};
 
 // Labels a table that was read, from the labels given, in memory that is all zero, and writes its sheet, if there is room for it.
 fn sheet_in(

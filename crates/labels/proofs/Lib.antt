@@ -9,3 +9,4 @@ pub mod Passes
 pub mod Analysis
 pub mod Notes
 pub mod Rules
+pub mod Questions

@@ -5,7 +5,8 @@ use Rattle.labels.specs.Labellings.{labelOf, setLabel, join, same, label
 use Rattle.labels.specs.Analysis.{settle, readLabel, writeLabel, targets, analyse}
 use Rattle.labels.specs.Annotation.{annotate, parts}
 use Rattle.labels.specs.Sheet.{fieldBytes, fieldsBytes, recordBytes, entryOf, commandRecords, recordsAt, recordsBelow, headRecord, sheetRecords, sheetOf, annotated, finalLabels, sheetBytes}
+use Rattle.labels.specs.Questions.{questionAt, isCommand, askable, allAskable, answerable, entering, answerTo, answersTo, answerBytes}
 
 unfoldable pub opened : Unit {0}
-unfolding opened-below bit putBit labelOf setLabel join same labelOfA labelOfB settle readLabel writeLabel targets analyse annotate parts fieldBytes fieldsBytes recordBytes entryOf commandRecords recordsAt recordsBelow headRecord sheetRecords sheetOf annotated finalLabels sheetBytes
+unfolding opened-below bit putBit labelOf setLabel join same labelOfA labelOfB settle readLabel writeLabel targets analyse annotate parts fieldBytes fieldsBytes recordBytes entryOf commandRecords recordsAt recordsBelow headRecord sheetRecords sheetOf annotated finalLabels sheetBytes questionAt isCommand askable allAskable answerable entering answerTo answersTo answerBytes
 opened = tt

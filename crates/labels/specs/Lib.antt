@@ -1,7 +1,8 @@
--- Labels, the analysis and the label sheet, in reading order.
+-- Labels, the analysis, the label sheet and label questions, in reading order.
 pub mod Masks
 pub mod Labellings
 pub mod Analysis
 pub mod Annotation
 pub mod Sheet
+pub mod Questions
 pub mod Rules

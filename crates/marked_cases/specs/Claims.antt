@@ -8,7 +8,7 @@ use Rattle.bytes_le.specs.Numbers.{leAt}
 use Rattle.awhile.specs.Refusals.{got}
 use Rattle.entries.specs.Answers.{answered}
 use Rattle.entries.specs.Running.{Lent, runEntry, guessEntry}
-use Rattle.entries.specs.Writing.{Written, writing, writtenAll, sheetEntry, hardenEntry}
+use Rattle.entries.specs.Writing.{Written, writing, writtenAll, sheetEntry, questionsEntry, hardenEntry}
 
 -- the table is of so many nodes and so many bytes
 pub record Sized (table : List ℕ) (nodes bytes : ℕ) : Type 0 where
@@ -24,6 +24,10 @@ Writes entry table bytes =
 abbrev pub HasSheet : (table sheet : List ℕ) → Type 0
 HasSheet = Writes sheetEntry
 
+-- a list of questions about the table gets these answers
+abbrev pub GetsAnswers : (table questions answers : List ℕ) → Type 0
+GetsAnswers table questions = Writes (λ t. questionsEntry t questions) table
+
 -- the table hardens to this one
 abbrev pub HardensTo : (table hardened : List ℕ) → Type 0
 HardensTo = Writes hardenEntry
@@ -37,7 +41,7 @@ Refuses entry table number at =
 -- every entry's call is refused so; all lent memory is unchanged
 abbrev pub AllRefuse : (table : List ℕ) → (number at : ℕ) → Type 0
 AllRefuse table number at =
-    Refuses sheetEntry table number at × Refuses hardenEntry table number at
+    Refuses sheetEntry table number at × ((questions : List ℕ) → Refuses (λ t. questionsEntry t questions) table number at) × Refuses hardenEntry table number at
     × ((lent : Lent) (budget : ℕ) (answer : List ℕ) →
     runEntry table lent budget answer ≡ record { result = number; lent = lent; answer = answered (number ∷ at ∷ []) answer })
     × ((directives : List ℕ) (lent : Lent) (budget : ℕ) (answer : List ℕ) →

@@ -4,6 +4,7 @@ pub mod Claims
 pub mod Refused
 pub mod Orphans
 pub mod Labelled
+pub mod Asked
 pub mod Hardened
 pub mod BoundsCheck
 pub mod Chain

@@ -12,7 +12,9 @@ use Rattle.bytes_le.proofs.Numbers.{Below}
 use Rattle.reader.specs.Index.{Indexed, tableOf, nodesIn, nodeIn, numericIn, truthIn, commandIn, OfSort}
 use Rattle.awhile.specs.Language.{mapNotes}
 use Rattle.awhile.specs.Nodes.{form, sortOf, sameSort}
+use Rattle.awhile.specs.Standing.{standing}
 use Rattle.awhile.specs.Trees.{asCommand, rootOf}
+use Rattle.awhile.proofs.Standing.{root-standing}
 use Rattle.awhile.specs.declared.Labelling.{Labelling}
 use Rattle.awhile.specs.declared.Sort.{Sort}
 use Rattle.awhile.specs.declared.Sort.the-variants.{Numeric, Truth, Command}
@@ -30,8 +32,6 @@ use Rattle.variables.proofs.Naming.{numeric-label, truth-label}
 use Rattle.reader.proofs.NodeKinds.{command-kinds}
 use Rattle.analysis.specs.Notes.{noteIn, notedProgram}
 use Rattle.analysis.specs.Conditions.{labelAt}
-use Rattle.analysis.specs.Warm.{standing}
-use Rattle.analysis.proofs.Standing.{root-standing}
 use Rattle.sheets.specs.Rows.{rowRecords, recordsIn, Sheetable}
 use Rattle.sheets.specs.declared.rows.Row.the-variants.{Nothing, Masks, Label, Labels, LabelMasks}
 use Rattle.sheets.proofs.SheetRecords.{copies, Located, records-copied}

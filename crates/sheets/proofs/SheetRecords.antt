@@ -13,7 +13,7 @@ use Rattle.awhile.proofs.Lists.{flatMap-append}
 use Rattle.labels.specs.Annotation.{parts}
 use Rattle.labels.specs.Sheet.{SheetRecord, commandRecords, recordsAt}
 use Rattle.analysis.specs.Notes.{noteIn}
-use Rattle.analysis.specs.Warm.{standing}
+use Rattle.awhile.specs.Standing.{standing}
 use Rattle.sheets.specs.Rows.{recordsIn}
 
 -- a list so many times over

@@ -3,7 +3,7 @@ use denote.Ref.{now}
 use Rattle.bytes_le.proofs.Numbers.{slice-bytes}
 use Rattle.entries.specs.Writing.{hardenedIn, hardenEntry}
 use Rattle.entries.proofs.Hardened.{entry-hardens}
-use Rattle.flow.proofs.Reading.{read-refused, read-accepted, reader-ready}
+use Rattle.answers.proofs.Reading.{read-refused, read-accepted, reader-ready}
 use borrow.Author.Needs.{needs}
 use Rattle.flow.proofs.harden.flow_harden.Statement.{statement}
 use Rattle.flow.proofs.harden.flow_harden.Tie as tie

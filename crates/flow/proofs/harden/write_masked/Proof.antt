@@ -8,7 +8,7 @@ use Rattle.reader.specs.Index.{tableOf}
 use Rattle.masks.specs.Hardening.{hardenedTable}
 use Rattle.hardener.specs.Output.{Measurable}
 use Rattle.entries.specs.Answers.{answered}
-use Rattle.flow.proofs.Reading.{writes-all, writes-nothing}
+use Rattle.answers.proofs.Reading.{writes-all, writes-nothing}
 use borrow.Author.Needs.{needs}
 use Rattle.flow.proofs.harden.write_masked.Statement.{statement}
 use Rattle.flow.proofs.harden.write_masked.Tie as tie

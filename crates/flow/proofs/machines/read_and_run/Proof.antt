@@ -1,5 +1,5 @@
 -- `read_and_run` runs a table that is accepted, and hands on the reader's refusal of any other.
-use Rattle.flow.proofs.Reading.{reader-ready}
+use Rattle.answers.proofs.Reading.{reader-ready}
 use Rattle.flow.proofs.Runs.{read-refused, read-done}
 use borrow.Author.Needs.{needs}
 use Rattle.flow.proofs.machines.read_and_run.Statement.{statement}

@@ -5,7 +5,7 @@ use Rattle.reader.proofs.Ready.{ready-labels}
 use Rattle.labels.specs.Sheet.{sheetBytes}
 use Rattle.entries.specs.Writing.{sheetEntry}
 use Rattle.entries.proofs.Sheet.{entry-sheets}
-use Rattle.flow.proofs.Reading.{read-refused, read-accepted, reader-ready}
+use Rattle.answers.proofs.Reading.{read-refused, read-accepted, reader-ready}
 use borrow.Author.Needs.{needs}
 use Rattle.flow.proofs.sheet.flow_sheet.Statement.{statement}
 use Rattle.flow.proofs.sheet.flow_sheet.Tie as tie

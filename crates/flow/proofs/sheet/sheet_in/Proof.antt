@@ -13,7 +13,7 @@ use Rattle.labels.specs.Sheet.{sheetBytes}
 use Rattle.entries.specs.Answers.{answered}
 use Rattle.sheets.specs.Rows.{sheetIn}
 use Rattle.sheets.proofs.LabelledSheets.{labelled-sheet}
-use Rattle.flow.proofs.Reading.{writes-all, writes-nothing}
+use Rattle.answers.proofs.Reading.{writes-all, writes-nothing}
 use borrow.Author.Needs.{needs}
 use Rattle.flow.proofs.sheet.sheet_in.Statement.{statement}
 use Rattle.flow.proofs.sheet.sheet_in.Tie as tie

@@ -1,7 +1,7 @@
 -- `sheet_of_few` has memory for few nodes.
 use native.Mathlib.Omega.{arith}
 use Rattle.reader.proofs.Ready.{ready-nodes}
-use Rattle.flow.proofs.Reading.{label-ready}
+use Rattle.analysis.proofs.WholeProgram.{label-ready}
 use borrow.Author.Needs.{needs}
 use Rattle.flow.proofs.sheet.sheet_of_few.Statement.{statement}
 use Rattle.flow.proofs.sheet.sheet_of_few.Tie as tie

@@ -3,7 +3,7 @@ use native.Mathlib.Omega.{arith}
 use denote.Ref.{now}
 use Rattle.bytes_le.proofs.Numbers.{slice-bytes}
 use Rattle.reader.proofs.Index.{indexed-few}
-use Rattle.flow.proofs.Reading.{label-ready}
+use Rattle.analysis.proofs.WholeProgram.{label-ready}
 use borrow.Author.Needs.{needs}
 use Rattle.flow.proofs.sheet.sheet_of_many.Statement.{statement}
 use Rattle.flow.proofs.sheet.sheet_of_many.Tie as tie

@@ -1,20 +1,9 @@
+-- `answer_run` puts seven numbers one after the other.
 use borrow.Author.Needs.{needs}
-use Rattle.flow.proofs.Answers.{put-first, put-more, put-answered}
-use Rattle.flow.proofs.answer.answer_run.Statement.{statement}
-use Rattle.flow.proofs.answer.answer_run.Tie as tie
-use Rattle.flow.proofs.answer.answer_run.Reads as reads
-use Rattle.flow.proofs.answer.answer_run.Lts as lts
-use Rattle.flow.proofs.answer.put_number.Reads as put-number-reads
+use Rattle.answers.proofs.Numbers.{put-first, put-more, put-answered}
+use Rattle.answers.proofs.slice.answer_run.Statement.{statement}
+use Rattle.answers.proofs.slice.answer_run.Tie as tie
 
--- src/answer.rt:32:5
--- src/answer.rt:33:5
--- src/answer.rt:34:5
--- src/answer.rt:35:5
--- src/answer.rt:36:5
--- src/answer.rt:37:5
--- src/answer.rt:38:5
--- src/answer.rt:29:1
--- src/answer.rt:29:1
 returns : tie.Need-returns
 returns c =
     put-answered _ _ _

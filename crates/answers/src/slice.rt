@@ -4,7 +4,7 @@ ghost use mathlib.Core.Path.{_≡_};
 ghost use mathlib.Core.List.{[], _∷_};
 ghost use Rattle.awhile.specs.Refusals.{refusalNumber, refusalPlace};
 ghost use Rattle.entries.specs.Answers.{answered, refusalNumbers};
-ghost use Rattle.flow.specs.Writes.{numberPut};
+ghost use Rattle.answers.specs.Numbers.{numberPut};
 use awhile::Refusal;
 
 // One number at an offset, if it fits whole.
@@ -61,6 +61,7 @@ fn number_of(refusal: Refusal) -> u64
         Refusal::TooManyNodes => 8,
         Refusal::NoFreeVariable => 9,
         Refusal::BadDirectives => 10,
+        Refusal::BadQuestions => 11,
         Refusal::WrongVariables => 20,
         Refusal::WrongCells => 21,
         Refusal::ShortPending => 22,
@@ -83,6 +84,7 @@ fn place_of(refusal: Refusal) -> u64
         Refusal::TooManyNodes => 0,
         Refusal::NoFreeVariable => 0,
         Refusal::BadDirectives => 0,
+        Refusal::BadQuestions => 0,
         Refusal::WrongVariables => 0,
         Refusal::WrongCells => 0,
         Refusal::ShortPending => 0,

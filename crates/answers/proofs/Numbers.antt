@@ -13,7 +13,7 @@ use Rattle.bytes_le.proofs.Numbers.{length-le}
 use Rattle.awhile.specs.Refusals.{refusalNumber, refusalPlace}
 use Rattle.awhile.specs.declared.Refusal.{Refusal}
 use Rattle.entries.specs.Answers.{answered, refusalNumbers}
-use Rattle.flow.specs.Writes.{numberPut}
+use Rattle.answers.specs.Numbers.{numberPut}
 
 pub number-fits : (slice : List ℕ) (at n : ℕ) → at + 8 ≤ length slice → numberPut slice at n ≡ sets slice at (le 8 n)
 unfolding numberPut

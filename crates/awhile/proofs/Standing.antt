@@ -8,21 +8,21 @@ use mathlib.Core.List.{List, map, flatMap}
 use lib.Dec.{eqb, ltb}
 use lib.ListN.{length, getD}
 use borrow.Author.Tests.{eq-eqb, ne-eqb}
 use Rattle.awhile.specs.Lists.{sum}
 use Rattle.awhile.specs.Nodes.{form, sortOf, sameSort, fieldChildren, childrenOf}
 use Rattle.awhile.specs.Tables.{Table}
 use Rattle.awhile.specs.Trees.{Tree, numeric, truth, command, asCommand, treeOf, treeAt, trees, rootOf}
 use Rattle.awhile.specs.WellFormed.{WellFormed}
 use Rattle.awhile.specs.declared.Sort.the-variants.{Numeric, Truth, Command}
 use Rattle.awhile.specs.declared.Node.{Node}
 use Rattle.awhile.specs.declared.Node.the-variants.{Number, Variable, Add, Subtract, Multiply, Choice}
 use Rattle.awhile.specs.declared.Node.the-variants.{Constant, Equal, Less, Not, And}
 use Rattle.awhile.specs.declared.Node.the-variants.{Skip, Assign, Sequence, If, While, Read, Write}
 use Rattle.awhile.proofs.Children.{EachChild}
 use Rattle.awhile.proofs.Trees.{treeSort, tree-of-node, tree-children}
 use Rattle.awhile.proofs.Sums.{sumBelow-same, only, sumBelow-only}
 use Rattle.awhile.proofs.Size.{root-tree, root-total}
-use Rattle.analysis.specs.Warm.{standing, Distinct}
+use Rattle.awhile.specs.Standing.{standing, Distinct}
 
 module _ (p : ℕ) where
   -- how many commands with this number stand in a tree

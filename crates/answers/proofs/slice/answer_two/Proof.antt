@@ -1,12 +1,9 @@
+-- `answer_two` puts two numbers one after the other.
 use borrow.Author.Needs.{needs}
-use Rattle.flow.proofs.Answers.{put-first, put-more, put-answered}
-use Rattle.flow.proofs.answer.answer_two.Statement.{statement}
-use Rattle.flow.proofs.answer.answer_two.Tie as tie
-use Rattle.flow.proofs.answer.answer_two.Reads as reads
-use Rattle.flow.proofs.answer.answer_two.Lts as lts
-use Rattle.flow.proofs.answer.put_number.Reads as put-number-reads
+use Rattle.answers.proofs.Numbers.{put-first, put-more, put-answered}
+use Rattle.answers.proofs.slice.answer_two.Statement.{statement}
+use Rattle.answers.proofs.slice.answer_two.Tie as tie
 
--- src/answer.rt:21:1
 returns : tie.Need-returns
 returns c =
     put-answered _ _ _

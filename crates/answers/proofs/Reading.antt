@@ -1,15 +1,15 @@
 -- What the reader's answer is worth to an entry that writes into a buffer.
-use Prim.Native.Nat.{ℕ, _*_, _≤_, _<_}
+use Prim.Native.Nat.{ℕ, _≤_, _<_}
 use native.Mathlib.Nat.{zero-add}
 use native.Mathlib.Omega.{arith}
 use mathlib.Core.Path.{_≡_, sym, ap, _∙_}
 use mathlib.Core.List.{List, [], _∷_}
-use lib.ListN.{length, replicate, length-replicate}
+use lib.ListN.{length}
 use lib.Seq.{sets, sets-eq}
 use borrow.Author.Tests.{le-leb, lt-leb}
-use Rattle.reader.specs.Index.{Indexed, Ready, tableOf, nodesIn, Answers}
+use Rattle.reader.specs.Index.{Indexed, Ready, tableOf, Answers}
 use Rattle.reader.proofs.Answering.{accepting, refusing}
-use Rattle.awhile.specs.Refusals.{Answer, got, andThen, refusalNumber}
+use Rattle.awhile.specs.Refusals.{Answer, refused, got, andThen, refusalNumber}
 use Rattle.awhile.specs.Tables.{Table, readTable}
 use Rattle.awhile.specs.declared.Declarations.{Declarations}
 use Rattle.reader.specs.declared.Read.{Read}
@@ -20,8 +20,6 @@ use Rattle.machine.specs.Memory.{writtenOver}
 use Rattle.entries.specs.Answers.{answered, refusalNumbers}
 use Rattle.entries.specs.Writing.{Written, notWritten, writtenAll, writing}
 use Rattle.entries.specs.Promises.{writtenAt}
-use Rattle.flow.specs.Writes.{LabelReady}
-use Rattle.analysis.proofs.WholeProgram.{zero-at}
 
 -- ---- a buffer and what is to be written
 -- bytes stored at the front are written over what was there
@@ -40,6 +38,12 @@ pub writes-nothing : (out buffer answer : List ℕ) {answer′ : List ℕ} {r : 
     → answer′ ≡ answered (refusalNumbers ShortBuffer) answer → writtenAt r buffer answer′ ≡ writing (got out) buffer answer
 unfolding writing notWritten
 writes-nothing out buffer answer h e f = rw (lt-leb (length out) (length buffer) h, e, f)
+
+-- what is refused is answered, and nothing is written
+pub refused-writes : {a : Answer (List ℕ)} (r : Refusal) → a ≡ refused r → (buffer answer : List ℕ) {answer′ : List ℕ} {n : ℕ} → n ≡ refusalNumber r
+    → answer′ ≡ answered (refusalNumbers r) answer → writtenAt n buffer answer′ ≡ writing a buffer answer
+unfolding writing notWritten
+refused-writes r e buffer answer p q = rw (e, p, q)
 
 -- ---- an entry that reads a table, and then writes what is asked for
 module _ (asked : Table → Answer (List ℕ)) where
@@ -63,14 +67,3 @@ module _ (asked : Table → Answer (List ℕ)) where
 -- where the reader answers an accepted table, it is ready
 pub reader-ready : {s index : List ℕ} {found : Read} {declared : Declarations} → Answers s index found → found ≡ Accepted declared → Ready s index declared
 reader-ready answers is = accepting _ _ _ (rw is at answers)
-
--- memory that was just made is ready for labelling
-pub label-ready : {table index : List ℕ} {declared : Declarations} (room words : ℕ) → Ready table index declared → nodesIn table ≤ room → 2 * nodesIn table ≤ words
-    → LabelReady table index (replicate room 0) (replicate words 0) declared
-label-ready room words ready h k =
-    record {
-      ready = ready;
-      namedFit = rw (length-replicate {A = ℕ} room 0) h;
-      notesFit = record { room = rw (length-replicate {A = ℕ} words 0) k };
-      zeros = zero-at words;
-    }

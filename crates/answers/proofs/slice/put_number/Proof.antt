@@ -1,11 +1,9 @@
+-- `put_number` puts a number that fits whole, and drops one that does not.
 use borrow.Author.Needs.{needs}
 use mathlib.Core.Path.{sym, _∙_}
-use Rattle.flow.proofs.Answers.{number-fits, number-dropped}
-use Rattle.flow.proofs.answer.put_number.Statement.{statement}
-use Rattle.flow.proofs.answer.put_number.Tie as tie
-use Rattle.flow.proofs.answer.put_number.Reads as reads
-use Rattle.flow.proofs.answer.put_number.Lts as lts
-use Rattle.bytes_le.proofs.put.put64.Reads as put64-reads
+use Rattle.answers.proofs.Numbers.{number-fits, number-dropped}
+use Rattle.answers.proofs.slice.put_number.Statement.{statement}
+use Rattle.answers.proofs.slice.put_number.Tie as tie
 
 pub put-number-spec : {M : Type 1} → statement M
 put-number-spec =

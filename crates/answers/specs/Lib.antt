@@ -1,0 +1,2 @@
+-- What the functions that write the answer slice leave.
+pub mod Numbers

@@ -1,0 +1,4 @@
+-- Laws of this crate.
+pub mod Lists
+pub mod NotedAnswers
+pub mod Calls

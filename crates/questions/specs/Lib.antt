@@ -1,0 +1,2 @@
+-- What the code of the questions entry asks and answers.
+pub mod Noted
