@@ -1,5 +1,5 @@
 -- The answers by the notes of an analysis are those of the annotated program.
-use Prim.Native.Nat.{ℕ, zero, suc, _+_}
+use Prim.Native.Nat.{ℕ, zero, suc, _+_, _*_, _<_}
 use native.Mathlib.Omega.{arith}
 use native.Mathlib.Numerals.{add-one}
 use mathlib.Core.Bool.{true, cond}
@@ -91,6 +91,10 @@ module _ {table ns : List ℕ} {l : Labelling} (w : WellFormed (tableOf table)) 
 
     pub list-noted : NotesReach ns s (pairsIn s)
     list-noted = notes-reach s (pairsIn s) (answerable-list t s ok .all)
+
+-- a question that was read from the list has its note
+pub reaches : {ns s : List ℕ} {n i : ℕ} {q : Question} → NotesReach ns s n → q ≡ questionAt s i → i < n → 2 * q .node + 1 < length ns
+reaches {i = i} h e k = rw e (h .each i k)
 
 -- ---- the answers written one behind the other
 module _ (ns s : List ℕ) where

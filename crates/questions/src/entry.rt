@@ -130,11 +130,13 @@ fn answer_list(
     ensures { λ r. ⌜ writtenAt r (now (out .exit)) (now (answer .exit))
         ≡ writing (askedFrom labels (now (questions .entry)) (tableOf (now (table .entry)))) (now (out .entry)) (now (answer .entry)) ⌝ }
 {
-    if !answerable(table, index, declared, questions) {
+    let good = answerable(table, index, declared, questions);
+    let count = pairs_in(questions);
+    let fits = count <= out.len();
+    if !good {
         return answer_refusal(&mut *answer, Refusal::BadQuestions);
     }
-    let count = pairs_in(questions);
-    if out.len() < count {
+    if !fits {
         return answer_refusal(&mut *answer, Refusal::ShortBuffer);
     }
     write_labels(table, index, declared, labels, questions, &mut *out);

@@ -6,7 +6,7 @@ use denote.Ref.{now}
 use lib.ListN.{length, length-set}
 use lib.Seq.{sets}
 use Rattle.questions.specs.Noted.{notedAnswer, notedAnswers}
-use Rattle.questions.proofs.NotedAnswers.{none-yet, one-more-written}
+use Rattle.questions.proofs.NotedAnswers.{reaches, none-yet, one-more-written}
 use Rattle.questions.proofs.writing.write_answers.Statement.{statement}
 use Rattle.questions.proofs.writing.write_answers.Tie as tie
 
@@ -17,7 +17,7 @@ abbrev μ-loop : tie.MeasureT-loop
 μ-loop notes questions count out₀ i₀ out i = count - i
 
 answer-to-requires : tie.Need-answer-to-requires Inv-loop μ-loop
-answer-to-requires c κs = rw (c .question-at .ensures) (c .before .before .before .before .before .before .pre .0 .each (c .before .before .loop .i) (c .before .loop-test .taken))
+answer-to-requires c κs = reaches (c .before .before .before .before .before .before .pre .0) (c .question-at .ensures) (omega (arith, c .before .loop-test .taken))
 
 loop-again : tie.Need-loop-again Inv-loop μ-loop
 loop-again c =
