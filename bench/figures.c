@@ -1,227 +1,140 @@
 /* Speed and stack of libflow.a beside the reference, as Markdown tables.  Both are timed in the same run, on the same calls. */
 #include <stdio.h>
-#include <string.h>
 
 #include "assemble.h"
 #include "call.h"
 #include "flow.h"
-#include "generate.h"
-#include "kinds.h"
 #include "little_endian.h"
+#include "samples.h"
 #include "stack.h"
 #include "timing.h"
 
-enum { SAMPLES = 8 }; /* tables of each size */
-
-/* ---- Calls -------------------------------------------------------------------------------------------------------------- */
-
-static struct call writing_call(enum entry entry, const struct buffer *table, size_t room)
-{
-    struct call call = {.entry = entry};
-    slice_from(&call.slices[SLICE_TABLE], table->bytes, table->length);
-    slice_new(&call.slices[SLICE_OUTPUT], room);
-    slice_new(&call.slices[SLICE_ANSWER], FLOW_ANSWER_BYTES);
-    return call;
-}
-
-/* As many pairs as a list may have, spread over all commands of a valid table and all its variables. */
-static void spread_questions(const struct buffer *table, struct buffer *list)
-{
-    unsigned commands[FLOW_MAX_NODES], count = 0, node = 0;
-    for (size_t at = 20 + 6 * (size_t)table->bytes[7]; at < table->length; at += get16(table->bytes + at), node++)
-        if (sort_of(get16(table->bytes + at + 2)) == 'C')
-            commands[count++] = node;
-    for (unsigned i = 0; i < FLOW_MAX_QUESTIONS; i++) {
-        buffer_append16(list, commands[i * count / FLOW_MAX_QUESTIONS]);
-        buffer_append16(list, i % table->bytes[6]);
-    }
-}
-
-static struct call asking_call(const struct buffer *table)
-{
-    struct call call = writing_call(ENTRY_QUESTIONS, table, FLOW_MAX_QUESTIONS);
-    struct buffer list = {0};
-    spread_questions(table, &list);
-    slice_from(&call.slices[SLICE_QUESTIONS], list.bytes, list.length);
-    buffer_free(&list);
-    return call;
-}
-
-static void zero_slice(struct slice *s, size_t length)
-{
-    slice_new(s, length);
-    if (length > 0)
-        memset(s->bytes, 0, length);
-}
-
-/* A run from all zeros.  The guessing machine gets a step for every observation that there is room for. */
-static struct call running_call(enum entry entry, const struct buffer *table, uint32_t budget, size_t observations)
-{
-    struct call call = {.entry = entry, .budget = budget};
-    size_t cells = 0;
-    for (unsigned array = 0; array < table->bytes[7]; array++)
-        cells += get16(table->bytes + 24 + 6 * array);
-    slice_from(&call.slices[SLICE_TABLE], table->bytes, table->length);
-    zero_slice(&call.slices[SLICE_VARIABLES], 4 * (size_t)table->bytes[6]);
-    zero_slice(&call.slices[SLICE_CELLS], 4 * cells);
-    zero_slice(&call.slices[SLICE_PENDING], 4 * (size_t)get16(table->bytes + 8));
-    zero_slice(&call.slices[SLICE_OBSERVATIONS], 6 * observations);
-    zero_slice(&call.slices[SLICE_ANSWER], FLOW_ANSWER_BYTES);
-    if (entry == ENTRY_GUESS) {
-        struct buffer steps = {0};
-        for (size_t i = 0; i < observations; i++)
-            assemble_directive(&steps, FLOW_STEP);
-        slice_from(&call.slices[SLICE_DIRECTIVES], steps.bytes, steps.length);
-        buffer_free(&steps);
-    }
-    return call;
-}
+static const struct performers both = {call_library, call_reference};
 
 /* ---- Reading, labelling, hardening -------------------------------------------------------------------------------------- */
 
-static void sample_table(unsigned nodes, unsigned sample, struct buffer *table)
-{
-    struct random r = random_from(nodes, sample);
-    struct plan plan = plan_small(&r, nodes);
-    plan.nodes = nodes;
-    plan.variables = 8;
-    plan.arrays = 2;
-    plan.counts[0] = plan.counts[1] = 16;
-    plan.secret_variables = 1u << random_below(&r, 8);
-    plan.secret_arrays = 1;
-    plan.shape = SHAPE_BUSHY;
-    plan.loops = 0;
-    plan.long_expressions = 0;
-    generate_table(&r, &plan, table);
-}
-
-static struct timing time_samples(enum entry entry, unsigned nodes, size_t room)
+static struct timing time_samples(enum entry entry, unsigned nodes)
 {
     struct call calls[SAMPLES];
-    for (unsigned sample = 0; sample < SAMPLES; sample++) {
-        struct buffer table = {0};
-        sample_table(nodes, sample, &table);
-        calls[sample] = writing_call(entry, &table, room);
-        buffer_free(&table);
-    }
-    struct timing timing = time_calls(calls, SAMPLES);
-    for (unsigned sample = 0; sample < SAMPLES; sample++)
-        call_free(&calls[sample]);
+    sample_calls(entry, mixed_table, nodes, calls);
+    struct timing timing = time_calls(both, calls, SAMPLES);
+    free_calls(calls, SAMPLES);
     return timing;
 }
 
 static void print_timing(const char *what, unsigned size, struct timing timing)
 {
-    printf("| %s | %u | %.2f | %.2f | %.2f |\n", what, size, 1e6 * timing.library, 1e6 * timing.reference,
-           timing.library / timing.reference);
+    printf("| %s | %u | %.3f | %.3f | %.2f |\n", what, size, 1e6 * timing.library, 1e6 * timing.other,
+           timing.library / timing.other);
 }
 
-static void print_timing_head(const char *title, const char *size)
+static void print_timing_head(const char *title, const char *text, const char *size)
 {
-    printf("\n## %s\n\n| what | %s | library, µs | reference, µs | ratio |\n|---|---|---|---|---|\n", title, size);
+    printf("\n## %s\n\n%s| what | %s | library, µs | reference, µs | ratio |\n|---|---|---|---|---|\n", title, text, size);
 }
 
 static void figures_of_sizes(void)
 {
-    static const unsigned sizes[] = {64, 128, 256, 512, 1024, 2048, 4096};
-    enum { COUNT = sizeof sizes / sizeof *sizes };
-    print_timing_head("Time against the number of nodes (8 generated tables of each size)", "N");
-    for (unsigned i = 0; i < COUNT; i++)
-        print_timing("reading (a run refused by 20)", sizes[i], time_samples(ENTRY_RUN, sizes[i], 0));
-    for (unsigned i = 0; i < COUNT; i++)
-        print_timing("labelling", sizes[i], time_samples(ENTRY_SHEET, sizes[i], FLOW_SHEET_BYTES));
-    for (unsigned i = 0; i < COUNT && sizes[i] <= FLOW_MAX_HARDENED_NODES; i++)
-        print_timing("hardening", sizes[i], time_samples(ENTRY_HARDEN, sizes[i], FLOW_TABLE_BYTES));
+    print_timing_head("Time against the number of nodes (8 generated tables of each size)", "", "N");
+    for (const unsigned *nodes = sample_sizes; *nodes != 0; nodes++)
+        print_timing("reading (a run refused by 20)", *nodes, time_samples(ENTRY_RUN, *nodes));
+    for (const unsigned *nodes = sample_sizes; *nodes != 0; nodes++)
+        print_timing("labelling", *nodes, time_samples(ENTRY_SHEET, *nodes));
+    for (const unsigned *nodes = sample_sizes; *nodes != 0 && *nodes <= FLOW_MAX_HARDENED_NODES; nodes++)
+        print_timing("hardening", *nodes, time_samples(ENTRY_HARDEN, *nodes));
+}
+
+/* ---- Sizing ------------------------------------------------------------------------------------------------------------- */
+
+static void figures_of_rooms(const char *copies, sample_table *make, unsigned nodes)
+{
+    struct hardenings h;
+    struct timing timings[ROOMS];
+    hardenings_new(&h, make, nodes);
+    time_groups(both, (struct call *const[ROOMS]){h.calls[0], h.calls[1], h.calls[2]}, ROOMS, SAMPLES, timings);
+    for (unsigned room = 0; room < ROOMS; room++) {
+        char what[80];
+        snprintf(what, sizeof what, "hardening, %s, %s", copies, room_names[room]);
+        print_timing(what, nodes, timings[room]);
+    }
+    printf("| sizing alone, %s | %u | %.3f | | |\n", copies, nodes,
+           1e6 * (timings[ROOM_EXACT].library - timings[ROOM_LARGE].library));
+    hardenings_free(&h);
+}
+
+static void figures_of_sizing(void)
+{
+    static const char text[] =
+        "Many copies: nearly all nodes stand in conditions, of which hardening makes three copies; few: in values, of which it makes\n"
+        "one. Into a buffer of 20 + 6 A + 80 N bytes flow_harden writes at once, into a shorter one only when it has sized the result.\n"
+        "Sizing alone is the time with the exact buffer less that with the large one. As the difference of two measured times it is\n"
+        "noisier than they are: runs differ by a tenth of it, at N = 8 by a fifth. The reference never sizes.\n\n";
+    print_timing_head("Sizing (8 generated tables of each kind and size, each hardened into three buffers)", text, "N");
+    for (const unsigned *nodes = copied_sizes; *nodes != 0; nodes++)
+        figures_of_rooms("many copies", many_copies_table, *nodes);
+    for (const unsigned *nodes = copied_sizes; *nodes != 0; nodes++)
+        figures_of_rooms("few copies", few_copies_table, *nodes);
 }
 
 /* ---- Questions ---------------------------------------------------------------------------------------------------------- */
 
 static void print_questions(unsigned nodes, struct timing asking, struct timing labelling)
 {
-    printf("| 256 questions | %u | %.2f | %.2f | %.2f | %.2f | %.2f |\n", nodes, 1e6 * asking.library, 1e6 * asking.reference,
-           asking.library / asking.reference, 1e6 * labelling.library, asking.library / labelling.library);
+    printf("| 256 questions | %u | %.3f | %.3f | %.2f | %.3f | %.2f |\n", nodes, 1e6 * asking.library, 1e6 * asking.other,
+           asking.library / asking.other, 1e6 * labelling.library, asking.library / labelling.library);
 }
 
 /* Beside a sheet of the same tables: all answers come from one analysis. */
 static void figures_of_question_size(unsigned nodes)
 {
     struct call asking[SAMPLES], labelling[SAMPLES];
-    for (unsigned sample = 0; sample < SAMPLES; sample++) {
-        struct buffer table = {0};
-        sample_table(nodes, sample, &table);
-        asking[sample] = asking_call(&table);
-        labelling[sample] = writing_call(ENTRY_SHEET, &table, FLOW_SHEET_BYTES);
-        buffer_free(&table);
-    }
     struct timing timings[2];
-    time_groups((struct call *const[2]){asking, labelling}, SAMPLES, timings);
+    sample_calls(ENTRY_QUESTIONS, mixed_table, nodes, asking);
+    sample_calls(ENTRY_SHEET, mixed_table, nodes, labelling);
+    time_groups(both, (struct call *const[2]){asking, labelling}, 2, SAMPLES, timings);
     print_questions(nodes, timings[0], timings[1]);
-    for (unsigned sample = 0; sample < SAMPLES; sample++) {
-        call_free(&asking[sample]);
-        call_free(&labelling[sample]);
-    }
+    free_calls(asking, SAMPLES);
+    free_calls(labelling, SAMPLES);
 }
 
 static void figures_of_questions(void)
 {
-    static const unsigned sizes[] = {64, 512, 4096};
     printf("\n## Time of 256 questions beside one sheet of the same table (the same 8 tables of each size)\n\n"
            "| what | N | library, µs | reference, µs | ratio | library's flow_sheet, µs | ratio to it |\n"
            "|---|---|---|---|---|---|---|\n");
-    for (unsigned i = 0; i < sizeof sizes / sizeof *sizes; i++)
-        figures_of_question_size(sizes[i]);
+    for (const unsigned *nodes = asked_sizes; *nodes != 0; nodes++)
+        figures_of_question_size(*nodes);
 }
 
 /* ---- Nesting ------------------------------------------------------------------------------------------------------------ */
 
 static void figures_of_nesting(void)
 {
-    static const unsigned depths[] = {1, 2, 5, 10, 20, 30, 40, 50, 60};
-    print_timing_head("Time against the nesting of loops: while 1 do (x:=0; (inner; x:=s))", "depth");
-    for (unsigned i = 0; i < sizeof depths / sizeof *depths; i++) {
-        struct buffer table = {0};
-        nested_loops_table(depths[i], &table);
-        struct call call = writing_call(ENTRY_HARDEN, &table, FLOW_TABLE_BYTES);
-        print_timing("hardening", depths[i], time_calls(&call, 1));
+    print_timing_head("Time against the nesting of loops: while 1 do (x:=0; (inner; x:=s))", "", "depth");
+    for (const unsigned *depth = nested_depths; *depth != 0; depth++) {
+        struct call call = nested_call(*depth);
+        print_timing("hardening", *depth, time_calls(both, &call, 1));
         call_free(&call);
-        buffer_free(&table);
     }
 }
 
 /* ---- Machines ----------------------------------------------------------------------------------------------------------- */
 
-/* while x<2^32-1 do (x:=x+1; y:=x*3-y): 4 steps a turn, one of them shown */
-static void tight_loop_table(struct buffer *t)
+static void figures_of_machine(const char *name, enum entry entry)
 {
-    assemble_table(t, 2, 0, NULL, 0, 0);
-    unsigned x = assemble_node1(t, FLOW_VARIABLE, 0);
-    unsigned condition = assemble_node2(t, FLOW_LESS, x, assemble_node1(t, FLOW_NUMBER, UINT32_MAX));
-    x = assemble_node1(t, FLOW_VARIABLE, 0);
-    unsigned first = assemble_node2(t, FLOW_ADD, x, assemble_node1(t, FLOW_NUMBER, 1));
-    first = assemble_node2(t, FLOW_ASSIGN, 0, first);
-    x = assemble_node1(t, FLOW_VARIABLE, 0);
-    unsigned second = assemble_node2(t, FLOW_MULTIPLY, x, assemble_node1(t, FLOW_NUMBER, 3));
-    second = assemble_node2(t, FLOW_SUBTRACT, second, assemble_node1(t, FLOW_VARIABLE, 1));
-    second = assemble_node2(t, FLOW_ASSIGN, 1, second);
-    assemble_node2(t, FLOW_WHILE, condition, assemble_node2(t, FLOW_SEQUENCE, first, second));
+    struct call call = machine_call(entry);
+    struct timing timing = time_calls(both, &call, 1);
+    printf("| %s | %.1f | %.1f | %.2f |\n", name, 1e-6 * MACHINE_STEPS / timing.library, 1e-6 * MACHINE_STEPS / timing.other,
+           timing.library / timing.other);
+    call_free(&call);
 }
 
 static void figures_of_machines(void)
 {
-    enum { STEPS = 40000 };
-    static const char *const names[] = {"plain", "guessing"};
-    struct buffer table = {0};
-    tight_loop_table(&table);
     printf("\n## Steps a second, on while x<2^32-1 do (x:=x+1; y:=x*3-y)\n\n"
            "| machine | library, million steps/s | reference, million steps/s | ratio of times |\n|---|---|---|---|\n");
-    for (unsigned i = 0; i < 2; i++) {
-        struct call call = running_call(i == 0 ? ENTRY_RUN : ENTRY_GUESS, &table, STEPS, STEPS / 4 + 1);
-        struct timing timing = time_calls(&call, 1);
-        printf("| %s | %.1f | %.1f | %.2f |\n", names[i], 1e-6 * STEPS / timing.library, 1e-6 * STEPS / timing.reference,
-               timing.library / timing.reference);
-        call_free(&call);
-    }
-    buffer_free(&table);
+    figures_of_machine("plain", ENTRY_RUN);
+    figures_of_machine("guessing", ENTRY_GUESS);
 }
 
 /* ---- Stack -------------------------------------------------------------------------------------------------------------- */
@@ -324,6 +237,7 @@ static void figures_of_nest(const struct nest *nest)
     struct call sheet = writing_call(ENTRY_SHEET, &table, FLOW_SHEET_BYTES);
     struct call questions = asking_call(&table);
     struct call harden = writing_call(ENTRY_HARDEN, &small, FLOW_TABLE_BYTES);
+    harden.slices[SLICE_OUTPUT].length = hardened_length(&harden); /* sizing takes stack too */
     struct call run = running_call(ENTRY_RUN, &table, 5000, 2000);
     struct call guess = running_call(ENTRY_GUESS, &table, 5000, 2000);
     print_stack(nest->name, "flow_sheet", nodes, &sheet);
@@ -347,6 +261,7 @@ int main(void)
     setvbuf(stdout, NULL, _IOLBF, 0);
     printf("# Figures\n\nTimes are the best of several rounds, library and reference in turn.\n");
     figures_of_sizes();
+    figures_of_sizing();
     figures_of_questions();
     figures_of_nesting();
     figures_of_machines();

@@ -3,6 +3,7 @@
 #include <stdlib.h>
 #include <string.h>
 
+#include "copies.h"
 #include "kinds.h"
 #include "little_endian.h"
 #include "reference.h"
@@ -327,10 +328,10 @@ static unsigned sketch_open(struct sketch *s, unsigned parent, unsigned size)
 }
 
 /* Fills nodes in the order in which they were opened; each opens its children behind all others. */
-static void sketch_tree(struct sketch *s)
+static void sketch_tree(struct sketch *s, char sort)
 {
     char sorts[FLOW_MAX_NODES];
-    sorts[sketch_open(s, NO_PARENT, s->plan->nodes)] = 'C';
+    sorts[sketch_open(s, NO_PARENT, s->plan->nodes)] = sort;
     for (unsigned at = 0; at < s->count; at++) {
         struct sketch_node *node = &s->nodes[at];
         unsigned sizes[3];
@@ -382,10 +383,10 @@ static void number_tree(struct sketch *s, struct buffer *table)
     }
 }
 
-void generate_table(struct random *r, const struct plan *plan, struct buffer *table)
+unsigned generate_part(struct random *r, const struct plan *plan, char sort, struct buffer *table)
 {
     struct plan possible = *plan;
-    if (!size_exists(&possible, 'C', possible.nodes))
+    if (!size_exists(&possible, sort, possible.nodes))
         possible.nodes++;
     struct sketch *s = malloc(sizeof *s);
     if (s == NULL)
@@ -393,11 +394,17 @@ void generate_table(struct random *r, const struct plan *plan, struct buffer *ta
     s->plan = &possible;
     s->random = r;
     s->count = 0;
-    sketch_tree(s);
-    assemble_table(table, possible.variables, possible.arrays, possible.counts,
-                   possible.secret_variables, possible.secret_arrays);
+    sketch_tree(s, sort);
     number_tree(s, table);
+    unsigned top = s->nodes[0].number;
     free(s);
+    return top;
+}
+
+void generate_table(struct random *r, const struct plan *plan, struct buffer *table)
+{
+    assemble_table(table, plan->variables, plan->arrays, plan->counts, plan->secret_variables, plan->secret_arrays);
+    generate_part(r, plan, 'C', table);
 }
 
 void nested_loops_table(unsigned depth, struct buffer *t)
@@ -992,6 +999,52 @@ static void lend_output(struct random *r, struct call *call)
     fill_slice(r, &call->slices[SLICE_OUTPUT], random_percent(r, 40) ? right : odd_length(r, right, 100));
 }
 
+/* A length that tells whether the hardened table was sized right, or one at or beside that from which on nothing is sized. */
+static size_t length_that_tells(struct random *r, size_t right, size_t unsized)
+{
+    switch (random_below(r, 10)) {
+    case 0:
+    case 1:
+    case 2: return right;
+    case 3:
+    case 4: return right - 1;
+    case 5: return right + 1;
+    case 6: return right - 2 - random_below(r, 40);
+    case 7: return unsized - 1;
+    case 8: return unsized + random_below(r, 2);
+    default: return FLOW_TABLE_BYTES;
+    }
+}
+
+/* A table that hardens, with large expressions: most in conditions, some in values, some in any place. */
+static void generate_large_expressions(struct random *r, struct plan *plan, struct buffer *table)
+{
+    unsigned chance = random_below(r, 100);
+    unsigned level = COPIES_LEAST_LEVEL + random_below(r, plan->nodes);
+    plan->variables = plan->variables == 0 ? 1 : plan->variables;
+    plan->long_expressions = 60;
+    if (chance < 80)
+        copies_table(r, plan, chance < 60 ? COPIES_MANY : COPIES_FEW, level, table);
+    else
+        generate_table(r, plan, table);
+}
+
+/* Hardening such a table into an output whose length depends on these expressions. */
+static void lend_large_expressions(struct random *r, bool small, struct call *call)
+{
+    struct plan plan = plan_small(r, 1);
+    struct buffer table = {0};
+    unsigned most = small ? 60 : FLOW_MAX_HARDENED_NODES;
+    plan.nodes = random_percent(r, 25) ? most : COPIES_LEAST_NODES + random_below(r, most - COPIES_LEAST_NODES);
+    generate_large_expressions(r, &plan, &table);
+    slice_free(&call->slices[SLICE_TABLE]);
+    slice_free(&call->slices[SLICE_OUTPUT]);
+    slice_from(&call->slices[SLICE_TABLE], table.bytes, table.length);
+    buffer_free(&table);
+    size_t unsized = 20 + 6 * (size_t)plan.arrays + 80 * (size_t)plan.nodes;
+    fill_slice(r, &call->slices[SLICE_OUTPUT], length_that_tells(r, output_length(call), unsized));
+}
+
 static void lend_questions(struct random *r, struct call *call)
 {
     struct buffer list = {0};
@@ -1085,4 +1138,6 @@ void generate_call(struct random *r, bool small, struct call *call)
         lend_questions(r, call);
     else
         lend_state(r, &plan, call);
+    if (call->entry == ENTRY_HARDEN && random_percent(r, 20)) /* last, so that a seed's other calls stay as they were */
+        lend_large_expressions(r, small, call);
 }

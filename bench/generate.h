@@ -42,6 +42,12 @@ struct plan plan_small(struct random *r, unsigned most_nodes);
 struct plan plan_boundary(struct random *r); /* sizes at and beside the limits */
 struct plan plan_any(struct random *r);
 
+/*
+ * Puts nodes for one subtree into a table that was started, exactly as many as planned, and returns the number of its top, which
+ * is the last.  `sort` is a letter of kinds.h.  (Where no subtree of this sort has 2 nodes, they are made 3.)
+ */
+unsigned generate_part(struct random *r, const struct plan *plan, char sort, struct buffer *table);
+
 /* Puts a valid table of exactly the planned size.  (Where the plan has no variables, 2 nodes are made 3.) */
 void generate_table(struct random *r, const struct plan *plan, struct buffer *table);
 

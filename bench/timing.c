@@ -15,7 +15,7 @@ static double now(void)
 }
 
 /* Seconds for `times` turns through all calls. */
-static double time_turns(uint64_t (*perform)(struct call *), struct call *calls, unsigned count, unsigned times)
+static double time_turns(performer *perform, struct call *calls, unsigned count, unsigned times)
 {
     double start = now();
     for (unsigned turn = 0; turn < times; turn++)
@@ -25,7 +25,7 @@ static double time_turns(uint64_t (*perform)(struct call *), struct call *calls,
 }
 
 /* How many turns fill a round. */
-static unsigned turns_for_round(uint64_t (*perform)(struct call *), struct call *calls, unsigned count)
+static unsigned turns_for_round(performer *perform, struct call *calls, unsigned count)
 {
     unsigned times = 1;
     while (time_turns(perform, calls, count, times) < round_seconds && times < 1u << 20)
@@ -41,38 +41,37 @@ static void keep_least(double *least, double seconds, unsigned calls)
 
 /* The turns of a round, on each. */
 struct turns {
-    unsigned library, reference;
+    unsigned library, other;
 };
 
-static struct turns find_turns(struct call *calls, unsigned count)
+static struct turns find_turns(struct performers both, struct call *calls, unsigned count)
 {
-    unsigned library = turns_for_round(call_library, calls, count);
-    return (struct turns){library, turns_for_round(call_reference, calls, count)};
+    unsigned library = turns_for_round(both.library, calls, count);
+    return (struct turns){library, turns_for_round(both.other, calls, count)};
 }
 
-static void time_round(struct call *calls, unsigned count, struct turns turns, struct timing *best)
+static void time_round(struct performers both, struct call *calls, unsigned count, struct turns turns, struct timing *best)
 {
-    keep_least(&best->library, time_turns(call_library, calls, count, turns.library), turns.library * count);
-    keep_least(&best->reference, time_turns(call_reference, calls, count, turns.reference), turns.reference * count);
+    keep_least(&best->library, time_turns(both.library, calls, count, turns.library), turns.library * count);
+    keep_least(&best->other, time_turns(both.other, calls, count, turns.other), turns.other * count);
 }
 
-struct timing time_calls(struct call *calls, unsigned count)
+void time_groups(struct performers both, struct call *const *groups, unsigned group_count, unsigned count,
+                 struct timing *timings)
 {
-    struct timing best = {0, 0};
-    struct turns turns = find_turns(calls, count);
-    for (unsigned round = 0; round < ROUNDS; round++)
-        time_round(calls, count, turns, &best);
-    return best;
-}
-
-void time_groups(struct call *const groups[2], unsigned count, struct timing timings[2])
-{
-    struct turns turns[2];
-    for (unsigned i = 0; i < 2; i++) {
+    struct turns turns[MOST_GROUPS];
+    for (unsigned i = 0; i < group_count; i++) {
         timings[i] = (struct timing){0, 0};
-        turns[i] = find_turns(groups[i], count);
+        turns[i] = find_turns(both, groups[i], count);
     }
     for (unsigned round = 0; round < ROUNDS; round++)
-        for (unsigned i = 0; i < 2; i++)
-            time_round(groups[i], count, turns[i], &timings[i]);
+        for (unsigned i = 0; i < group_count; i++)
+            time_round(both, groups[i], count, turns[i], &timings[i]);
+}
+
+struct timing time_calls(struct performers both, struct call *calls, unsigned count)
+{
+    struct timing timing;
+    time_groups(both, (struct call *const[]){calls}, 1, count, &timing);
+    return timing;
 }

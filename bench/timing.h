@@ -4,14 +4,24 @@
 
 #include "call.h"
 
+enum { MOST_GROUPS = 3 };
+
+typedef uint64_t performer(struct call *call);
+
+/* The library, and what it is timed beside: the reference, or another library. */
+struct performers {
+    performer *library, *other;
+};
+
 struct timing {
-    double library, reference; /* seconds a call */
+    double library, other; /* seconds a call */
 };
 
 /* Times the same calls on both, in turn, and takes each one's best round, which other processes disturb least. */
-struct timing time_calls(struct call *calls, unsigned count);
+struct timing time_calls(struct performers both, struct call *calls, unsigned count);
 
-/* Times two groups of so many calls, both on both, all four in turn: for a ratio of the one group to the other. */
-void time_groups(struct call *const groups[2], unsigned count, struct timing timings[2]);
+/* Times up to MOST_GROUPS groups of so many calls, each on both, all in turn: for ratios of one group to another, or differences. */
+void time_groups(struct performers both, struct call *const *groups, unsigned group_count, unsigned count,
+                 struct timing *timings);
 
 #endif

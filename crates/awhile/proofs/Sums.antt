@@ -1,5 +1,5 @@
 -- Sums over the numbers below a bound, and sums over a list by how often each number stands in it.
-use Prim.Native.Nat.{ℕ, zero, suc, _+_, _*_, _<_}
+use Prim.Native.Nat.{ℕ, zero, suc, _+_, _*_, _≤_, _<_}
 use native.Mathlib.Nat.{add-mul, zero-mul, one-mul}
 use native.Mathlib.Omega.{arith}
 use mathlib.Core.Bool.{Bool, true, false, cond}
@@ -20,6 +20,12 @@ pub sumBelow-same : (bound : ℕ) (f g : ℕ → ℕ) → ((n : ℕ) → n < bou
 unfolding sumBelow
 sumBelow-same zero f g same = refl
 sumBelow-same (suc n) f g same = omega (arith, sumBelow-same n f g (λ m below. same m (omega arith)), same n (omega arith))
+
+-- smaller values have no larger sum
+pub sumBelow-most : (bound : ℕ) (f g : ℕ → ℕ) → ((n : ℕ) → n < bound → f n ≤ g n) → sumBelow bound f ≤ sumBelow bound g
+unfolding sumBelow
+sumBelow-most zero f g most = omega arith
+sumBelow-most (suc n) f g most = omega (arith, sumBelow-most n f g (λ m below. most m (omega arith)), most n (omega arith))
 
 -- zeros sum to zero
 pub sumBelow-zero : (bound : ℕ) → sumBelow bound (λ n. 0) ≡ 0

@@ -1,12 +1,11 @@
 -- Calls on a node's children: their numbers are lower, and so are the measures. A node's is 3 times its number, so that up to two calls on the same
 -- children fall by 1 each.
-use Prim.Native.Nat.{ℕ, suc, _+_, _*_, _≤_, _<_, max}
+use Prim.Native.Nat.{ℕ, suc, _+_, _*_, _<_, max}
 use native.Mathlib.Omega.{arith}
 use mathlib.Core.List.{List}
-use mathlib.Core.Path.{_≡_, subst}
+use mathlib.Core.Path.{_≡_}
 use Rattle.awhile.specs.Language.{AExp, BExp}
 use Rattle.awhile.specs.Encoding.{nodesOfA, nodesOfB}
-use Rattle.awhile.specs.Tables.{maxNodes}
 use Rattle.reader.specs.Index.{Indexed, numericIn, truthIn, OfSort}
 use Rattle.awhile.specs.declared.Sort.{Sort}
 use Rattle.awhile.specs.declared.Sort.the-variants.{Numeric, Truth}
@@ -48,30 +47,6 @@ module _ {table index out : List ℕ} {from t n : ℕ} where
     pub call-truth : {s : Sort} {j k : ℕ} → Child table s n j × Child table s n k × (truthIn table n ≡ e)
         → (3 * max j k + 2 < t) × ((OfSort table index s j × OfSort table index s k) × Room from (nodesOfB e) (bytesOfB e) out)
     call-truth p = let q = lower-pair (pre .0) (pre .1 .0 .indexed) (p .0) (p .1) in (q .0, (q .1, room-B (p .2) (pre .1 .1)))
-
--- and their sizes within the nodes that a table has
-module _ {table index : List ℕ} {t n : ℕ} where
-  module _ (pre : (3 * n ≡ t) × (OfSort table index Numeric n × (nodesOfA (numericIn table n) ≤ maxNodes))) {e : AExp} where
-    pub within-A : numericIn table n ≡ e → nodesOfA e ≤ maxNodes
-    within-A is = subst (λ e. nodesOfA e ≤ maxNodes) is (pre .1 .1)
-
-    pub size-pair : {j k : ℕ} → Child table Numeric n j × Child table Numeric n k × (numericIn table n ≡ e)
-        → (3 * max j k + 2 < t) × ((OfSort table index Numeric j × OfSort table index Numeric k) × (nodesOfA e ≤ maxNodes))
-    size-pair p = let q = lower-pair (pre .0) (pre .1 .0 .indexed) (p .0) (p .1) in (q .0, (q .1, within-A (p .2)))
-
-    pub size-child : {s : Sort} {k i : ℕ} → Child table s n k → numericIn table n ≡ e → i ≤ nodesOfA e → (3 * k < t) × (OfSort table index s k × (i ≤ maxNodes))
-    size-child child is small = let q = lower (pre .0) (pre .1 .0 .indexed) child in (q .0, (q .1, omega (arith, within-A is)))
-
-  module _ (pre : (3 * n ≡ t) × (OfSort table index Truth n × (nodesOfB (truthIn table n) ≤ maxNodes))) {e : BExp} where
-    pub within-B : truthIn table n ≡ e → nodesOfB e ≤ maxNodes
-    within-B is = subst (λ e. nodesOfB e ≤ maxNodes) is (pre .1 .1)
-
-    pub size-compared : {j k : ℕ} → Child table Numeric n j × Child table Numeric n k × (truthIn table n ≡ e)
-        → (3 * max j k + 2 < t) × ((OfSort table index Numeric j × OfSort table index Numeric k) × (nodesOfB e ≤ maxNodes))
-    size-compared p = let q = lower-pair (pre .0) (pre .1 .0 .indexed) (p .0) (p .1) in (q .0, (q .1, within-B (p .2)))
-
-    pub size-truth : {k i : ℕ} → Child table Truth n k → truthIn table n ≡ e → i ≤ nodesOfB e → (3 * k < t) × (OfSort table index Truth k × (i ≤ maxNodes))
-    size-truth child is small = let q = lower (pre .0) (pre .1 .0 .indexed) child in (q .0, (q .1, omega (arith, within-B is)))
 
 -- the members of a pair, in a function that adds so many calls and one to their measure
 module _ (j k more : ℕ) {t : ℕ} (is : 3 * max j k + suc more ≡ t) where

@@ -13,8 +13,7 @@ use Rattle.copier.specs.Sizes.{Sized, Few}
 use Rattle.copier.specs.Written.{Appended, Wrote, WroteTwo, Both, pairOf, Room}
 use Rattle.copier.specs.declared.Size.{Size}
 use Rattle.copier.specs.declared.Pair.{Pair}
-use Rattle.copier.proofs.SizeSums.{Short}
-use Rattle.copier.proofs.Lengths.{Counted, counted-append}
+use Rattle.copier.proofs.Lengths.{Short, Counted, counted-append}
 use Rattle.copier.proofs.Writers.{sizeIs, restOf, withRest, wrote-sized, wrote-as, wrote-answer, wrote-parent, wrote-rest, room-parent}
 
 -- the second part is numbered on from the first

@@ -1,5 +1,5 @@
 -- What is written for an expression or a command has the counted nodes and bytes, whatever number its first node has.
-use Prim.Native.Nat.{ℕ, _+_, _<_}
+use Prim.Native.Nat.{ℕ, _+_, _*_, _≤_, _<_}
 use native.Mathlib.Omega.{arith}
 use mathlib.Core.Bool.{cond}
 use mathlib.Core.Path.{_≡_, refl}
@@ -14,7 +14,6 @@ use Rattle.awhile.specs.Encoding.{nodesOfA, nodesOfB, nodesOf, binary, ternary,
 use Rattle.awhile.proofs.Lists.{flatMap-append}
 use Rattle.awhile.proofs.Records.{length-nodeBytes}
 use Rattle.copier.specs.Sizes.{bytesOfA, bytesOfB, bytesOf}
-use Rattle.copier.proofs.SizeSums.{Short}
 use Rattle.awhile.specs.declared.Node.{Node}
 use Rattle.awhile.specs.declared.Node.the-variants.{Number, Variable}
 use Rattle.awhile.specs.declared.Node.the-variants.{Constant}
@@ -38,16 +37,16 @@ counted-append {ms} {ns} a b =
 
 -- a parent behind one, two or three parts
 module _ (n : Node) {size : ℕ} (own : sizeOf n ≡ size) {ms : List Node} {i j : ℕ} (a : Counted ms i j) where
-  over-one : Counted (ms ++ (n ∷ [])) (i + 1) (j + size)
+  pub over-one : Counted (ms ++ (n ∷ [])) (i + 1) (j + size)
   over-one = rw own at (counted-append a (counted-node n))
 
   module _ {ns : List Node} {k l : ℕ} (b : Counted ns k l) where
-    over-two : Counted (ms ++ (ns ++ (n ∷ []))) (i + k + 1) (j + l + size)
+    pub over-two : Counted (ms ++ (ns ++ (n ∷ []))) (i + k + 1) (j + l + size)
     over-two =
         let r = counted-append a (counted-append b (counted-node n)) in
         record { nodesAre = omega (arith, r .nodesAre); bytesAre = omega (arith, r .bytesAre) }
 
-    over-three : {ls : List Node} {p q : ℕ} → Counted ls p q → Counted (ms ++ (ns ++ (ls ++ (n ∷ [])))) (i + k + p + 1) (j + l + q + size)
+    pub over-three : {ls : List Node} {p q : ℕ} → Counted ls p q → Counted (ms ++ (ns ++ (ls ++ (n ∷ [])))) (i + k + p + 1) (j + l + q + size)
     over-three c =
         let r = counted-append a (counted-append b (counted-append c (counted-node n))) in
         record { nodesAre = omega (arith, r .nodesAre); bytesAre = omega (arith, r .bytesAre) }
@@ -81,6 +80,10 @@ counted-C from (if n b c d) =
 counted-C from (while n b c) = over-two _ refl (counted-B from b) (counted-C (from + nodesOfB b) c)
 counted-C from (read n x a i) = over-one _ refl (counted-A from i)
 counted-C from (write n a i e) = over-two _ refl (counted-A from i) (counted-A (from + nodesOfA i) e)
+
+-- a size whose bytes are at most 10 for each node
+pub record Short (nodes bytes : ℕ) : Type 0 where
+  pub short : bytes ≤ 10 * nodes
 
 -- no record is longer than 10 bytes
 mutual

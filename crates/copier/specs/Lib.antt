@@ -2,3 +2,4 @@
 pub mod Records
 pub mod Written
 pub mod Sizes
+pub mod Totals

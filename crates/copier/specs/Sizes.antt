@@ -1,5 +1,5 @@
 -- How much an expression or a command takes when it is written: its nodes are counted by `nodesOf..` of awhile, its bytes here.
--- Neither depends on how the nodes are numbered (`proofs/Sizes`).
+-- Neither depends on how the nodes are numbered (proofs/Lengths).
 use Prim.Native.Nat.{ℕ, _+_, _*_, _≤_}
 use mathlib.Core.Path.{_≡_}
 use Rattle.awhile.specs.Language.{AExp, number, variable, add, subtract, multiply, choice}

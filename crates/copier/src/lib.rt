@@ -1,7 +1,7 @@
-// Copies expressions of a table into another, renumbered, and tells how long copies are.
+// Copies expressions of a table into another, renumbered, and adds up how much copies take.
 pub mod copies;
 pub mod records;
-pub mod sizes;
+pub mod totals;
 
 // How much is written: so many nodes, in so many bytes.
 pub struct Size {

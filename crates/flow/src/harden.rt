@@ -6,6 +6,7 @@ use awhile::Declarations;
 use awhile::MAX_NODES;
 use awhile::MAX_VARIABLES;
 use awhile::Refusal;
+use hardener::tables::MAX_HARDENED;
 use hardener::tables::hardened_fits;
 use hardener::tables::write_hardened;
 use masking::deciding::decide_all;
@@ -22,10 +23,7 @@ ghost use Rattle.flow.specs.Writes.{HasHardened, DecideReady};
 ghost use Rattle.entries.specs.Promises.{writtenAt, Hardens};
 ghost use Rattle.entries.specs.Writing.{writing, hardenedIn};
 
-// The most nodes that are hardened: eight come out per node at most, and a table has no more than MAX_NODES.
-const MAX_HARDENED: usize = 512;
-
-// The analysis notes two words for each of them.
+// The analysis notes two words for each node that is hardened.
 const NOTE_WORDS: usize = 1024;
 
 // Labels a table that was read, and decides what is masked in it. The notes of the analysis are needed only here.

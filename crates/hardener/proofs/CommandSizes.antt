@@ -1,102 +1,96 @@
--- The sizes of what hardening adds, counted.
+-- The totals of what hardening adds, that it stays small, and that it does not depend on the flag's number.
 use Prim.Native.Nat.{ℕ, _+_, _*_, _≤_}
 use native.Mathlib.Omega.{arith}
 use mathlib.Core.Bool.{Bool, true, false, cond}
 use mathlib.Core.List.{List}
+use mathlib.Core.Option.{none, some}
 use mathlib.Core.Path.{_≡_, refl}
 use Rattle.awhile.specs.Language.{AExp, BExp, Com, skip, assign, sequence, if, while, read, write}
 use Rattle.awhile.specs.Encoding.{nodesOfA, nodesOfB, nodesOf}
-use Rattle.awhile.specs.Tables.{maxNodes}
+use Rattle.reader.specs.Index.{truthIn}
 use Rattle.masks.specs.Decisions.{Decision, decision}
 use Rattle.masks.specs.Hardening.{Origin, maskedCondition, zeroIfGuessing, maskedIndex, flagIfTrue, flagIfFalse, maskValueOf, harden}
 use Rattle.masking.specs.InMemory.{hardenedIn, flagUpdate, testIn, sideIn, ifIn, loopIn, whileIn}
-use Rattle.copier.specs.Sizes.{bytesOfA, bytesOfB, bytesOf, Sized, Few}
-use Rattle.copier.specs.declared.Size.{Size}
-use Rattle.copier.proofs.SizeSums.{Short}
+use Rattle.copier.specs.Sizes.{bytesOfA, bytesOfB, bytesOf}
+use Rattle.copier.specs.Totals.{total, totalOfA, totalOfB, totalOf}
+
+-- ---- totals
+-- a mask adds no more than its nodes and bytes
+pub mask-most : (mask : Bool) (n : ℕ) → cond mask n 0 ≤ n
+mask-most true n = omega arith
+mask-most false n = omega arith
+
+module _ (f : ℕ) where
+  -- a condition with its mask or without
+  test-total : (mask : Bool) (b : BExp) → totalOfB (maskedCondition f mask b) ≡ totalOfB b + cond mask (total 4 30) 0
+  unfolding maskedCondition nodesOfB bytesOfB
+  test-total true b = omega arith
+  test-total false b = omega arith
+
+  -- an index
+  place-total : (mask : Bool) (i : AExp) → totalOfA (maskedIndex f mask i) ≡ totalOfA i + cond mask (total 5 40) 0
+  unfolding maskedIndex zeroIfGuessing nodesOfA bytesOfA
+  place-total true i = omega arith
+  place-total false i = omega arith
+
+  -- a read
+  pub read-total : (x a n : ℕ) (mask hide : Bool) (i : AExp) → totalOf (harden f (read (decision n false mask hide) x a i))
+      ≡ totalOfA i + cond mask (total 5 40) 0 + cond hide (total 8 62) 0 + total 1 10
+  unfolding harden maskValueOf zeroIfGuessing nodesOf bytesOf nodesOfA bytesOfA
+  read-total x a n mask true i = omega (arith, place-total mask i)
+  read-total x a n mask false i = omega (arith, place-total mask i)
+
+  -- a write
+  pub write-total : (a n : ℕ) (mask : Bool) (i e : AExp) → totalOf (harden f (write (decision n false mask false) a i e))
+      ≡ totalOfA i + cond mask (total 5 40) 0 + totalOfA e + total 1 10
+  unfolding harden nodesOf bytesOf
+  write-total a n mask i e = omega (arith, place-total mask i)
+
+  -- an if and a loop, from their condition and their sides
+  module _ (table ds : List ℕ) (b : ℕ) (mask : Bool) (o : Origin) where
+    pub if-total : (c d : ℕ) → totalOf (ifIn table ds f b mask o c d)
+        ≡ 3 * (totalOfB (truthIn table b) + cond mask (total 4 30) 0) + totalOf (hardenedIn table ds f c) + totalOf (hardenedIn table ds f d) + total 11 90
+    unfolding ifIn sideIn testIn flagUpdate flagIfTrue flagIfFalse nodesOf bytesOf nodesOfA bytesOfA
+    if-total c d = omega (arith, test-total mask (truthIn table b))
+
+    pub while-total : (c : ℕ) → totalOf (whileIn table ds f b mask o c)
+        ≡ 3 * (totalOfB (truthIn table b) + cond mask (total 4 30) 0) + totalOf (hardenedIn table ds f c) + total 11 88
+    unfolding whileIn loopIn sideIn testIn flagUpdate flagIfTrue flagIfFalse nodesOf bytesOf nodesOfA bytesOfA
+    while-total c = omega (arith, test-total mask (truthIn table b))
+
+-- ---- what comes out stays small, whatever is masked
+module _ (f : ℕ) where
+  test-nodes : (mask : Bool) (b : BExp) → nodesOfB (maskedCondition f mask b) ≤ nodesOfB b + 4
+  unfolding maskedCondition nodesOfB
+  test-nodes true b = omega arith
+  test-nodes false b = omega arith
+
+  place-nodes : (mask : Bool) (i : AExp) → nodesOfA (maskedIndex f mask i) ≤ nodesOfA i + 5
+  unfolding maskedIndex zeroIfGuessing nodesOfA
+  place-nodes true i = omega arith
+  place-nodes false i = omega arith
+
+  hidden-nodes : (hide : Bool) (x : ℕ) (c : Com Origin) → nodesOf (cond hide (sequence none c (maskValueOf f x)) c) ≤ nodesOf c + 8
+  unfolding maskValueOf zeroIfGuessing nodesOf nodesOfA
+  hidden-nodes true x c = omega arith
+  hidden-nodes false x c = omega arith
+
+  -- at most 24 nodes come out per node put in; with the labels' decisions it is 8 (`hardened-size`), but that is known of whole programs only
+  pub grown : (d : Com Decision) → nodesOf (harden f d) ≤ 24 * nodesOf d
+  unfolding harden nodesOf flagIfTrue flagIfFalse nodesOfA
+  grown (skip n) = omega arith
+  grown (assign n x e) = omega arith
+  grown (sequence n c d) = omega (arith, grown c, grown d)
+  grown (if n b c d) = omega (arith, test-nodes (n .maskCondition) b, grown c, grown d)
+  grown (while n b c) = omega (arith, test-nodes (n .maskCondition) b, grown c)
+  grown (read n x a i) =
+      omega (arith, hidden-nodes (n .maskValue) x (read (some (n .node)) x a (maskedIndex f (n .maskIndex) i)), place-nodes (n .maskIndex) i)
+  grown (write n a i e) = omega (arith, place-nodes (n .maskIndex) i)
 
 -- so many nodes and bytes are so many
 pub record SameSize (nodes bytes trueNodes trueBytes : ℕ) : Type 0 where
   pub nodesSame : nodes ≡ trueNodes
   pub bytesSame : bytes ≡ trueBytes
-
-pub few-same : {x y n b : ℕ} → SameSize x y n b → Short n b → n ≤ maxNodes → Few x y
-few-same e f h = record { fewNodes = omega (arith, e .nodesSame); fewBytes = omega (arith, e .bytesSame, f .short) }
-
-pub sized-same : {x y n b : ℕ} {r : Size} → SameSize x y n b → Sized x y r → Sized n b r
-sized-same e s = record { nodesCounted = omega (arith, e .nodesSame, s .nodesCounted); bytesCounted = omega (arith, e .bytesSame, s .bytesCounted) }
-
-module _ (f : ℕ) where
-  -- a condition with its mask, and one without
-  module _ {mask : Bool} (b : BExp) {s : Size} where
-    pub masked-test : mask ≡ true → Sized (nodesOfB b) (bytesOfB b) s
-        → SameSize (s .nodes + 4) (s .bytes + 30) (nodesOfB (maskedCondition f mask b)) (bytesOfB (maskedCondition f mask b))
-    unfolding maskedCondition nodesOfB bytesOfB
-    masked-test e z = rw e (record { nodesSame = omega (arith, z .nodesCounted); bytesSame = omega (arith, z .bytesCounted) })
-
-    pub bare-test : mask ≡ false → Sized (nodesOfB b) (bytesOfB b) s → Sized (nodesOfB (maskedCondition f mask b)) (bytesOfB (maskedCondition f mask b)) s
-    unfolding maskedCondition
-    bare-test e z = rw e z
-
-  -- an index with its mask, and one without
-  module _ {mask : Bool} (i : AExp) {s : Size} where
-    pub masked-place : mask ≡ true → Sized (nodesOfA i) (bytesOfA i) s
-        → SameSize (s .nodes + 5) (s .bytes + 40) (nodesOfA (maskedIndex f mask i)) (bytesOfA (maskedIndex f mask i))
-    unfolding maskedIndex zeroIfGuessing nodesOfA bytesOfA
-    masked-place e z = rw e (record { nodesSame = omega (arith, z .nodesCounted); bytesSame = omega (arith, z .bytesCounted) })
-
-    pub bare-place : mask ≡ false → Sized (nodesOfA i) (bytesOfA i) s → Sized (nodesOfA (maskedIndex f mask i)) (bytesOfA (maskedIndex f mask i)) s
-    unfolding maskedIndex
-    bare-place e z = rw e z
-
-  -- masking adds nodes
-  pub mask-nodes-B : (mask : Bool) (b : BExp) → nodesOfB b ≤ nodesOfB (maskedCondition f mask b)
-  unfolding maskedCondition nodesOfB
-  mask-nodes-B true b = omega arith
-  mask-nodes-B false b = omega arith
-
-  pub mask-nodes-A : (mask : Bool) (i : AExp) → nodesOfA i ≤ nodesOfA (maskedIndex f mask i)
-  unfolding maskedIndex zeroIfGuessing nodesOfA
-  mask-nodes-A true i = omega arith
-  mask-nodes-A false i = omega arith
-
-  -- a read has more nodes than its index
-  pub read-index : (x a n : ℕ) (mask hide : Bool) (i : AExp) → nodesOf (harden f (read (decision n false mask hide) x a i)) ≤ maxNodes
-      → nodesOfA (maskedIndex f mask i) ≤ maxNodes
-  unfolding harden nodesOf
-  read-index x a n mask true i h = omega arith
-  read-index x a n mask false i h = omega arith
-
-  -- a read
-  pub same-read : (x a n : ℕ) (mask hide : Bool) (i : AExp) {s : Size} → Sized (nodesOfA (maskedIndex f mask i)) (bytesOfA (maskedIndex f mask i)) s
-      → SameSize (s .nodes + cond hide 9 1) (s .bytes + cond hide 72 10) (nodesOf (harden f (read (decision n false mask hide) x a i)))
-      (bytesOf (harden f (read (decision n false mask hide) x a i)))
-  unfolding harden maskValueOf zeroIfGuessing nodesOf bytesOf nodesOfA bytesOfA
-  same-read x a n mask true i s = record { nodesSame = omega (arith, s .nodesCounted); bytesSame = omega (arith, s .bytesCounted) }
-  same-read x a n mask false i s = record { nodesSame = omega (arith, s .nodesCounted); bytesSame = omega (arith, s .bytesCounted) }
-
-  -- an if and a loop, from their condition and their sides
-  module _ (table ds : List ℕ) (b : ℕ) (mask : Bool) {s : Size} (z : Sized (nodesOfB (testIn table f b mask)) (bytesOfB (testIn table f b mask)) s) where
-    pub same-if : (o : Origin) (c d : ℕ) {u w : Size} → Sized (nodesOf (hardenedIn table ds f c)) (bytesOf (hardenedIn table ds f c)) u
-        → Sized (nodesOf (hardenedIn table ds f d)) (bytesOf (hardenedIn table ds f d)) w
-        → SameSize (3 * s .nodes + u .nodes + w .nodes + 11) (3 * s .bytes + u .bytes + w .bytes + 90) (nodesOf (ifIn table ds f b mask o c d))
-        (bytesOf (ifIn table ds f b mask o c d))
-    unfolding ifIn sideIn flagUpdate flagIfTrue flagIfFalse nodesOf bytesOf nodesOfA bytesOfA
-    same-if o c d x y =
-        record {
-          nodesSame = omega (arith, z .nodesCounted, x .nodesCounted, y .nodesCounted);
-          bytesSame = omega (arith, z .bytesCounted, x .bytesCounted, y .bytesCounted);
-        }
-
-    pub same-while : (o : Origin) (c : ℕ) {u : Size} → Sized (nodesOf (hardenedIn table ds f c)) (bytesOf (hardenedIn table ds f c)) u
-        → SameSize (3 * s .nodes + u .nodes + 11) (3 * s .bytes + u .bytes + 88) (nodesOf (whileIn table ds f b mask o c))
-        (bytesOf (whileIn table ds f b mask o c))
-    unfolding whileIn loopIn sideIn flagUpdate flagIfTrue flagIfFalse nodesOf bytesOf nodesOfA bytesOfA
-    same-while o c x =
-        record { nodesSame = omega (arith, z .nodesCounted, x .nodesCounted); bytesSame = omega (arith, z .bytesCounted, x .bytesCounted) }
-
--- the size of a command is that of what it is
-pub sized-C : {c d : Com Origin} {r : Size} → c ≡ d → Sized (nodesOf d) (bytesOf d) r → Sized (nodesOf c) (bytesOf c) r
-sized-C p s = rw p s
 
 -- ---- sizes do not depend on the flag's number
 module _ (f g : ℕ) where

@@ -1,160 +1,182 @@
--- The size of a hardened command from the sizes of its parts, by its kind: what the parts ask, and what they make up.
-use Prim.Native.Nat.{ℕ, _+_, _*_, _≤_, _<_}
+-- The total of a node from those of its parts, and the totals of a table's nodes one behind the other.
+use Prim.Native.Nat.{ℕ, _+_, _*_, _<_}
+use native.Mathlib.Decide.{ℕ-discrete}
 use native.Mathlib.Omega.{arith}
-use mathlib.Core.Bool.{Bool, cond}
+use mathlib.Core.Bool.{cond}
 use mathlib.Core.List.{List}
 use mathlib.Core.Option.{some}
-use mathlib.Core.Path.{_≡_, refl, subst}
-use Rattle.awhile.specs.Language.{Com}
-use Rattle.awhile.specs.Encoding.{nodesOfA, nodesOfB, nodesOf}
-use Rattle.awhile.specs.Tables.{maxNodes}
+use mathlib.Core.Path.{_≡_, refl, sym, ap, _∙_}
+use lib.ListN.{getD, set, length-set}
+use lib.Seq.{getD-set-same, getD-set-other}
+use Rattle.bytes_le.proofs.Numbers.{Below}
+use Rattle.awhile.specs.Language.{Com, sequence}
+use Rattle.awhile.specs.Lists.{sum}
+use Rattle.awhile.specs.Nodes.{form, fieldSize, sizeOf, sortOf}
+use Rattle.awhile.specs.Encoding.{nodesOf, binary, writeC}
 use Rattle.awhile.specs.declared.Node.the-variants.{Skip, Assign, Sequence, If, While, Read, Write}
 use Rattle.awhile.specs.declared.Sort.the-variants.{Numeric, Truth, Command}
-use Rattle.reader.specs.Index.{numericIn, OfSort}
-use Rattle.reader.proofs.Index.{Child, Parts, child-of-sort}
-use Rattle.masks.specs.Hardening.{Origin, maskedIndex, harden}
-use Rattle.masking.specs.Deciding.{decisionIn}
-use Rattle.masking.specs.InMemory.{hardenedIn, testIn, sideIn, ifIn, loopIn, whileIn, Hardenable}
-use Rattle.copier.specs.Sizes.{bytesOfA, bytesOfB, bytesOf, Sized, Few}
-use Rattle.copier.specs.declared.Size.{Size}
-use Rattle.copier.proofs.SizeSums.{few-one, few-two, sized-one, sized-two}
-use Rattle.copier.proofs.Lengths.{bytes-A, bytes-C}
-use Rattle.hardener.proofs.CommandWrites.{in-skip, in-assign, in-sequence, in-if, in-while, in-read, in-write, child-hardenable}
-use Rattle.hardener.proofs.CommandSizes.{few-same, sized-same, same-read, same-if, same-while, sized-C, read-index}
+use Rattle.reader.specs.Index.{nodesIn, nodeIn, numericIn, truthIn, commandIn}
+use Rattle.reader.proofs.Index.{Child, Parts, numeric-size, truth-size, command-size}
+use Rattle.masks.specs.Hardening.{Origin}
+use Rattle.masks.proofs.Growth.{nodesOf-mapped}
+use Rattle.masking.specs.Deciding.{decisionIn, decidedIn}
+use Rattle.masking.specs.InMemory.{hardenedIn}
+use Rattle.copier.specs.Sizes.{bytesOf}
+use Rattle.copier.specs.Totals.{total, totalOf, Totals, OverTwo, Holds, NumericTotal, TruthTotal}
+use Rattle.copier.proofs.Lengths.{counted-C, bytes-A, bytes-B, bytes-C}
+use Rattle.copier.proofs.NodeTotals.{counted-total-A, counted-total-B, numeric-node, truth-node, command-node, totals-every-copy}
+use Rattle.hardener.specs.Sizes.{Sizable, NodeSize, SizesBelow, AllSized}
+use Rattle.hardener.proofs.CommandWrites.{in-skip, in-assign, in-sequence, in-if, in-while, in-read, in-write}
+use Rattle.hardener.proofs.CommandSizes.{read-total, write-total, if-total, while-total, grown}
 
--- a command is as small as what it is
-few-C : {c d : Com Origin} → c ≡ d → nodesOf c ≤ maxNodes → nodesOf d ≤ maxNodes
-few-C p few = subst (λ k. nodesOf k ≤ maxNodes) p few
+-- ---- commands
+-- a command's total is that of what it is
+total-C : {c d : Com Origin} {r : ℕ} → c ≡ d → r ≡ totalOf d → r ≡ totalOf c
+total-C p v = v ∙ ap totalOf (sym p)
 
--- the size of an expression, of a masked index, of a condition and of a command, by their nodes
-abbrev pub NumericSized : (table : List ℕ) → (e : ℕ) → Size → Type 0
-NumericSized table e s = Sized (nodesOfA (numericIn table e)) (bytesOfA (numericIn table e)) s
+-- and that of its nodes
+nodes-total : (from : ℕ) (c : Com Origin) {r : ℕ} → r ≡ totalOf c → Totals (writeC from c) r
+nodes-total from c e = let n = counted-C from c in record { adds = omega (arith, n .nodesAre, n .bytesAre) }
 
-abbrev pub IndexSized : (table : List ℕ) → (i : ℕ) → (mask : Bool) → Size → Type 0
-IndexSized table i mask s = let e = maskedIndex 0 mask (numericIn table i) in Sized (nodesOfA e) (bytesOfA e) s
+total-nodes : (from : ℕ) (c : Com Origin) {r : ℕ} → Totals (writeC from c) r → r ≡ totalOf c
+total-nodes from c t = let n = counted-C from c in omega (arith, t .adds, n .nodesAre, n .bytesAre)
 
-abbrev pub ConditionSized : (table : List ℕ) → (b : ℕ) → (mask : Bool) → Size → Type 0
-ConditionSized table b mask s = let e = testIn table 0 b mask in Sized (nodesOfB e) (bytesOfB e) s
+sequence-total : (o : Origin) (c d : Com Origin) {s u r : ℕ} → s ≡ totalOf c → u ≡ totalOf d → OverTwo s u r → r ≡ totalOf (sequence o c d)
+unfolding writeC binary sizeOf form fieldSize sum
+sequence-total o c d x y t =
+    total-nodes 0 (sequence o c d) (t .over (writeC 0 c) (writeC (0 + nodesOf c) d) _ refl (nodes-total 0 c x) (nodes-total (0 + nodesOf c) d y))
 
-abbrev pub CommandSized : (table ds : List ℕ) → (n : ℕ) → Size → Type 0
-CommandSized table ds n s = Sized (nodesOf (hardenedIn table ds 0 n)) (bytesOf (hardenedIn table ds 0 n)) s
+module _ {table ds totals : List ℕ} {n : ℕ} (t : SizesBelow table ds totals n) where
+  -- ---- the totals of a node's parts
+  pub part-A : {c : ℕ} → Child table Numeric n c → NumericTotal (numericIn table c) (getD totals c 0)
+  part-A {c} h = t .at c (h .below) .expression .numeric (h .isSort)
 
-module _ {table index ds : List ℕ} {n : ℕ} (pre : Hardenable table index ds n) (few : nodesOf (hardenedIn table ds 0 n) ≤ maxNodes) where
-  -- ---- commands without parts
-  pub skip-sized : Parts table n Skip → CommandSized table ds n (record { nodes = 1; bytes = 4 })
-  unfolding nodesOf bytesOf
-  skip-sized p = sized-C (in-skip table ds 0 n p) (record { nodesCounted = refl; bytesCounted = refl })
+  pub part-B : {c : ℕ} → Child table Truth n c → TruthTotal (truthIn table c) (getD totals c 0)
+  part-B {c} h = t .at c (h .below) .expression .truth (h .isSort)
 
-  module _ (x e : ℕ) (p : Parts table n (Assign x e)) where
-    assign-few : nodesOfA (numericIn table e) + 1 ≤ maxNodes
-    unfolding nodesOf
-    assign-few = few-C (in-assign table ds 0 n (p .2)) few
+  part-C : {c : ℕ} → Child table Command n c → getD totals c 0 ≡ totalOf (hardenedIn table ds 0 c)
+  part-C {c} h = t .at c (h .below) .command (h .isSort)
 
-    pub assign-value : OfSort table index Numeric e × (nodesOfA (numericIn table e) ≤ maxNodes)
-    assign-value = (child-of-sort (pre .node .indexed) (p .1), omega (arith, assign-few))
+  -- ---- the total of a command, by its kind
+  module _ {r : ℕ} where
+    pub assign-sized : (x e : ℕ) → Parts table n (Assign x e) → r ≡ getD totals e 0 + total 1 8 → r ≡ totalOf (hardenedIn table ds 0 n)
+    unfolding nodesOf bytesOf
+    assign-sized x e p v = total-C (in-assign table ds 0 n (p .2)) (omega (arith, v, counted-total-A (part-A (p .1))))
 
-    module _ {s : Size} (z : NumericSized table e s) where
-      pub assign-asks : Few (s .nodes + 1) (s .bytes + 8)
-      assign-asks = few-one 8 (omega arith) z (bytes-A (numericIn table e)) assign-few
+    pub sequence-sized : (c d : ℕ) → Parts table n (Sequence c d) → OverTwo (getD totals c 0) (getD totals d 0) r → r ≡ totalOf (hardenedIn table ds 0 n)
+    sequence-sized c d p v =
+        total-C (in-sequence table ds 0 n c d (p .2)) (sequence-total (some n) (hardenedIn table ds 0 c) (hardenedIn table ds 0 d) (part-C (p .0)) (part-C (p .1)) v)
 
-      pub assign-sized : {r : Size} → Sized (s .nodes + 1) (s .bytes + 8) r → CommandSized table ds n r
-      unfolding nodesOf bytesOf
-      assign-sized v = sized-C (in-assign table ds 0 n (p .2)) (sized-one 8 z v)
+    pub if-sized : (b c d : ℕ) → Parts table n (If b c d)
+        → r ≡ 3 * (getD totals b 0 + cond (decisionIn ds n .maskCondition) (total 4 30) 0) + getD totals c 0 + getD totals d 0 + total 11 90
+        → r ≡ totalOf (hardenedIn table ds 0 n)
+    if-sized b c d p v =
+        total-C (in-if table ds 0 n b c d (p .3) refl)
+        (omega (arith, v, counted-total-B (part-B (p .0)), part-C (p .1), part-C (p .2), if-total 0 table ds b (decisionIn ds n .maskCondition) (some n) c d))
 
-  module _ (x a i : ℕ) (p : Parts table n (Read x a i)) {mask hide : Bool} (e : mask ≡ decisionIn ds n .maskIndex) (g : hide ≡ decisionIn ds n .maskValue) where
-    pub read-place : OfSort table index Numeric i × (nodesOfA (maskedIndex 0 mask (numericIn table i)) ≤ maxNodes)
-    read-place = (child-of-sort (pre .node .indexed) (p .2), read-index 0 x a n mask hide (numericIn table i) (few-C (in-read table ds 0 n (p .3) e g) few))
+    pub while-sized : (b c : ℕ) → Parts table n (While b c)
+        → r ≡ 3 * (getD totals b 0 + cond (decisionIn ds n .maskCondition) (total 4 30) 0) + getD totals c 0 + total 11 88
+        → r ≡ totalOf (hardenedIn table ds 0 n)
+    while-sized b c p v =
+        total-C (in-while table ds 0 n b c (p .2) refl)
+        (omega (arith, v, counted-total-B (part-B (p .0)), part-C (p .1), while-total 0 table ds b (decisionIn ds n .maskCondition) (some n) c))
 
-    module _ {s : Size} (z : IndexSized table i mask s) where
-      pub read-asks : Few (s .nodes + cond hide 9 1) (s .bytes + cond hide 72 10)
-      read-asks = few-same (same-read 0 x a n mask hide (numericIn table i) z) (bytes-C _) (few-C (in-read table ds 0 n (p .3) e g) few)
+    pub read-sized : (x a i : ℕ) → Parts table n (Read x a i)
+        → r ≡ getD totals i 0 + cond (decisionIn ds n .maskIndex) (total 5 40) 0 + cond (decisionIn ds n .maskValue) (total 8 62) 0 + total 1 10
+        → r ≡ totalOf (hardenedIn table ds 0 n)
+    read-sized x a i p v =
+        total-C (in-read table ds 0 n (p .3) refl refl)
+        (omega (arith, v, counted-total-A (part-A (p .2)), read-total 0 x a n (decisionIn ds n .maskIndex) (decisionIn ds n .maskValue) (numericIn table i)))
 
-      pub read-sized : {r : Size} → Sized (s .nodes + cond hide 9 1) (s .bytes + cond hide 72 10) r → CommandSized table ds n r
-      read-sized v = sized-C (in-read table ds 0 n (p .3) e g) (sized-same (same-read 0 x a n mask hide (numericIn table i) z) v)
+    pub write-sized : (a i e : ℕ) → Parts table n (Write a i e)
+        → r ≡ getD totals i 0 + cond (decisionIn ds n .maskIndex) (total 5 40) 0 + getD totals e 0 + total 1 10
+        → r ≡ totalOf (hardenedIn table ds 0 n)
+    write-sized a i e p v =
+        total-C (in-write table ds 0 n (p .3) refl)
+        (omega (
+          arith,
+          v,
+          counted-total-A (part-A (p .1)),
+          counted-total-A (part-A (p .2)),
+          write-total 0 a n (decisionIn ds n .maskIndex) (numericIn table i) (numericIn table e),
+        ))
 
-  module _ (a i e : ℕ) (p : Parts table n (Write a i e)) {mask : Bool} (g : mask ≡ decisionIn ds n .maskIndex) where
-    write-few : nodesOfA (maskedIndex 0 mask (numericIn table i)) + nodesOfA (numericIn table e) + 1 ≤ maxNodes
-    unfolding harden nodesOf
-    write-few = few-C (in-write table ds 0 n (p .3) g) few
+  -- ---- the totals of parts are there, and small: the tree of node i has at most i + 1 nodes
+  module _ {index : List ℕ} (bytes : Below 256 table) (s : Sizable table index ds) {c : ℕ} where
+    pub holds-A : Child table Numeric n c → Holds totals c
+    holds-A h =
+        record {
+          inside = omega (arith, h .inside, t .room);
+          small = omega (
+            arith,
+            counted-total-A (part-A h),
+            numeric-size table index bytes (s .indexed) c (h .inside) (h .isSort),
+            h .inside,
+            s .few,
+            bytes-A (numericIn table c) .short,
+          );
+        }
 
-    pub write-place : OfSort table index Numeric i × (nodesOfA (maskedIndex 0 mask (numericIn table i)) ≤ maxNodes)
-    write-place = (child-of-sort (pre .node .indexed) (p .1), omega (arith, write-few))
+    pub holds-B : Child table Truth n c → Holds totals c
+    holds-B h =
+        record {
+          inside = omega (arith, h .inside, t .room);
+          small = omega (
+            arith,
+            counted-total-B (part-B h),
+            truth-size table index bytes (s .indexed) c (h .inside) (h .isSort),
+            h .inside,
+            s .few,
+            bytes-B (truthIn table c) .short,
+          );
+        }
 
-    pub write-value : OfSort table index Numeric e × (nodesOfA (numericIn table e) ≤ maxNodes)
-    write-value = (child-of-sort (pre .node .indexed) (p .2), omega (arith, write-few))
+    pub holds-C : Child table Command n c → Holds totals c
+    unfolding hardenedIn decidedIn
+    holds-C h =
+        record {
+          inside = omega (arith, h .inside, t .room);
+          small = omega (
+            arith,
+            part-C h,
+            command-size table index bytes (s .indexed) c (h .inside) (h .isSort),
+            h .inside,
+            s .few,
+            grown 0 (decidedIn table ds c),
+            nodesOf-mapped (decisionIn ds) (commandIn table c),
+            bytes-C (hardenedIn table ds 0 c) .short,
+          );
+        }
 
-    module _ {s u : Size} (y : IndexSized table i mask s) (z : NumericSized table e u) where
-      pub write-asks : Few (s .nodes + u .nodes + 1) (s .bytes + u .bytes + 10)
-      write-asks = few-two 10 (omega arith) y (bytes-A _) z (bytes-A (numericIn table e)) write-few
+  -- ---- with that of this node, those below the next have theirs
+  pub sizes-next : {r : ℕ} → n < nodesIn table → NodeSize table ds n r → SizesBelow table ds (set totals n r) (n + 1)
+  sizes-next {r} inside own = record { room = simp length-set (t .room); at = λ k below. go k below (ℕ-discrete k n) }
+    where
+      go : (k : ℕ) → k < n + 1 → Dec (k ≡ n) → NodeSize table ds k (getD (set totals n r) k 0)
+      go k below (yes e) = rw (e, getD-set-same totals n r 0 (omega (arith, t .room))) own
+      go k below (no e) = rw (getD-set-other totals n k r 0 e) (t .at k (omega arith))
 
-      pub write-sized : {r : Size} → Sized (s .nodes + u .nodes + 1) (s .bytes + u .bytes + 10) r → CommandSized table ds n r
-      unfolding harden nodesOf bytesOf
-      write-sized v = sized-C (in-write table ds 0 n (p .3) g) (sized-two 10 y z v)
+-- a skip is one node
+pub skip-sized : (table ds : List ℕ) (n : ℕ) → Parts table n Skip → total 1 4 ≡ totalOf (hardenedIn table ds 0 n)
+unfolding nodesOf bytesOf
+skip-sized table ds n p = total-C (in-skip table ds 0 n p) refl
 
-  -- ---- commands with parts, whose numbers are lower
-  child-sized : {t : ℕ} → n ≡ t → (c : ℕ) → Child table Command n c → nodesOf (hardenedIn table ds 0 c) ≤ maxNodes
-      → (c < t) × (Hardenable table index ds c × (nodesOf (hardenedIn table ds 0 c) ≤ maxNodes))
-  child-sized e c p h = (omega (arith, p .below), (child-hardenable pre p, h))
+-- ---- the total of a node, by its sort
+module _ {table ds : List ℕ} {n r : ℕ} where
+  pub numeric-sized : sortOf (nodeIn table n) ≡ Numeric → NumericTotal (numericIn table n) r → NodeSize table ds n r
+  numeric-sized e t = record { expression = numeric-node e t; command = λ s. absurd (let z : _≡_ {A = ℕ} 0 1 = cc in omega arith) }
 
-  module _ (c d : ℕ) (p : Parts table n (Sequence c d)) where
-    sequence-few : nodesOf (hardenedIn table ds 0 c) + nodesOf (hardenedIn table ds 0 d) + 1 ≤ maxNodes
-    unfolding nodesOf
-    sequence-few = few-C (in-sequence table ds 0 n c d (p .2)) few
+  pub truth-sized : sortOf (nodeIn table n) ≡ Truth → TruthTotal (truthIn table n) r → NodeSize table ds n r
+  truth-sized e t = record { expression = truth-node e t; command = λ s. absurd (let z : _≡_ {A = ℕ} 0 1 = cc in omega arith) }
 
-    module _ {t : ℕ} (e : n ≡ t) where
-      pub sequence-first : (c < t) × (Hardenable table index ds c × (nodesOf (hardenedIn table ds 0 c) ≤ maxNodes))
-      sequence-first = child-sized e c (p .0) (omega (arith, sequence-few))
+  pub command-sized : sortOf (nodeIn table n) ≡ Command → r ≡ totalOf (hardenedIn table ds 0 n) → NodeSize table ds n r
+  command-sized e t = record { expression = command-node e; command = λ s. t }
 
-      pub sequence-second : (d < t) × (Hardenable table index ds d × (nodesOf (hardenedIn table ds 0 d) ≤ maxNodes))
-      sequence-second = child-sized e d (p .1) (omega (arith, sequence-few))
-
-    module _ {s u : Size} (y : CommandSized table ds c s) (z : CommandSized table ds d u) where
-      pub sequence-asks : Few (s .nodes + u .nodes + 1) (s .bytes + u .bytes + 8)
-      sequence-asks = few-two 8 (omega arith) y (bytes-C (hardenedIn table ds 0 c)) z (bytes-C (hardenedIn table ds 0 d)) sequence-few
-
-      pub sequence-sized : {r : Size} → Sized (s .nodes + u .nodes + 1) (s .bytes + u .bytes + 8) r → CommandSized table ds n r
-      unfolding nodesOf bytesOf
-      sequence-sized v = sized-C (in-sequence table ds 0 n c d (p .2)) (sized-two 8 y z v)
-
-  module _ (b c d : ℕ) (p : Parts table n (If b c d)) {mask : Bool} (g : mask ≡ decisionIn ds n .maskCondition) where
-    if-few : nodesOf (ifIn table ds 0 b mask (some n) c d) ≤ maxNodes
-    if-few = few-C (in-if table ds 0 n b c d (p .3) g) few
-
-    pub if-condition : OfSort table index Truth b × (nodesOfB (testIn table 0 b mask) ≤ maxNodes)
-    unfolding ifIn sideIn nodesOf
-    if-condition = (child-of-sort (pre .node .indexed) (p .0), omega (arith, if-few))
-
-    module _ {t : ℕ} (e : n ≡ t) where
-      pub if-first : (c < t) × (Hardenable table index ds c × (nodesOf (hardenedIn table ds 0 c) ≤ maxNodes))
-      unfolding ifIn sideIn nodesOf
-      if-first = child-sized e c (p .1) (omega (arith, if-few))
-
-      pub if-second : (d < t) × (Hardenable table index ds d × (nodesOf (hardenedIn table ds 0 d) ≤ maxNodes))
-      unfolding ifIn sideIn nodesOf
-      if-second = child-sized e d (p .2) (omega (arith, if-few))
-
-    module _ {s u w : Size} (x : ConditionSized table b mask s) (y : CommandSized table ds c u) (z : CommandSized table ds d w) where
-      pub if-asks : Few (3 * s .nodes + u .nodes + w .nodes + 11) (3 * s .bytes + u .bytes + w .bytes + 90)
-      if-asks = few-same (same-if 0 table ds b _ x (some n) c d y z) (bytes-C _) if-few
-
-      pub if-sized : {r : Size} → Sized (3 * s .nodes + u .nodes + w .nodes + 11) (3 * s .bytes + u .bytes + w .bytes + 90) r → CommandSized table ds n r
-      if-sized v = sized-C (in-if table ds 0 n b c d (p .3) g) (sized-same (same-if 0 table ds b _ x (some n) c d y z) v)
-
-  module _ (b c : ℕ) (p : Parts table n (While b c)) {mask : Bool} (g : mask ≡ decisionIn ds n .maskCondition) where
-    while-few : nodesOf (whileIn table ds 0 b mask (some n) c) ≤ maxNodes
-    while-few = few-C (in-while table ds 0 n b c (p .2) g) few
-
-    pub while-condition : OfSort table index Truth b × (nodesOfB (testIn table 0 b mask) ≤ maxNodes)
-    unfolding whileIn loopIn sideIn nodesOf
-    while-condition = (child-of-sort (pre .node .indexed) (p .0), omega (arith, while-few))
-
-    pub while-body : {t : ℕ} → n ≡ t → (c < t) × (Hardenable table index ds c × (nodesOf (hardenedIn table ds 0 c) ≤ maxNodes))
-    unfolding whileIn loopIn sideIn nodesOf
-    while-body e = child-sized e c (p .1) (omega (arith, while-few))
-
-    module _ {s u : Size} (x : ConditionSized table b mask s) (y : CommandSized table ds c u) where
-      pub while-asks : Few (3 * s .nodes + u .nodes + 11) (3 * s .bytes + u .bytes + 88)
-      while-asks = few-same (same-while 0 table ds b _ x (some n) c y) (bytes-C _) while-few
-
-      pub while-sized : {r : Size} → Sized (3 * s .nodes + u .nodes + 11) (3 * s .bytes + u .bytes + 88) r → CommandSized table ds n r
-      while-sized v = sized-C (in-while table ds 0 n b c (p .2) g) (sized-same (same-while 0 table ds b _ x (some n) c y) v)
+-- ---- all nodes
+pub all-sized : {table index ds totals : List ℕ} → Below 256 table → Sizable table index ds → SizesBelow table ds totals (nodesIn table)
+    → AllSized table ds totals
+all-sized bytes s t =
+    record {
+      copies = totals-every-copy bytes (s .indexed) (record { at = λ n inside. t .at n inside .expression });
+      commands = λ n inside. t .at n inside .command;
+    }

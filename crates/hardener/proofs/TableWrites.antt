@@ -30,7 +30,9 @@ use Rattle.masking.specs.Deciding.{decisionIn, decidedIn}
 use Rattle.masking.specs.InMemory.{hardenedIn, Hardenable}
 use Rattle.masking.proofs.DecidedProgram.{program-hardened, program-large}
 use Rattle.hardener.specs.Output.{Measurable, Writable, WroteTable}
+use Rattle.hardener.specs.Sizes.{Sizable, AllSized}
 use Rattle.copier.specs.Sizes.{bytesOf}
+use Rattle.copier.specs.Totals.{bytesTold}
 use Rattle.copier.specs.Written.{Room, Wrote}
 use Rattle.copier.specs.declared.Size.{Size}
 use Rattle.copier.specs.Records.{recordBytes}
@@ -152,6 +154,9 @@ module _ {table index ds : List ℕ} {declared : Declarations} (bytes : Below 25
   pub measured-arrays : declared .header .arrays ≤ maxArrays
   measured-arrays = header-few-arrays (ready-header (m .ready)) bytes
 
+  pub measured-sizable : Sizable table index ds
+  measured-sizable = record { indexed = m .ready .indexed; few = m .few; room = m .decided .room }
+
   is-last : nodesIn table - 1 ≡ rootAt declared
   is-last = omega (arith, ready-nodes (m .ready))
 
@@ -196,6 +201,19 @@ module _ {table index ds : List ℕ} {declared : Declarations} (bytes : Below 25
   measured-length =
       let same = any-flag 0 (tableOf table .variables) (decidedIn table ds (rootAt declared)) in
       omega (arith, same .bytesSame, ap bytesOf root-hardened, table-length (tableOf table), same-start)
+
+  -- and by the total that is kept for it
+  pub measured-total : {totals : List ℕ} → AllSized table ds totals
+      → nodesStart (declared .header) + bytesTold (getD totals (rootAt declared) 0) ≡ length (tableBytes (hardenedTable (tableOf table)))
+  measured-total t =
+      let root = root-hardenable .node in
+      omega (
+        arith,
+        t .commands (rootAt declared) (root .inside) (root .isSort),
+        measured-length,
+        root-few,
+        bytes-C (hardenedIn table ds 0 (rootAt declared)) .short,
+      )
 
   -- at most 80 bytes come out per node put in
   pub measured-short : length (tableBytes (hardenedTable (tableOf table))) ≤ nodesStart (declared .header) + 80 * declared .header .nodes

@@ -1,6 +1,6 @@
 // The hardened table: its own header, the labels and arrays as they were, then the hardened nodes.
 use crate::commands::harden_command;
-use crate::totals::harden_size;
+use crate::sizes::size_all;
 use awhile::Declarations;
 use awhile::Header;
 use awhile::Labelling;
@@ -8,6 +8,7 @@ use bytes_le::get;
 use bytes_le::put;
 use copier::Record;
 use copier::records::put_record;
+use copier::totals::bytes_told;
 use reader::layout::HEADER_BYTES;
 use reader::layout::LABELS_BYTES;
 use reader::layout::LABELS_START;
@@ -24,6 +25,9 @@ ghost use Rattle.awhile.specs.Tables.{headerSize, labelsSize, countsStart, node
 ghost use Rattle.reader.specs.Index.{tableOf, HasHeader};
 ghost use Rattle.masks.specs.Hardening.{hardenedTable};
 ghost use Rattle.hardener.specs.Output.{Measurable, Writable, WroteTable};
+
+// The most nodes that are hardened: eight come out per node at most, and a table has no more than MAX_NODES.
+pub const MAX_HARDENED: usize = 512;
 
 // The header record.
 fn put_header(header: Header, out: &mut [u8])
@@ -69,6 +73,17 @@ fn put_counts(table: &[u8], header: Header, out: &mut [u8])
     }
 }
 
+// The byte length of the hardened table, off the total of its root. Only a table that is measured has totals.
+fn hardened_length(table: &[u8], index: &[u16], decisions: &[u8], declared: Declarations) -> usize
+    requires { ⌜ Measurable (now table) (now index) (now decisions) declared ⌝ }
+    ensures { λ r. ⌜ r ≡ length (tableBytes (hardenedTable (tableOf (now (table .entry))))) ⌝ }
+{
+    let header = declared.header;
+    let mut totals = [0u32; MAX_HARDENED];
+    size_all(table, index, decisions, header.nodes, &mut totals);
+    nodes_start(header) + bytes_told(totals[header.nodes - 1])
+}
+
 // Whether the hardened table fits a buffer. At most 8 nodes of at most 10 bytes come out per node put in, so a large buffer is not measured against.
 pub fn hardened_fits(
     table: &[u8],
@@ -81,12 +96,10 @@ pub fn hardened_fits(
     ensures { λ r. ⌜ r ≡ leb (length (tableBytes (hardenedTable (tableOf (now (table .entry)))))) room ⌝ }
 {
     let header = declared.header;
-    let start = nodes_start(header);
-    if start + 80 * header.nodes <= room {
+    if nodes_start(header) + 80 * header.nodes <= room {
         return true;
     }
-    let size = harden_size(table, index, decisions, header.nodes - 1);
-    start + size.bytes <= room
+    hardened_length(table, index, decisions, declared) <= room
 }
 
 // The hardened table at the front of a slice, from its root. The header is written last: it says how many nodes came out. The answer is the table's byte length.

@@ -12,8 +12,7 @@ use Rattle.copier.specs.Sizes.{Few}
 use Rattle.copier.specs.Written.{Appended, Wrote, WroteTwo, Both, pairOf, Room}
 use Rattle.copier.specs.declared.Pair.{Pair}
 use Rattle.copier.specs.declared.Size.{Size}
-use Rattle.copier.proofs.SizeSums.{Short}
-use Rattle.copier.proofs.Lengths.{Counted}
+use Rattle.copier.proofs.Lengths.{Short, Counted}
 use Rattle.copier.proofs.Writers.{restOf, withRest, wrote-sized, room-rest, rest-inside}
 use Rattle.copier.proofs.Joins.{two-few, two-room, two-parent, two-lists, both-of, one-last}
 

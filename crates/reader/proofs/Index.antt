@@ -1,8 +1,8 @@
 -- What an index of an accepted table is worth: every node is decoded where the index says, and stands for what its children stand for.
-use Prim.Native.Nat.{ℕ, _-_, _≤_, _<_}
+use Prim.Native.Nat.{ℕ, _+_, _-_, _≤_, _<_}
 use native.Mathlib.Omega.{arith}
 use mathlib.Core.Bool.{true}
-use mathlib.Core.Path.{_≡_, refl, sym, ap, _∙_}
+use mathlib.Core.Path.{_≡_, refl, sym, ap, subst, _∙_}
 use mathlib.Core.List.{List, [], _∷_}
 use lib.ListN.{length, getD, take}
 use lib.Seq.{length-take-le, getD-take}
@@ -12,6 +12,7 @@ use Rattle.bytes_le.proofs.Numbers.{Below}
 use Rattle.awhile.specs.Language.{number, variable, add, subtract, multiply, choice}
 use Rattle.awhile.specs.Language.{constant, equal, less, not, and}
 use Rattle.awhile.specs.Language.{skip, assign, sequence, if, while, read, write, noteOf}
+use Rattle.awhile.specs.Encoding.{nodesOfA, nodesOfB, nodesOf}
 use Rattle.awhile.specs.Lists.{all}
 use Rattle.awhile.specs.Nodes.{Field, form, sortOf, fieldInRange, inRange, fieldSorted, sorted}
 use Rattle.awhile.specs.Nodes.{word as wordField, constant as constantField, variable as variableField, array as arrayField, child as childField}
@@ -23,7 +24,8 @@ use Rattle.awhile.proofs.Lists.{all-head, all-tail}
 use Rattle.awhile.proofs.Records.{NodeAt}
 use Rattle.awhile.proofs.Children.{sameSort-true}
 use Rattle.awhile.proofs.Cases.{each-in-order, in-order-last}
-use Rattle.awhile.proofs.Trees.{tree-of-node, tree-sort, tree-note, numeric-tree, truth-tree}
+use Rattle.awhile.proofs.Size.{treeSize, tree-size}
+use Rattle.awhile.proofs.Trees.{tree-of-node, tree-sort, tree-note, numeric-tree, truth-tree, command-tree}
 use Rattle.awhile.proofs.Accepted.{accepted-well-formed, accepted-read, node-there}
 use Rattle.awhile.specs.declared.Sort.{Sort}
 use Rattle.awhile.specs.declared.Sort.the-variants.{Numeric, Truth, Command}
@@ -174,6 +176,27 @@ module _ (table index : List ℕ) (bytes : Below 256 table) (indexed : Indexed t
   pub indexed-few : nodesIn table ≤ maxNodes
   unfolding nodesIn
   indexed-few = indexed-well-formed .nodesFit
+
+  -- the tree of node n has at most n + 1 nodes
+  indexed-size : (n : ℕ) → n < nodesIn table → treeSize (treeIn table n) ≤ n + 1
+  unfolding nodesIn treeIn
+  indexed-size n inside = tree-size (tableOf table) indexed-well-formed n inside
+
+  -- a number
+  pub numeric-size : (n : ℕ) → n < nodesIn table → sortOf (nodeIn table n) ≡ Numeric → nodesOfA (numericIn table n) ≤ n + 1
+  unfolding treeSize
+  numeric-size n inside e = subst (λ t. treeSize t ≤ n + 1) (indexed-numeric n inside e) (indexed-size n inside)
+
+  -- a truth
+  pub truth-size : (n : ℕ) → n < nodesIn table → sortOf (nodeIn table n) ≡ Truth → nodesOfB (truthIn table n) ≤ n + 1
+  unfolding treeSize
+  truth-size n inside e = subst (λ t. treeSize t ≤ n + 1) (indexed-truth n inside e) (indexed-size n inside)
+
+  -- a command
+  pub command-size : (n : ℕ) → n < nodesIn table → sortOf (nodeIn table n) ≡ Command → nodesOf (commandIn table n) ≤ n + 1
+  unfolding nodesIn nodeIn treeIn treeSize
+  command-size n inside e =
+      subst (λ t. treeSize t ≤ n + 1) (command-tree (treeIn table n) (tree-sort (tableOf table .nodes) n inside ∙ e)) (indexed-size n inside)
 
   -- the last node is a command, the root
   pub indexed-root : rootOf (tableOf table) ≡ commandIn table (nodesIn table - 1)

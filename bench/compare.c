@@ -1,0 +1,169 @@
+/*
+ * The library before a change beside the library now, as a Markdown table: both are linked into this program and timed in turn,
+ * on the same calls.  Every figure is the median of five runs, as "not slower" is judged by.  The same code is up to a fifth
+ * slower at one address than at another, so each run has copies of both libraries at addresses of its own, alike in their low bits.
+ */
+#include <stdio.h>
+#include <stdlib.h>
+
+#include "call.h"
+#include "flow.h"
+#include "samples.h"
+#include "timing.h"
+
+enum { RUNS = 5 };
+
+/* call_library, linked with a copy of the one library and of the other (Makefile) */
+performer call_before_1, call_before_2, call_before_3, call_before_4, call_before_5;
+performer call_after_1, call_after_2, call_after_3, call_after_4, call_after_5;
+
+static const struct performers copies[RUNS] = {
+    {call_after_1, call_before_1}, {call_after_2, call_before_2}, {call_after_3, call_before_3},
+    {call_after_4, call_before_4}, {call_after_5, call_before_5},
+};
+
+/* Seconds a call, in each run. */
+struct row {
+    double before[RUNS], after[RUNS];
+};
+
+/* ---- Rows --------------------------------------------------------------------------------------------------------------- */
+
+static int by_size(const void *one, const void *other)
+{
+    double difference = *(const double *)one - *(const double *)other;
+    return (difference > 0) - (difference < 0);
+}
+
+static void print_row(const char *what, unsigned size, const struct row *row)
+{
+    double before[RUNS], after[RUNS], ratios[RUNS];
+    for (unsigned run = 0; run < RUNS; run++) {
+        before[run] = row->before[run];
+        after[run] = row->after[run];
+        ratios[run] = after[run] / before[run];
+    }
+    qsort(before, RUNS, sizeof *before, by_size);
+    qsort(after, RUNS, sizeof *after, by_size);
+    qsort(ratios, RUNS, sizeof *ratios, by_size);
+    double median_before = before[RUNS / 2], median_after = after[RUNS / 2];
+    printf("| %s | %u | %.3f | %.3f | %.2f (%.2f to %.2f) |\n", what, size, 1e6 * median_before, 1e6 * median_after,
+           median_after / median_before, ratios[0], ratios[RUNS - 1]);
+}
+
+/* ---- Timing ------------------------------------------------------------------------------------------------------------- */
+
+/* Times say nothing of libraries that do not do the same. */
+static void require_same_answers(struct call *calls, unsigned count)
+{
+    for (unsigned i = 0; i < count; i++) {
+        uint64_t before = copies[0].other(&calls[i]), number_before = call_answer(&calls[i], 1);
+        if (copies[0].library(&calls[i]) != before || call_answer(&calls[i], 1) != number_before) {
+            printf("the two libraries answer a call of %s differently\n", entry_names[calls[i].entry]);
+            exit(1);
+        }
+    }
+}
+
+static void time_runs(struct call *const *groups, unsigned group_count, unsigned count, struct row *rows)
+{
+    for (unsigned i = 0; i < group_count; i++)
+        require_same_answers(groups[i], count);
+    for (unsigned run = 0; run < RUNS; run++) {
+        struct timing timings[MOST_GROUPS];
+        time_groups(copies[run], groups, group_count, count, timings);
+        for (unsigned i = 0; i < group_count; i++) {
+            rows[i].before[run] = timings[i].other;
+            rows[i].after[run] = timings[i].library;
+        }
+    }
+}
+
+static void compare_calls(const char *what, unsigned size, struct call *calls, unsigned count)
+{
+    struct row row;
+    time_runs((struct call *const[]){calls}, 1, count, &row);
+    print_row(what, size, &row);
+    free_calls(calls, count);
+}
+
+static void compare_samples(const char *what, enum entry entry, const unsigned *sizes)
+{
+    for (; *sizes != 0; sizes++) {
+        struct call calls[SAMPLES];
+        sample_calls(entry, mixed_table, *sizes, calls);
+        compare_calls(what, *sizes, calls, SAMPLES);
+    }
+}
+
+/* ---- Hardening ---------------------------------------------------------------------------------------------------------- */
+
+/* What the exact buffer takes longer than the large one, in each run. */
+static struct row sizing_alone(const struct row rows[ROOMS])
+{
+    struct row row;
+    for (unsigned run = 0; run < RUNS; run++) {
+        row.before[run] = rows[ROOM_EXACT].before[run] - rows[ROOM_LARGE].before[run];
+        row.after[run] = rows[ROOM_EXACT].after[run] - rows[ROOM_LARGE].after[run];
+    }
+    return row;
+}
+
+static void print_rooms(const char *tables, unsigned nodes, const struct row rows[ROOMS])
+{
+    struct row sizing = sizing_alone(rows);
+    char what[80];
+    for (unsigned room = 0; room < ROOMS; room++) {
+        snprintf(what, sizeof what, "hardening, %s, %s", tables, room_names[room]);
+        print_row(what, nodes, &rows[room]);
+    }
+    snprintf(what, sizeof what, "sizing alone, %s", tables);
+    print_row(what, nodes, &sizing);
+}
+
+static void compare_rooms(const char *tables, sample_table *make, const unsigned *sizes)
+{
+    for (; *sizes != 0 && *sizes <= FLOW_MAX_HARDENED_NODES; sizes++) {
+        struct hardenings h;
+        struct row rows[ROOMS];
+        hardenings_new(&h, make, *sizes);
+        time_runs((struct call *const[ROOMS]){h.calls[0], h.calls[1], h.calls[2]}, ROOMS, SAMPLES, rows);
+        print_rooms(tables, *sizes, rows);
+        hardenings_free(&h);
+    }
+}
+
+static void compare_nesting(void)
+{
+    for (const unsigned *depth = nested_depths; *depth != 0; depth++) {
+        struct call call = nested_call(*depth);
+        compare_calls("hardening loops nested so deep", *depth, &call, 1);
+    }
+}
+
+/* ---- The whole ---------------------------------------------------------------------------------------------------------- */
+
+static void compare_machine(const char *what, enum entry entry)
+{
+    struct call call = machine_call(entry);
+    compare_calls(what, MACHINE_STEPS, &call, 1);
+}
+
+int main(void)
+{
+    setvbuf(stdout, NULL, _IOLBF, 0);
+    printf("\n## Before and after\n\n"
+           "Medians of five runs, both libraries in turn on the same calls, at other addresses in each run; in brackets the least and\n"
+           "the most of the five ratios. Sizing alone is the time with the exact buffer less that with the large one, in each run.\n\n"
+           "| what | N, depth or steps | before, µs | after, µs | after/before |\n|---|---|---|---|---|\n");
+    compare_samples("reading (a run refused by 20)", ENTRY_RUN, sample_sizes);
+    compare_samples("labelling", ENTRY_SHEET, sample_sizes);
+    compare_samples("256 questions", ENTRY_QUESTIONS, asked_sizes);
+    compare_rooms("mixed", mixed_table, sample_sizes);
+    compare_rooms("many copies", many_copies_table, copied_sizes);
+    compare_rooms("few copies", few_copies_table, copied_sizes);
+    compare_nesting();
+    compare_machine("plain machine, so many steps", ENTRY_RUN);
+    compare_machine("guessing machine, so many steps", ENTRY_GUESS);
+    return 0;
+}

@@ -1,0 +1,210 @@
+#include "samples.h"
+
+#include <stdio.h>
+#include <stdlib.h>
+#include <string.h>
+
+#include "copies.h"
+#include "flow.h"
+#include "generate.h"
+#include "kinds.h"
+#include "little_endian.h"
+
+const unsigned sample_sizes[] = {8, 64, 128, 256, 512, 1024, 2048, 4096, 0};
+const unsigned asked_sizes[] = {64, 512, 4096, 0};
+const unsigned copied_sizes[] = {8, 64, 512, 0};
+const unsigned nested_depths[] = {1, 2, 5, 10, 20, 30, 40, 50, 60, 0};
+
+const char *const room_names[ROOMS] = {"large buffer", "exact buffer", "one byte short, refused by 23"};
+
+/* ---- Tables ------------------------------------------------------------------------------------------------------------- */
+
+static struct plan sample_plan(struct random *r, unsigned nodes)
+{
+    struct plan plan = plan_small(r, nodes);
+    plan.nodes = nodes;
+    plan.variables = 8;
+    plan.arrays = 2;
+    plan.counts[0] = plan.counts[1] = 16;
+    plan.secret_variables = 1u << random_below(r, 8);
+    plan.secret_arrays = 1;
+    plan.shape = SHAPE_BUSHY;
+    plan.loops = 0;
+    plan.long_expressions = 0;
+    return plan;
+}
+
+void mixed_table(unsigned nodes, unsigned sample, struct buffer *table)
+{
+    struct random r = random_from(nodes, sample);
+    struct plan plan = sample_plan(&r, nodes);
+    generate_table(&r, &plan, table);
+}
+
+static void table_of_copies(enum copies copies, unsigned nodes, unsigned sample, struct buffer *table)
+{
+    enum { LEVEL = 64 }; /* conditions and values of about 60 nodes */
+    struct random r = random_from(nodes, sample);
+    struct plan plan = sample_plan(&r, nodes);
+    copies_table(&r, &plan, copies, LEVEL, table);
+}
+
+void many_copies_table(unsigned nodes, unsigned sample, struct buffer *table)
+{
+    table_of_copies(COPIES_MANY, nodes, sample, table);
+}
+
+void few_copies_table(unsigned nodes, unsigned sample, struct buffer *table)
+{
+    table_of_copies(COPIES_FEW, nodes, sample, table);
+}
+
+static void tight_loop_table(struct buffer *t)
+{
+    assemble_table(t, 2, 0, NULL, 0, 0);
+    unsigned x = assemble_node1(t, FLOW_VARIABLE, 0);
+    unsigned condition = assemble_node2(t, FLOW_LESS, x, assemble_node1(t, FLOW_NUMBER, UINT32_MAX));
+    x = assemble_node1(t, FLOW_VARIABLE, 0);
+    unsigned first = assemble_node2(t, FLOW_ADD, x, assemble_node1(t, FLOW_NUMBER, 1));
+    first = assemble_node2(t, FLOW_ASSIGN, 0, first);
+    x = assemble_node1(t, FLOW_VARIABLE, 0);
+    unsigned second = assemble_node2(t, FLOW_MULTIPLY, x, assemble_node1(t, FLOW_NUMBER, 3));
+    second = assemble_node2(t, FLOW_SUBTRACT, second, assemble_node1(t, FLOW_VARIABLE, 1));
+    second = assemble_node2(t, FLOW_ASSIGN, 1, second);
+    assemble_node2(t, FLOW_WHILE, condition, assemble_node2(t, FLOW_SEQUENCE, first, second));
+}
+
+/* ---- Calls -------------------------------------------------------------------------------------------------------------- */
+
+struct call writing_call(enum entry entry, const struct buffer *table, size_t room)
+{
+    struct call call = {.entry = entry};
+    slice_from(&call.slices[SLICE_TABLE], table->bytes, table->length);
+    slice_new(&call.slices[SLICE_OUTPUT], room);
+    slice_new(&call.slices[SLICE_ANSWER], FLOW_ANSWER_BYTES);
+    return call;
+}
+
+static void spread_questions(const struct buffer *table, struct buffer *list)
+{
+    unsigned commands[FLOW_MAX_NODES], count = 0, node = 0;
+    for (size_t at = 20 + 6 * (size_t)table->bytes[7]; at < table->length; at += get16(table->bytes + at), node++)
+        if (sort_of(get16(table->bytes + at + 2)) == 'C')
+            commands[count++] = node;
+    for (unsigned i = 0; i < FLOW_MAX_QUESTIONS; i++) {
+        buffer_append16(list, commands[i * count / FLOW_MAX_QUESTIONS]);
+        buffer_append16(list, i % table->bytes[6]);
+    }
+}
+
+struct call asking_call(const struct buffer *table)
+{
+    struct call call = writing_call(ENTRY_QUESTIONS, table, FLOW_MAX_QUESTIONS);
+    struct buffer list = {0};
+    spread_questions(table, &list);
+    slice_from(&call.slices[SLICE_QUESTIONS], list.bytes, list.length);
+    buffer_free(&list);
+    return call;
+}
+
+static void zero_slice(struct slice *s, size_t length)
+{
+    slice_new(s, length);
+    if (length > 0)
+        memset(s->bytes, 0, length);
+}
+
+struct call running_call(enum entry entry, const struct buffer *table, uint32_t budget, size_t observations)
+{
+    struct call call = {.entry = entry, .budget = budget};
+    size_t cells = 0;
+    for (unsigned array = 0; array < table->bytes[7]; array++)
+        cells += get16(table->bytes + 24 + 6 * array);
+    slice_from(&call.slices[SLICE_TABLE], table->bytes, table->length);
+    zero_slice(&call.slices[SLICE_VARIABLES], 4 * (size_t)table->bytes[6]);
+    zero_slice(&call.slices[SLICE_CELLS], 4 * cells);
+    zero_slice(&call.slices[SLICE_PENDING], 4 * (size_t)get16(table->bytes + 8));
+    zero_slice(&call.slices[SLICE_OBSERVATIONS], 6 * observations);
+    zero_slice(&call.slices[SLICE_ANSWER], FLOW_ANSWER_BYTES);
+    if (entry == ENTRY_GUESS) {
+        struct buffer steps = {0};
+        for (size_t i = 0; i < observations; i++)
+            assemble_directive(&steps, FLOW_STEP);
+        slice_from(&call.slices[SLICE_DIRECTIVES], steps.bytes, steps.length);
+        buffer_free(&steps);
+    }
+    return call;
+}
+
+struct call machine_call(enum entry entry)
+{
+    struct buffer table = {0};
+    tight_loop_table(&table);
+    struct call call = running_call(entry, &table, MACHINE_STEPS, MACHINE_STEPS / 4 + 1);
+    buffer_free(&table);
+    return call;
+}
+
+struct call nested_call(unsigned depth)
+{
+    struct buffer table = {0};
+    nested_loops_table(depth, &table);
+    struct call call = writing_call(ENTRY_HARDEN, &table, FLOW_TABLE_BYTES);
+    buffer_free(&table);
+    return call;
+}
+
+static struct call sample_call(enum entry entry, const struct buffer *table)
+{
+    switch (entry) {
+    case ENTRY_QUESTIONS: return asking_call(table);
+    case ENTRY_SHEET: return writing_call(entry, table, FLOW_SHEET_BYTES);
+    case ENTRY_HARDEN: return writing_call(entry, table, FLOW_TABLE_BYTES);
+    default: return writing_call(entry, table, 0);
+    }
+}
+
+void sample_calls(enum entry entry, sample_table *make, unsigned nodes, struct call calls[SAMPLES])
+{
+    for (unsigned sample = 0; sample < SAMPLES; sample++) {
+        struct buffer table = {0};
+        make(nodes, sample, &table);
+        calls[sample] = sample_call(entry, &table);
+        buffer_free(&table);
+    }
+}
+
+void free_calls(struct call *calls, unsigned count)
+{
+    for (unsigned i = 0; i < count; i++)
+        call_free(&calls[i]);
+}
+
+/* ---- Hardening ---------------------------------------------------------------------------------------------------------- */
+
+/* By the reference: what is timed is not asked about itself. */
+size_t hardened_length(struct call *call)
+{
+    if (call_reference(call) != FLOW_ACCEPTED) {
+        printf("a table that was to be timed does not harden\n");
+        exit(1);
+    }
+    return call_answer(call, 1);
+}
+
+void hardenings_new(struct hardenings *h, sample_table *make, unsigned nodes)
+{
+    sample_calls(ENTRY_HARDEN, make, nodes, h->calls[ROOM_LARGE]);
+    for (unsigned sample = 0; sample < SAMPLES; sample++) {
+        struct call *large = &h->calls[ROOM_LARGE][sample];
+        size_t length = hardened_length(large);
+        h->calls[ROOM_EXACT][sample] = h->calls[ROOM_SHORT][sample] = *large;
+        h->calls[ROOM_EXACT][sample].slices[SLICE_OUTPUT].length = length;
+        h->calls[ROOM_SHORT][sample].slices[SLICE_OUTPUT].length = length - 1;
+    }
+}
+
+void hardenings_free(struct hardenings *h)
+{
+    free_calls(h->calls[ROOM_LARGE], SAMPLES);
+}
