@@ -34,7 +34,7 @@ module _ {Note : Type 0} where
   abbrev pub totalOf : Com Note → ℕ
   totalOf c = total (nodesOf c) (bytesOf c)
 
--- the largest that is kept: 12,288 nodes of 10 bytes, 24 for each of the 512 nodes that a table may have to be hardened (`grown`, hardener)
+-- the largest that is kept: 12,288 nodes of 10 bytes, 24 for each of the 512 nodes that a table may have to be hardened (`hardened-most`, masks)
 abbrev pub largest : ℕ
 largest = total 12288 (10 * 12288)
 

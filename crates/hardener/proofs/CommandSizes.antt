@@ -1,9 +1,8 @@
--- The totals of what hardening adds, that it stays small, and that it does not depend on the flag's number.
+-- The totals of what hardening adds, and that they do not depend on the flag's number.
 use Prim.Native.Nat.{ℕ, _+_, _*_, _≤_}
 use native.Mathlib.Omega.{arith}
 use mathlib.Core.Bool.{Bool, true, false, cond}
 use mathlib.Core.List.{List}
-use mathlib.Core.Option.{none, some}
 use mathlib.Core.Path.{_≡_, refl}
 use Rattle.awhile.specs.Language.{AExp, BExp, Com, skip, assign, sequence, if, while, read, write}
 use Rattle.awhile.specs.Encoding.{nodesOfA, nodesOfB, nodesOf}
@@ -57,35 +56,6 @@ module _ (f : ℕ) where
         ≡ 3 * (totalOfB (truthIn table b) + cond mask (total 4 30) 0) + totalOf (hardenedIn table ds f c) + total 11 88
     unfolding whileIn loopIn sideIn testIn flagUpdate flagIfTrue flagIfFalse nodesOf bytesOf nodesOfA bytesOfA
     while-total c = omega (arith, test-total mask (truthIn table b))
-
--- ---- what comes out stays small, whatever is masked
-module _ (f : ℕ) where
-  test-nodes : (mask : Bool) (b : BExp) → nodesOfB (maskedCondition f mask b) ≤ nodesOfB b + 4
-  unfolding maskedCondition nodesOfB
-  test-nodes true b = omega arith
-  test-nodes false b = omega arith
-
-  place-nodes : (mask : Bool) (i : AExp) → nodesOfA (maskedIndex f mask i) ≤ nodesOfA i + 5
-  unfolding maskedIndex zeroIfGuessing nodesOfA
-  place-nodes true i = omega arith
-  place-nodes false i = omega arith
-
-  hidden-nodes : (hide : Bool) (x : ℕ) (c : Com Origin) → nodesOf (cond hide (sequence none c (maskValueOf f x)) c) ≤ nodesOf c + 8
-  unfolding maskValueOf zeroIfGuessing nodesOf nodesOfA
-  hidden-nodes true x c = omega arith
-  hidden-nodes false x c = omega arith
-
-  -- at most 24 nodes come out per node put in; with the labels' decisions it is 8 (`hardened-size`), but that is known of whole programs only
-  pub grown : (d : Com Decision) → nodesOf (harden f d) ≤ 24 * nodesOf d
-  unfolding harden nodesOf flagIfTrue flagIfFalse nodesOfA
-  grown (skip n) = omega arith
-  grown (assign n x e) = omega arith
-  grown (sequence n c d) = omega (arith, grown c, grown d)
-  grown (if n b c d) = omega (arith, test-nodes (n .maskCondition) b, grown c, grown d)
-  grown (while n b c) = omega (arith, test-nodes (n .maskCondition) b, grown c)
-  grown (read n x a i) =
-      omega (arith, hidden-nodes (n .maskValue) x (read (some (n .node)) x a (maskedIndex f (n .maskIndex) i)), place-nodes (n .maskIndex) i)
-  grown (write n a i e) = omega (arith, place-nodes (n .maskIndex) i)
 
 -- so many nodes and bytes are so many
 pub record SameSize (nodes bytes trueNodes trueBytes : ℕ) : Type 0 where

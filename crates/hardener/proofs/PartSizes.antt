@@ -18,7 +18,7 @@ use Rattle.awhile.specs.declared.Sort.the-variants.{Numeric, Truth, Command}
 use Rattle.reader.specs.Index.{nodesIn, nodeIn, numericIn, truthIn, commandIn}
 use Rattle.reader.proofs.Index.{Child, Parts, numeric-size, truth-size, command-size}
 use Rattle.masks.specs.Hardening.{Origin}
-use Rattle.masks.proofs.Growth.{nodesOf-mapped}
+use Rattle.masks.proofs.Growth.{hardened-most, nodesOf-mapped}
 use Rattle.masking.specs.Deciding.{decisionIn, decidedIn}
 use Rattle.masking.specs.InMemory.{hardenedIn}
 use Rattle.copier.specs.Sizes.{bytesOf}
@@ -27,7 +27,7 @@ use Rattle.copier.proofs.Lengths.{counted-C, bytes-A, bytes-B, bytes-C}
 use Rattle.copier.proofs.NodeTotals.{counted-total-A, counted-total-B, numeric-node, truth-node, command-node, totals-every-copy}
 use Rattle.hardener.specs.Sizes.{Sizable, NodeSize, SizesBelow, AllSized}
 use Rattle.hardener.proofs.CommandWrites.{in-skip, in-assign, in-sequence, in-if, in-while, in-read, in-write}
-use Rattle.hardener.proofs.CommandSizes.{read-total, write-total, if-total, while-total, grown}
+use Rattle.hardener.proofs.CommandSizes.{read-total, write-total, if-total, while-total}
 
 -- ---- commands
 -- a command's total is that of what it is
@@ -142,7 +142,7 @@ module _ {table ds totals : List ℕ} {n : ℕ} (t : SizesBelow table ds totals 
             command-size table index bytes (s .indexed) c (h .inside) (h .isSort),
             h .inside,
             s .few,
-            grown 0 (decidedIn table ds c),
+            hardened-most 0 (decidedIn table ds c),
             nodesOf-mapped (decisionIn ds) (commandIn table c),
             bytes-C (hardenedIn table ds 0 c) .short,
           );

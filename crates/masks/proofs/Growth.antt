@@ -1,4 +1,4 @@
--- At most 8 nodes come out per node put in, and what comes out is declared.
+-- At most 8 nodes come out per node put in, 24 whatever is masked, and what comes out is declared.
 use Prim.Native.Nat.{ℕ, _+_, _*_, _≤_, _<_}
 use native.Mathlib.Omega.{arith}
 use mathlib.Core.Bool.{Bool, true, false, cond}
@@ -71,6 +71,23 @@ hardened-size f (read n x a i) h =
       nodesOfA-some i,
     )
 hardened-size f (write n a i e) h = omega (arith, index-size f (n .maskIndex) i)
+
+-- and at most 24 whatever is masked
+test-size : (f : ℕ) (mask : Bool) (b : BExp) → nodesOfB (maskedCondition f mask b) ≤ nodesOfB b + 4
+unfolding maskedCondition nodesOfB
+test-size f true b = omega arith
+test-size f false b = omega arith
+
+pub hardened-most : (f : ℕ) (d : Com Decision) → nodesOf (harden f d) ≤ 24 * nodesOf d
+unfolding harden nodesOf flagIfTrue flagIfFalse nodesOfA
+hardened-most f (skip n) = omega arith
+hardened-most f (assign n x e) = omega arith
+hardened-most f (sequence n c d) = omega (arith, hardened-most f c, hardened-most f d)
+hardened-most f (if n b c d) = omega (arith, test-size f (n .maskCondition) b, hardened-most f c, hardened-most f d)
+hardened-most f (while n b c) = omega (arith, test-size f (n .maskCondition) b, hardened-most f c)
+hardened-most f (read n x a i) =
+    omega (arith, value-size f x (n .maskValue) (read (some (n .node)) x a (maskedIndex f (n .maskIndex) i)), index-size f (n .maskIndex) i)
+hardened-most f (write n a i e) = omega (arith, index-size f (n .maskIndex) i)
 
 -- as many nodes whatever the notes
 pub nodesOf-mapped : {A B : Type 0} (g : A → B) (c : Com A) → nodesOf (mapNotes g c) ≡ nodesOf c
