@@ -1,5 +1,5 @@
 -- The kind of a record tells its node's sort; and of a sort, the kind tells which node it is and how long its record is.
-use Prim.Native.Nat.{ℕ, zero, suc, _+_, _-_, _≤_}
+use Prim.Native.Nat.{ℕ, zero, suc, _+_, _-_, _≤_, _<_}
 use native.Mathlib.Omega.{arith}
 use mathlib.Core.Bool.{Bool, true, false, cond}
 use mathlib.Core.Path.{_≡_, refl, subst}
@@ -102,6 +102,12 @@ lastKind Command = 54
 abbrev KindOf : Sort → (kind : ℕ) → Type 0
 KindOf t k = (firstKind t ≤ k) × (k ≤ lastKind t)
 
+-- and what is below the first of the next sort is of this one
+abbrev pub Span : Sort → (kind : ℕ) → Type 0
+Span Numeric k = k < 32
+Span Truth k = (32 ≤ k) × (k < 48)
+Span Command k = 48 ≤ k
+
 kind-of : (n : Node) → KindOf (sortOf n) (form n .kind)
 unfolding sortOf form
 kind-of (Number v) = (omega arith, omega arith)
@@ -123,35 +129,15 @@ kind-of (While a b) = (omega arith, omega arith)
 kind-of (Read a b c) = (omega arith, omega arith)
 kind-of (Write a b c) = (omega arith, omega arith)
 
--- a number is none of so many from a least one up, nor what else is said of it
-abbrev Others : Type 0 → (least count k : ℕ) → Type 0
-Others A least zero k = A
-Others A least (suc count) k = Others A least count k × (k ≡ least + count → ⊥)
-
-others-else : (A : Type 0) (least count k : ℕ) → Others A least count k → A
-others-else A least zero k others = others
-others-else A least (suc count) k others = others-else A least count k (others .0)
+-- a number is none of so many from a least one up
+abbrev Others : (least count k : ℕ) → Type 0
+Others least zero k = Unit
+Others least (suc count) k = Others least count k × (k ≡ least + count → ⊥)
 
 -- so it is above them
-above : (A : Type 0) (least count k : ℕ) → least ≤ k → Others A least count k → least + count ≤ k
-above A least zero k low others = omega arith
-above A least (suc count) k low others = omega (arith, above A least count k low (others .0), others .1)
-
--- what is no kind of a number or a truth, and none of the commands before the last
-abbrev NoNumeric : (kind : ℕ) → Type 0
-NoNumeric k = Others Unit 16 6 k
-
-abbrev NoTruth : (kind : ℕ) → Type 0
-NoTruth k = Others (NoNumeric k) 32 5 k
-
-abbrev NoOther : (kind : ℕ) → Type 0
-NoOther k = Others (NoTruth k) 48 6 k
-
-last-of-all : (t : Sort) (k : ℕ) → KindOf t k → NoOther k → k ≡ 54
-last-of-all Numeric k r others =
-    absurd (omega (arith, r .0, r .1, above Unit 16 6 k (r .0) (others-else (NoNumeric k) 32 5 k (others-else (NoTruth k) 48 6 k others))))
-last-of-all Truth k r others = absurd (omega (arith, r .0, r .1, above (NoNumeric k) 32 5 k (r .0) (others-else (NoTruth k) 48 6 k others)))
-last-of-all Command k r others = omega (arith, r .0, r .1, above (NoTruth k) 48 6 k (r .0) others)
+above : (least count k : ℕ) → least ≤ k → Others least count k → least + count ≤ k
+above least zero k low others = omega arith
+above least (suc count) k low others = omega (arith, above least count k low (others .0), others .1)
 
 module _ (s : List ℕ) (at : ℕ) where
   decoded-kind : (n : Node) → decodeAt s at ≡ Known n → leAt 2 s (at + 2) ≡ form n .kind
@@ -207,12 +193,23 @@ module _ (s : List ℕ) (at : ℕ) where
         go Truth r = lt-leb 48 (leAt 2 s (at + 2)) (omega (arith, r .1))
         go Command r = le-leb 48 (leAt 2 s (at + 2)) (r .0)
 
+    -- every sort is, by where the kinds of the next begin
+    pub kind-tells : (t : Sort) (k : ℕ) → k ≡ leAt 2 s (at + 2) → Span t k → t ≡ sortOf n
+    kind-tells t k e span = go t (sortOf n) span (rw e (decoded-range n (there .decoded)))
+      where
+        go : (t u : Sort) → Span t k → KindOf u k → t ≡ u
+        go Numeric Numeric p r = refl
+        go Numeric Truth p r = absurd (omega (arith, r .0))
+        go Numeric Command p r = absurd (omega (arith, r .0))
+        go Truth Numeric p r = absurd (omega (arith, p .0, r .1))
+        go Truth Truth p r = refl
+        go Truth Command p r = absurd (omega (arith, p .1, r .0))
+        go Command Numeric p r = absurd (omega (arith, r .1))
+        go Command Truth p r = absurd (omega (arith, r .1))
+        go Command Command p r = refl
+
     -- of the kinds of a sort, what is none of the others is the last
-    pub last-kind : (t : Sort) → sortOf n ≡ t → (k : ℕ) → k ≡ leAt 2 s (at + 2) → Others Unit (firstKind t) (lastKind t - firstKind t) k → k ≡ lastKind t
+    pub last-kind : (t : Sort) → sortOf n ≡ t → (k : ℕ) → k ≡ leAt 2 s (at + 2) → Others (firstKind t) (lastKind t - firstKind t) k → k ≡ lastKind t
     last-kind t e k is others =
         let kinds : KindOf t k = rw (e, ← is) at (decoded-range n (there .decoded)) in
-        omega (arith, kinds .1, above Unit (firstKind t) (lastKind t - firstKind t) k (kinds .0) others)
-
-    -- and so of all kinds
-    pub last-node : (k : ℕ) → k ≡ leAt 2 s (at + 2) → NoOther k → k ≡ 54
-    last-node k is others = last-of-all (sortOf n) k (rw is (decoded-range n (there .decoded))) others
+        omega (arith, kinds .1, above (firstKind t) (lastKind t - firstKind t) k (kinds .0) others)

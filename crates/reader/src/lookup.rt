@@ -8,6 +8,7 @@ ghost use Rattle.awhile.specs.Nodes.{sortOf, sameSort};
 ghost use Rattle.awhile.specs.declared.Sort.the-variants.{Numeric, Truth, Command};
 ghost use Rattle.reader.specs.Index.{Indexed, nodesIn, nodeIn};
 use awhile::Node;
+use awhile::Sort;
 use bytes_le::get::whole_u16;
 use bytes_le::get::whole_u32;
 
@@ -147,82 +148,32 @@ pub fn command_at(table: &[u8], index: &[u16], n: usize) -> Node
     }
 }
 
-// The node of a number, whatever its sort: where every node is looked at once, one jump by its kind is quicker than one by its sort and another.
+// The sort of the node of a number: the kinds of a sort stand side by side.
+fn sort_of(table: &[u8], index: &[u16], n: usize) -> Sort
+    requires { ⌜ Indexed (now table) (now index) × (n < nodesIn (now table)) ⌝ }
+    ensures { λ r. ⌜ r ≡ sortOf (nodeIn (now (table .entry)) n) ⌝ }
+{
+    let at = index[n] as usize;
+    let kind = kind(table, at);
+    if kind < 32 {
+        return Sort::Numeric;
+    }
+    if kind < 48 {
+        return Sort::Truth;
+    }
+    Sort::Command
+}
+
+// The node of a number, whatever its sort.
 pub fn node_at(table: &[u8], index: &[u16], n: usize) -> Node
     requires { ⌜ Indexed (now table) (now index) × (n < nodesIn (now table)) ⌝ }
     ensures { λ r. ⌜ r ≡ nodeIn (now (table .entry)) n ⌝ }
 {
-    let at = index[n] as usize;
-    match kind(table, at) {
-        16 => Node::Number {
-            value: word(table, at),
-        },
-        17 => Node::Variable {
-            variable: first(table, at),
-        },
-        18 => Node::Add {
-            left: first(table, at),
-            right: second(table, at),
-        },
-        19 => Node::Subtract {
-            left: first(table, at),
-            right: second(table, at),
-        },
-        20 => Node::Multiply {
-            left: first(table, at),
-            right: second(table, at),
-        },
-        21 => Node::Choice {
-            condition: first(table, at),
-            yes: second(table, at),
-            no: third(table, at),
-        },
-        32 => Node::Constant {
-            value: first(table, at),
-        },
-        33 => Node::Equal {
-            left: first(table, at),
-            right: second(table, at),
-        },
-        34 => Node::Less {
-            left: first(table, at),
-            right: second(table, at),
-        },
-        35 => Node::Not {
-            truth: first(table, at),
-        },
-        36 => Node::And {
-            left: first(table, at),
-            right: second(table, at),
-        },
-        48 => Node::Skip,
-        49 => Node::Assign {
-            variable: first(table, at),
-            value: second(table, at),
-        },
-        50 => Node::Sequence {
-            first: first(table, at),
-            second: second(table, at),
-        },
-        51 => Node::If {
-            condition: first(table, at),
-            yes: second(table, at),
-            no: third(table, at),
-        },
-        52 => Node::While {
-            condition: first(table, at),
-            body: second(table, at),
-        },
-        53 => Node::Read {
-            variable: first(table, at),
-            array: second(table, at),
-            index: third(table, at),
-        },
-        _ => Node::Write {
-            array: first(table, at),
-            index: second(table, at),
-            value: third(table, at),
-        },
+    let sort = sort_of(table, index, n);
+    match sort {
+        Sort::Numeric => numeric_at(table, index, n),
+        Sort::Truth => truth_at(table, index, n),
+        Sort::Command => command_at(table, index, n),
     }
 }
 

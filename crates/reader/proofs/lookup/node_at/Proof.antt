@@ -1,92 +1,20 @@
--- `node_at` reads what the record of the node has: the index leads to it, and its kind tells which fields those are.
-use native.Mathlib.Omega.{arith}
-use mathlib.Core.Path.{_≡_, refl}
-use denote.Ref.{now}
-use lib.ListN.{getD}
+-- `node_at` looks a node up by its sort.
+use mathlib.Core.Path.{_≡_, sym, _∙_}
 use borrow.Author.Needs.{needs}
-use Rattle.bytes_le.proofs.Numbers.{slice-bytes}
-use Rattle.awhile.specs.Lists.{sum}
-use Rattle.awhile.specs.Nodes.{form, fieldSize, sizeOf, nodeOf}
-use Rattle.awhile.proofs.Records.{NodeAt}
-use Rattle.reader.specs.Index.{nodeIn}
-use Rattle.reader.proofs.Index.{indexed-node}
-use Rattle.reader.proofs.RecordKinds.{StoredAs, stored, head-there, last-node}
 use Rattle.reader.proofs.lookup.node_at.Statement.{statement}
 use Rattle.reader.proofs.lookup.node_at.Tie as tie
 
--- the node's record stands where the index says
-there : (d : tie.After-shared-slice-known3) → let a = d .before .before .before .args in
-    NodeAt (now (a .table)) (getD (now (a .index)) (a .n) 0) (nodeIn (now (a .table)) (a .n))
-there d =
-    let start = d .before .before .before in
-    indexed-node _ _ (slice-bytes _ (d .before .before .shared-slice-known .given)) (start .pre .0) _ (start .pre .1)
-
--- what it is, by its kind
-held : (d : tie.After-kind) → StoredAs _ _ _ (there (d .before)) (d .kind .result)
-held d = stored _ _ _ (there (d .before)) _ (d .kind .ensures)
-
--- a kind that is none of the others is the last
-last : (d : tie.At-match-rest) → d .before .kind .result ≡ 54
-last d = last-node _ _ _ (there (d .before .before)) _ (d .before .kind .ensures) (d .match .rest)
-
 pub node-at-spec : {M : Type 1} → statement M
-unfolding nodeOf sizeOf form sum fieldSize
 node-at-spec =
     tie.close
     (tie.spec
+    (λ c κs. search needs)
+    (λ c. search needs)
+    (λ c κs. let start = c .before .before .before .before .before in (start .pre .0, start .pre .1, sym (c .before .before .sort-of .ensures) ∙ c .enum-told .given .1))
+    (λ c. search needs)
+    (λ c κs. let start = c .before .before .before .before .before in (start .pre .0, start .pre .1, sym (c .before .before .sort-of .ensures) ∙ c .enum-told2 .given .1))
+    (λ c. search needs)
+    (λ c κs. let start = c .before .before .before .before .before in (start .pre .0, start .pre .1, sym (c .before .before .sort-of .ensures) ∙ c .enum-told3 .given .1))
     (λ c. search needs)
     (λ c. search needs)
-    (λ c. omega (arith, c .shared-slice-known3 .given (c .before .before .before .args .n)))
-    (λ c κs. head-there _ _ _ (there c))
-    (λ c κs. omega (arith, held (c .before) _ (c .match .keys1) _ refl .whole))
-    (λ c κs. omega (arith, held (c .before) _ (c .match .keys2) _ refl .whole))
-    (λ c κs. omega (arith, held (c .before) _ (c .match .keys3) _ refl .whole))
-    (λ c κs. omega (arith, held (c .before .before) _ (c .before .match .keys3) _ refl .whole))
-    (λ c κs. omega (arith, held (c .before) _ (c .match .keys4) _ refl .whole))
-    (λ c κs. omega (arith, held (c .before .before) _ (c .before .match .keys4) _ refl .whole))
-    (λ c κs. omega (arith, held (c .before) _ (c .match .keys5) _ refl .whole))
-    (λ c κs. omega (arith, held (c .before .before) _ (c .before .match .keys5) _ refl .whole))
-    (λ c κs. omega (arith, held (c .before) _ (c .match .keys6) _ refl .whole))
-    (λ c κs. omega (arith, held (c .before .before) _ (c .before .match .keys6) _ refl .whole))
-    (λ c κs. omega (arith, held (c .before .before .before) _ (c .before .before .match .keys6) _ refl .whole))
-    (λ c κs. omega (arith, held (c .before) _ (c .match .keys7) _ refl .whole))
-    (λ c κs. omega (arith, held (c .before) _ (c .match .keys8) _ refl .whole))
-    (λ c κs. omega (arith, held (c .before .before) _ (c .before .match .keys8) _ refl .whole))
-    (λ c κs. omega (arith, held (c .before) _ (c .match .keys9) _ refl .whole))
-    (λ c κs. omega (arith, held (c .before .before) _ (c .before .match .keys9) _ refl .whole))
-    (λ c κs. omega (arith, held (c .before) _ (c .match .keys10) _ refl .whole))
-    (λ c κs. omega (arith, held (c .before) _ (c .match .keys11) _ refl .whole))
-    (λ c κs. omega (arith, held (c .before .before) _ (c .before .match .keys11) _ refl .whole))
-    (λ c κs. omega (arith, held (c .before) _ (c .match .keys13) _ refl .whole))
-    (λ c κs. omega (arith, held (c .before .before) _ (c .before .match .keys13) _ refl .whole))
-    (λ c κs. omega (arith, held (c .before) _ (c .match .keys14) _ refl .whole))
-    (λ c κs. omega (arith, held (c .before .before) _ (c .before .match .keys14) _ refl .whole))
-    (λ c κs. omega (arith, held (c .before) _ (c .match .keys15) _ refl .whole))
-    (λ c κs. omega (arith, held (c .before .before) _ (c .before .match .keys15) _ refl .whole))
-    (λ c κs. omega (arith, held (c .before .before .before) _ (c .before .before .match .keys15) _ refl .whole))
-    (λ c κs. omega (arith, held (c .before) _ (c .match .keys16) _ refl .whole))
-    (λ c κs. omega (arith, held (c .before .before) _ (c .before .match .keys16) _ refl .whole))
-    (λ c κs. omega (arith, held (c .before) _ (c .match .keys17) _ refl .whole))
-    (λ c κs. omega (arith, held (c .before .before) _ (c .before .match .keys17) _ refl .whole))
-    (λ c κs. omega (arith, held (c .before .before .before) _ (c .before .before .match .keys17) _ refl .whole))
-    (λ c κs. omega (arith, held (c .before) _ (last c) _ refl .whole))
-    (λ c κs. omega (arith, held (c .before .before) _ (last (c .before)) _ refl .whole))
-    (λ c κs. omega (arith, held (c .before .before .before) _ (last (c .before .before)) _ refl .whole))
-    (λ c. rw (c .word .ensures) (held (c .before .before) _ (c .before .match .keys1) _ refl .isNode))
-    (λ c. rw (c .first .ensures) (held (c .before .before) _ (c .before .match .keys2) _ refl .isNode))
-    (λ c. rw (c .before .first2 .ensures, c .second .ensures) (held (c .before .before .before) _ (c .before .before .match .keys3) _ refl .isNode))
-    (λ c. rw (c .before .first3 .ensures, c .second2 .ensures) (held (c .before .before .before) _ (c .before .before .match .keys4) _ refl .isNode))
-    (λ c. rw (c .before .first4 .ensures, c .second3 .ensures) (held (c .before .before .before) _ (c .before .before .match .keys5) _ refl .isNode))
-    (λ c. rw (c .before .before .first5 .ensures, c .before .second4 .ensures, c .third .ensures) (held (c .before .before .before .before) _ (c .before .before .before .match .keys6) _ refl .isNode))
-    (λ c. rw (c .first6 .ensures) (held (c .before .before) _ (c .before .match .keys7) _ refl .isNode))
-    (λ c. rw (c .before .first7 .ensures, c .second5 .ensures) (held (c .before .before .before) _ (c .before .before .match .keys8) _ refl .isNode))
-    (λ c. rw (c .before .first8 .ensures, c .second6 .ensures) (held (c .before .before .before) _ (c .before .before .match .keys9) _ refl .isNode))
-    (λ c. rw (c .first9 .ensures) (held (c .before .before) _ (c .before .match .keys10) _ refl .isNode))
-    (λ c. rw (c .before .first10 .ensures, c .second7 .ensures) (held (c .before .before .before) _ (c .before .before .match .keys11) _ refl .isNode))
-    (λ c. held (c .before) _ (c .match .keys12) _ refl .isNode)
-    (λ c. rw (c .before .first11 .ensures, c .second8 .ensures) (held (c .before .before .before) _ (c .before .before .match .keys13) _ refl .isNode))
-    (λ c. rw (c .before .first12 .ensures, c .second9 .ensures) (held (c .before .before .before) _ (c .before .before .match .keys14) _ refl .isNode))
-    (λ c. rw (c .before .before .first13 .ensures, c .before .second10 .ensures, c .third2 .ensures) (held (c .before .before .before .before) _ (c .before .before .before .match .keys15) _ refl .isNode))
-    (λ c. rw (c .before .first14 .ensures, c .second11 .ensures) (held (c .before .before .before) _ (c .before .before .match .keys16) _ refl .isNode))
-    (λ c. rw (c .before .before .first15 .ensures, c .before .second12 .ensures, c .third3 .ensures) (held (c .before .before .before .before) _ (c .before .before .before .match .keys17) _ refl .isNode))
-    (λ c. rw (c .before .before .first16 .ensures, c .before .second13 .ensures, c .third4 .ensures) (held (c .before .before .before .before) _ (last (c .before .before .before)) _ refl .isNode)))
+    (λ c. search needs))
