@@ -17,10 +17,10 @@ abbrev pub total : (nodes bytes : ℕ) → ℕ
 total nodes bytes = 65536 * nodes + bytes
 
 -- what is read off a total
-abbrev pub nodesTold : (total : ℕ) → ℕ
+abbrev pub nodesTold : (answer : ℕ) → ℕ
 nodesTold t = t / 65536
 
-abbrev pub bytesTold : (total : ℕ) → ℕ
+abbrev pub bytesTold : (answer : ℕ) → ℕ
 bytesTold t = t % 65536
 
 -- the totals of expressions and of commands
@@ -77,9 +77,9 @@ pub record AllTotals (table totals : List ℕ) : Type 0 where
   pub at : (n : ℕ) → n < nodesIn table → NodeTotal table n (getD totals n 0)
 
 -- what a total tells of these nodes: how many they are, and their byte length
-pub record Tells (nodes : List Node) (total : ℕ) : Type 0 where
-  pub nodesAre : nodesTold total ≡ length nodes
-  pub bytesAre : bytesTold total ≡ length (flatMap nodeBytes nodes)
+pub record Tells (nodes : List Node) (answer : ℕ) : Type 0 where
+  pub nodesAre : nodesTold answer ≡ length nodes
+  pub bytesAre : bytesTold answer ≡ length (flatMap nodeBytes nodes)
 
 -- P3: "one total per expression node", and "it is the byte length of every copy of that expression written", wherever its numbering starts
 pub record EveryCopy (table totals : List ℕ) : Type 0 where
