@@ -12,7 +12,7 @@ use Rattle.awhile.specs.Language.{BExp, Com, while, noteOf}
 use Rattle.awhile.specs.declared.Labelling.{Labelling}
 use Rattle.labels.specs.Labellings.{Mark, variableMark, arrayMark, labelOf, labelOfB, join, same, _⊑_}
 use Rattle.labels.specs.Analysis.{analyse}
-use Rattle.labels.specs.Rules.{Settled, Within, publicAmong, marksBelow, declaredMarks, loopPass}
+use Rattle.labels.specs.Rules.{Settled, LabelsWithin, publicAmong, marksBelow, declaredMarks, loopPass}
 use Rattle.analysis.specs.Warm.{Outside, keptIn, InOrder}
 use Rattle.analysis.specs.Conditions.{Analysed, SettledLoop}
 use Rattle.labels.proofs.Booleans.{or-mono}
@@ -24,7 +24,7 @@ use Rattle.analysis.proofs.Warm.{noted-in-order, warm-settles}
 
 -- ---- marks still public
 -- a mark that is secret in a labelling within these widths is one of theirs
-secret-declared : (v a : ℕ) (l : Labelling) → Within v a l → (k : Mark) → labelOf l k ≡ true → List·Memᴰ k (declaredMarks v a)
+secret-declared : (v a : ℕ) (l : Labelling) → LabelsWithin v a l → (k : Mark) → labelOf l k ≡ true → List·Memᴰ k (declaredMarks v a)
 unfolding labelOf declaredMarks
 secret-declared v a l h (variableMark x) e = go (decLe v x)
   where
@@ -38,13 +38,13 @@ secret-declared v a l h (arrayMark y) e = go (decLe a y)
     go (no q) = Memᴰ·append-right (marksBelow variableMark v) (mark-below arrayMark a y (omega arith))
 
 -- a join is within the widths of both its parts
-pub join-within : (v a : ℕ) (l m : Labelling) → Within v a l → Within v a m → Within v a (join l m)
+pub join-within : (v a : ℕ) (l m : Labelling) → LabelsWithin v a l → LabelsWithin v a m → LabelsWithin v a (join l m)
 unfolding join
 join-within v a l m h k =
     record { variableMask = or-lt v (l .variables) (m .variables) (h .variableMask) (k .variableMask); arrayMask = or-lt a (l .arrays) (m .arrays) (h .arrayMask) (k .arrayMask) }
 
 -- a join that adds a secret leaves fewer marks public
-pub fewer-public : (v a : ℕ) (l m : Labelling) → Within v a l → Within v a m → same (join l m) l ≡ false
+pub fewer-public : (v a : ℕ) (l m : Labelling) → LabelsWithin v a l → LabelsWithin v a m → same (join l m) l ≡ false
     → publicAmong (declaredMarks v a) (join l m) < publicAmong (declaredMarks v a) l
 fewer-public v a l m h k e = go (decLe (publicAmong (declaredMarks v a) l) (publicAmong (declaredMarks v a) (join l m)))
   where
@@ -62,7 +62,7 @@ pub record Passing (b : BExp) (c : Com ℕ) (x : Bool) (start : Labelling) (ns :
   pub below : m ⊑ analyse (while (noteOf c) b c) x start
   pub inOrder : InOrder ns′ c (labelOfB m b || x) m
   pub outside : Outside c ns ns′
-  pub within : Within 64 16 m
+  pub within : LabelsWithin 64 16 m
   pub long : length ns′ ≡ length ns
 
 module _ (b : BExp) (c : Com ℕ) (x : Bool) where
@@ -75,7 +75,7 @@ module _ (b : BExp) (c : Com ℕ) (x : Bool) where
     warm-answer e = rw e (warm-settles (noteOf c) b c x l (join l (keptIn ns c)) (join-left l (keptIn ns c)) warm-below)
 
     -- the invariant holds at the start
-    pub passing-starts : {start : Labelling} → start ≡ join l (keptIn ns c) → Within 64 16 start
+    pub passing-starts : {start : Labelling} → start ≡ join l (keptIn ns c) → LabelsWithin 64 16 start
         → InOrder ns c (labelOfB (join l (keptIn ns c)) b || x) (join l (keptIn ns c)) → Passing b c x start ns start ns
     passing-starts {start} e w h =
         record {
@@ -93,7 +93,7 @@ module _ (b : BExp) (c : Com ℕ) (x : Bool) where
     passed-once = pass .answers ∙ ap (λ z. analyse c z m) context
 
     -- and again after a pass
-    pub passing-next : Within 64 16 r → length os ≡ length ns′ → Passing b c x start ns k os
+    pub passing-next : LabelsWithin 64 16 r → length os ≡ length ns′ → Passing b c x start ns k os
     passing-next w e =
         let settled : Settled (loopPass b c x) start (analyse (while (noteOf c) b c) x start) = loop-settles (noteOf c) b c x start in
         let up : m ⊑ join m r = join-left m r in
@@ -108,7 +108,7 @@ module _ (b : BExp) (c : Com ℕ) (x : Bool) where
         })
 
     -- a pass that adds a secret leaves fewer marks public
-    pub passing-falls : Within 64 16 r → same k m ≡ false → publicAmong (declaredMarks 64 16) k < publicAmong (declaredMarks 64 16) m
+    pub passing-falls : LabelsWithin 64 16 r → same k m ≡ false → publicAmong (declaredMarks 64 16) k < publicAmong (declaredMarks 64 16) m
     passing-falls w e = rw joined (fewer-public 64 16 m r (h .within) w (rw joined at e))
 
     -- where a pass adds no secret, its masks are the settled ones, and the body is noted with them

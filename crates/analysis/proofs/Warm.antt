@@ -1,6 +1,6 @@
 -- Warm starts give the results of the analysis: notes stay in order, and what one analysis leaves is in order for every larger one.
 use Prim.Native.Nat.{ℕ, _+_, _≤_}
-use mathlib.Core.Bool.{Bool, false, le, _||_}
+use mathlib.Core.Bool.{Bool, false, le as atMost, _||_}
 use mathlib.Core.List.{List}
 use mathlib.Core.Path.{_≡_, refl, sym, ap, subst, _∙_}
 use native.Mathlib.Omega.{arith}
@@ -130,7 +130,7 @@ module _ (ns : List ℕ) where
   remembered-noted c x l h e = rw e at h
 
   -- what one analysis leaves is in order for every larger labelling and context
-  pub noted-in-order : (c : Com ℕ) {x y : Bool} {l m : Labelling} → Noted ns (annotate c x l) → le x y → l ⊑ m → InOrder ns c y m
+  pub noted-in-order : (c : Com ℕ) {x y : Bool} {l m : Labelling} → Noted ns (annotate c x l) → atMost x y → l ⊑ m → InOrder ns c y m
   unfolding annotate
   noted-in-order (skip n) h k p = tt
   noted-in-order (assign n v e) h k p = tt

@@ -11,7 +11,7 @@ use Rattle.awhile.specs.declared.Sort.{Sort}
 use Rattle.awhile.specs.declared.Sort.the-variants.{Numeric, Truth}
 use Rattle.reader.proofs.Index.{Child, child-of-sort}
 use Rattle.copier.specs.Sizes.{bytesOfA, bytesOfB}
-use Rattle.copier.specs.Written.{Room}
+use Rattle.copier.specs.Written.{SpaceFor}
 use Rattle.copier.proofs.ExpressionWrites.{room-A, room-B}
 
 module _ {table index : List ℕ} {t n : ℕ} (is : 3 * n ≡ t) (indexed : Indexed table index) where
@@ -32,20 +32,20 @@ module _ {table index : List ℕ} {t n : ℕ} (is : 3 * n ≡ t) (indexed : Inde
 
 -- the copies of a node's children are asked for with the room that the node has
 module _ {table index out : List ℕ} {from t n : ℕ} where
-  module _ (pre : (3 * n ≡ t) × (OfSort table index Numeric n × Room from (nodesOfA (numericIn table n)) (bytesOfA (numericIn table n)) out)) {e : AExp} where
+  module _ (pre : (3 * n ≡ t) × (OfSort table index Numeric n × SpaceFor from (nodesOfA (numericIn table n)) (bytesOfA (numericIn table n)) out)) {e : AExp} where
     pub call-binary : {j k : ℕ} → Child table Numeric n j × Child table Numeric n k × (numericIn table n ≡ e)
-        → (3 * max j k + 2 < t) × ((OfSort table index Numeric j × OfSort table index Numeric k) × Room from (nodesOfA e) (bytesOfA e) out)
+        → (3 * max j k + 2 < t) × ((OfSort table index Numeric j × OfSort table index Numeric k) × SpaceFor from (nodesOfA e) (bytesOfA e) out)
     call-binary p = let q = lower-pair (pre .0) (pre .1 .0 .indexed) (p .0) (p .1) in (q .0, (q .1, room-A (p .2) (pre .1 .1)))
 
     pub call-choice : {i j k : ℕ} → Child table Truth n i × Child table Numeric n j × Child table Numeric n k × (numericIn table n ≡ e)
         → (3 * max i (max j k) + 2 < t)
-        × ((OfSort table index Truth i × OfSort table index Numeric j × OfSort table index Numeric k) × Room from (nodesOfA e) (bytesOfA e) out)
+        × ((OfSort table index Truth i × OfSort table index Numeric j × OfSort table index Numeric k) × SpaceFor from (nodesOfA e) (bytesOfA e) out)
     call-choice p = let q = lower-three (pre .0) (pre .1 .0 .indexed) (p .0) (p .1) (p .2) in (q .0, (q .1, room-A (p .3) (pre .1 .1)))
 
-  module _ (pre : (3 * n ≡ t) × (OfSort table index Truth n × Room from (nodesOfB (truthIn table n)) (bytesOfB (truthIn table n)) out)) {e : BExp} where
+  module _ (pre : (3 * n ≡ t) × (OfSort table index Truth n × SpaceFor from (nodesOfB (truthIn table n)) (bytesOfB (truthIn table n)) out)) {e : BExp} where
     -- an equal or a less of two numerics, or an and of two truths
     pub call-truth : {s : Sort} {j k : ℕ} → Child table s n j × Child table s n k × (truthIn table n ≡ e)
-        → (3 * max j k + 2 < t) × ((OfSort table index s j × OfSort table index s k) × Room from (nodesOfB e) (bytesOfB e) out)
+        → (3 * max j k + 2 < t) × ((OfSort table index s j × OfSort table index s k) × SpaceFor from (nodesOfB e) (bytesOfB e) out)
     call-truth p = let q = lower-pair (pre .0) (pre .1 .0 .indexed) (p .0) (p .1) in (q .0, (q .1, room-B (p .2) (pre .1 .1)))
 
 -- the members of a pair, in a function that adds so many calls and one to their measure

@@ -11,7 +11,7 @@ use Rattle.awhile.specs.Encoding.{nodesOfA, nodesOfB, binary, writeA, writeB}
 use Rattle.awhile.specs.declared.Node.{Node}
 use Rattle.awhile.specs.declared.Node.the-variants.{Choice, Not, And}
 use Rattle.copier.specs.Sizes.{bytesOfA, bytesOfB, Sized, Few}
-use Rattle.copier.specs.Written.{Appended, Wrote, WrotePair, WroteTwo, Both, Room}
+use Rattle.copier.specs.Written.{Appended, Wrote, WrotePair, WroteTwo, Both, SpaceFor}
 use Rattle.copier.specs.declared.Size.{Size}
 use Rattle.copier.specs.declared.Pair.{Pair}
 use Rattle.copier.proofs.Lengths.{counted-A, counted-B, counted-append, some-A, some-B, bytes-A, bytes-B}
@@ -25,14 +25,14 @@ wrote-A from {l = l} {m} {r} p w = subst (λ e. Wrote (writeA from e) l m r) (sy
 pub wrote-B : (from : ℕ) {e f : BExp} {l m : List ℕ} {r : Size} → e ≡ f → Wrote (writeB from f) l m r → Wrote (writeB from e) l m r
 wrote-B from {l = l} {m} {r} p w = subst (λ e. Wrote (writeB from e) l m r) (sym p) w
 
-pub room-A : {e f : AExp} {from : ℕ} {l : List ℕ} → e ≡ f → Room from (nodesOfA e) (bytesOfA e) l → Room from (nodesOfA f) (bytesOfA f) l
-room-A {from = from} {l} p w = subst (λ e. Room from (nodesOfA e) (bytesOfA e) l) p w
+pub room-A : {e f : AExp} {from : ℕ} {l : List ℕ} → e ≡ f → SpaceFor from (nodesOfA e) (bytesOfA e) l → SpaceFor from (nodesOfA f) (bytesOfA f) l
+room-A {from = from} {l} p w = subst (λ e. SpaceFor from (nodesOfA e) (bytesOfA e) l) p w
 
-pub room-B : {e f : BExp} {from : ℕ} {l : List ℕ} → e ≡ f → Room from (nodesOfB e) (bytesOfB e) l → Room from (nodesOfB f) (bytesOfB f) l
-room-B {from = from} {l} p w = subst (λ e. Room from (nodesOfB e) (bytesOfB e) l) p w
+pub room-B : {e f : BExp} {from : ℕ} {l : List ℕ} → e ≡ f → SpaceFor from (nodesOfB e) (bytesOfB e) l → SpaceFor from (nodesOfB f) (bytesOfB f) l
+room-B {from = from} {l} p w = subst (λ e. SpaceFor from (nodesOfB e) (bytesOfB e) l) p w
 
 -- ---- two numeric expressions, and a parent over them
-module _ {from : ℕ} (a b : AExp) {l m rest : List ℕ} {s u : Size} (h : Room from (nodesOfA a + nodesOfA b) (bytesOfA a + bytesOfA b) l)
+module _ {from : ℕ} (a b : AExp) {l m rest : List ℕ} {s u : Size} (h : SpaceFor from (nodesOfA a + nodesOfA b) (bytesOfA a + bytesOfA b) l)
     (w : Wrote (writeA from a) l m s) (v : Wrote (writeA (from + s .nodes) b) (restOf (s .bytes) m) rest u) where
   pub pair-few : Few (from + s .nodes + u .nodes) (s .bytes + u .bytes) × (0 < s .nodes)
   pair-few = two-few from (λ k. writeA k b) w (counted-A from a) v (λ k. counted-A k b) h (omega arith) (some-A a) (bytes-A a) (bytes-A b)
@@ -59,7 +59,7 @@ module _ {from : ℕ} {a b : AExp} {l m : List ℕ} {p : Pair} where
   pair-sized : WrotePair from a b l m p → Sized (nodesOfA a + nodesOfA b) (bytesOfA a + bytesOfA b) (sizeIs (p .nodes) (p .bytes))
   pair-sized w = wrote-sized (w .wrote) (counted-append (counted-A from a) (counted-A (from + nodesOfA a) b))
 
-  pub pair-room : WrotePair from a b l m p → Room from (nodesOfA a + nodesOfA b + 1) (bytesOfA a + bytesOfA b + 8) l
+  pub pair-room : WrotePair from a b l m p → SpaceFor from (nodesOfA a + nodesOfA b + 1) (bytesOfA a + bytesOfA b + 8) l
       → (p .bytes + 8 ≤ length m) × (p .nodes < 2 ^ 32)
   pair-room w h = room-parent 8 (w .wrote) (counted-append (counted-A from a) (counted-A (from + nodesOfA a) b)) h (omega arith) (omega arith)
 
@@ -72,7 +72,7 @@ module _ {from : ℕ} {a b : AExp} {l m : List ℕ} {p : Pair} where
 
 -- ---- a choice
 module _ {from : ℕ} (c : BExp) (a b : AExp) {l m rest : List ℕ} {s : Size} {p : Pair}
-    (h : Room from (nodesOfB c + nodesOfA a + nodesOfA b + 1) (bytesOfB c + bytesOfA a + bytesOfA b + 10) l) (w : Wrote (writeB from c) l m s)
+    (h : SpaceFor from (nodesOfB c + nodesOfA a + nodesOfA b + 1) (bytesOfB c + bytesOfA a + bytesOfA b + 10) l) (w : Wrote (writeB from c) l m s)
     (v : WrotePair (from + s .nodes) a b (restOf (s .bytes) m) rest p) where
   pub choice-last : (0 < s .nodes) × (from + s .nodes ≤ 4096)
   choice-last = one-last from w (counted-B from c) h (omega arith) (some-B c)
@@ -100,7 +100,7 @@ module _ {from : ℕ} (c : BExp) (a b : AExp) {l m rest : List ℕ} {s : Size} {
       (λ k. counted-A (k + nodesOfA a) b) Choice e (omega (arith, h .fits)) parent
 
 -- ---- two truths and the `and` over them
-module _ {from : ℕ} (a b : BExp) {l m rest : List ℕ} {s u : Size} (h : Room from (nodesOfB a + nodesOfB b + 1) (bytesOfB a + bytesOfB b + 8) l)
+module _ {from : ℕ} (a b : BExp) {l m rest : List ℕ} {s u : Size} (h : SpaceFor from (nodesOfB a + nodesOfB b + 1) (bytesOfB a + bytesOfB b + 8) l)
     (w : Wrote (writeB from a) l m s) (v : Wrote (writeB (from + s .nodes) b) (restOf (s .bytes) m) rest u) where
   pub and-few : Few (from + s .nodes + u .nodes) (s .bytes + u .bytes) × (0 < s .nodes)
   and-few = two-few from (λ k. writeB k b) w (counted-B from a) v (λ k. counted-B k b) h (omega arith) (some-B a) (bytes-B a) (bytes-B b)
@@ -115,7 +115,7 @@ module _ {from : ℕ} (a b : BExp) {l m rest : List ℕ} {s u : Size} (h : Room 
       two-parent from (λ k. writeB k b) w (counted-B from a) v (λ k. counted-B k b) added And (omega (arith, h .fits)) parent
 
 -- ---- a truth and the `not` over it
-module _ {from : ℕ} (b : BExp) {l m : List ℕ} {s : Size} (h : Room from (nodesOfB b + 1) (bytesOfB b + 6) l) (w : Wrote (writeB from b) l m s) where
+module _ {from : ℕ} (b : BExp) {l m : List ℕ} {s : Size} (h : SpaceFor from (nodesOfB b + 1) (bytesOfB b + 6) l) (w : Wrote (writeB from b) l m s) where
   pub not-last : (0 < s .nodes) × (from + s .nodes ≤ 4096)
   not-last = one-last from w (counted-B from b) h (omega arith) (some-B b)
 

@@ -10,7 +10,7 @@ use Rattle.awhile.specs.Nodes.{sizeOf, nodeBytes}
 use Rattle.awhile.specs.declared.Node.{Node}
 use Rattle.awhile.specs.declared.Node.the-variants.{Sequence}
 use Rattle.copier.specs.Sizes.{Sized, Few}
-use Rattle.copier.specs.Written.{Appended, Wrote, WroteTwo, Both, pairOf, Room}
+use Rattle.copier.specs.Written.{Appended, Wrote, WroteTwo, Both, pairOf, SpaceFor}
 use Rattle.copier.specs.declared.Size.{Size}
 use Rattle.copier.specs.declared.Pair.{Pair}
 use Rattle.copier.proofs.Lengths.{Short, Counted, counted-append}
@@ -20,7 +20,7 @@ use Rattle.copier.proofs.Writers.{sizeIs, restOf, withRest, wrote-sized
 module _ (from : ℕ) {ms : List Node} (ns : ℕ → List Node) {i j k h : ℕ} {l m rest : List ℕ} {s u : Size} (w : Wrote ms l m s) (a : Counted ms i j)
     (v : Wrote (ns (from + s .nodes)) (restOf (s .bytes) m) rest u) (b : (first : ℕ) → Counted (ns first) k h) where
   -- their sizes may be added
-  pub two-few : {n y : ℕ} → Room from n y l → i + k ≤ n → 0 < i → Short i j → Short k h
+  pub two-few : {n y : ℕ} → SpaceFor from n y l → i + k ≤ n → 0 < i → Short i j → Short k h
       → Few (from + s .nodes + u .nodes) (s .bytes + u .bytes) × (0 < s .nodes)
   two-few r enough some f g =
       let first = wrote-sized w a in
@@ -42,7 +42,7 @@ module _ (from : ℕ) {ms : List Node} (ns : ℕ → List Node) {i j k h : ℕ} 
         wrote-answer (wrote-as (wrote-rest w v fits) (ap (λ e. ms ++ ns (from + e)) (first .nodesCounted))) (added .nodesAdd) (added .bytesAdd)
 
     -- a parent has room
-    pub two-room : (size : ℕ) {n y : ℕ} → Room from n y l → i + k + 1 ≤ n → j + h + size ≤ y
+    pub two-room : (size : ℕ) {n y : ℕ} → SpaceFor from n y l → i + k + 1 ≤ n → j + h + size ≤ y
         → (p .bytes + size ≤ length (withRest (s .bytes) m rest)) × (p .nodes < 2 ^ 32)
     two-room size r e f = room-parent size (two-wrote (omega (arith, r .fits))) (counted-append a (b (from + i))) r (omega arith) (omega arith)
 
@@ -87,7 +87,7 @@ module _ (from : ℕ) {ms : List Node} (ns ks : ℕ → List Node) {i j k h y z 
   three-wrote room = wrote-rest w (v .wrote) (omega (arith, three-sized .bytesCounted))
 
   -- a parent has room
-  pub three-room : (size : ℕ) {n e : ℕ} → Room from n e l → i + (k + y) + 1 ≤ n → j + (h + z) + size ≤ e
+  pub three-room : (size : ℕ) {n e : ℕ} → SpaceFor from n e l → i + (k + y) + 1 ≤ n → j + (h + z) + size ≤ e
       → (s .bytes + p .bytes + size ≤ length (withRest (s .bytes) m rest)) × (s .nodes + p .nodes < 2 ^ 32)
   three-room size r e f =
       room-parent size (three-wrote (omega (arith, r .fits))) (counted-append a (counted-append (b (from + s .nodes)) (c (from + s .nodes)))) r (omega arith) (omega arith)
@@ -136,7 +136,7 @@ module _ (from : ℕ) {ms : List Node} {i j : ℕ} {l m : List ℕ} {s : Size} w
       wrote-as (wrote-parent w parent) (ap (λ n. ms ++ (f n ∷ [])) (e ∙ ap (λ n. from + n - 1) (wrote-sized w a .nodesCounted)))
 
   -- the number of its last node
-  pub one-last : {n y : ℕ} → Wrote ms l m s → Counted ms i j → Room from n y l → i ≤ n → 0 < i → (0 < s .nodes) × (from + s .nodes ≤ 4096)
+  pub one-last : {n y : ℕ} → Wrote ms l m s → Counted ms i j → SpaceFor from n y l → i ≤ n → 0 < i → (0 < s .nodes) × (from + s .nodes ≤ 4096)
   one-last w a r enough some =
       let size = wrote-sized w a in
       (omega (arith, size .nodesCounted), omega (arith, r .numbers, size .nodesCounted))

@@ -12,7 +12,7 @@ use Rattle.awhile.proofs.Lists.{flatMap-append}
 use Rattle.awhile.specs.declared.Node.{Node}
 use Rattle.copier.specs.Sizes.{Sized}
 use Rattle.copier.specs.Records.{recordOf, recordBytes, recordSize}
-use Rattle.copier.specs.Written.{Appended, AppendedRecord, Wrote, Room}
+use Rattle.copier.specs.Written.{Appended, AppendedRecord, Wrote, SpaceFor}
 use Rattle.reader.specs.Reader.{formOf}
 use Rattle.reader.specs.declared.forms.Form.{Form}
 use Rattle.copier.specs.declared.Record.{Record}
@@ -112,12 +112,12 @@ wrote-leaf e a = wrote-node (appended-as e a)
 
 -- ---- room
 -- room for the first part of it
-pub room-first : {from n b i j : ℕ} {out : List ℕ} → Room from n b out → i ≤ n → j ≤ b → Room from i j out
+pub room-first : {from n b i j : ℕ} {out : List ℕ} → SpaceFor from n b out → i ≤ n → j ≤ b → SpaceFor from i j out
 room-first r p q = record { numbers = omega (arith, r .numbers); fits = omega (arith, r .fits) }
 
 -- room for what is left, in the rest of the slice
-pub room-rest : {from n b i j k h : ℕ} {l m : List ℕ} {ns : List Node} {s : Size} → Wrote ns l m s → Counted ns i j → Room from n b l → i + k ≤ n → j + h ≤ b
-    → Room (from + s .nodes) k h (restOf (s .bytes) m)
+pub room-rest : {from n b i j k h : ℕ} {l m : List ℕ} {ns : List Node} {s : Size} → Wrote ns l m s → Counted ns i j → SpaceFor from n b l → i + k ≤ n → j + h ≤ b
+    → SpaceFor (from + s .nodes) k h (restOf (s .bytes) m)
 room-rest {m = m} {s = s} w c r p q =
     let z = wrote-sized w c in
     record {
@@ -126,25 +126,25 @@ room-rest {m = m} {s = s} w c r p q =
     }
 
 -- the rest begins inside
-pub rest-inside : {from n b i j : ℕ} {l m : List ℕ} {ns : List Node} {s : Size} → Wrote ns l m s → Counted ns i j → Room from n b l → j ≤ b → s .bytes ≤ length m
+pub rest-inside : {from n b i j : ℕ} {l m : List ℕ} {ns : List Node} {s : Size} → Wrote ns l m s → Counted ns i j → SpaceFor from n b l → j ≤ b → s .bytes ≤ length m
 rest-inside w c r q = omega (arith, r .fits, wrote-sized w c .bytesCounted, wrote-length w)
 
 -- what is left behind a first part for so many nodes and bytes
 pub record Rest (from nodes bytes : ℕ) (first : Size) (out : List ℕ) : Type 0 where
   pub inside : first .bytes ≤ length out
-  pub room : Room (from + first .nodes) nodes bytes (restOf (first .bytes) out)
+  pub room : SpaceFor (from + first .nodes) nodes bytes (restOf (first .bytes) out)
 
-pub rest-of : {from n b i j k h : ℕ} {l m : List ℕ} {ns : List Node} {s : Size} → Wrote ns l m s → Counted ns i j → Room from n b l → i + k ≤ n → j + h ≤ b
+pub rest-of : {from n b i j k h : ℕ} {l m : List ℕ} {ns : List Node} {s : Size} → Wrote ns l m s → Counted ns i j → SpaceFor from n b l → i + k ≤ n → j + h ≤ b
     → Rest from k h s m
 rest-of w c r p q = record { inside = rest-inside w c r (omega arith); room = room-rest w c r p q }
 
 -- room for a parent
-pub room-parent : (size : ℕ) {from n b i j : ℕ} {l m : List ℕ} {ns : List Node} {s : Size} → Wrote ns l m s → Counted ns i j → Room from n b l → i + 1 ≤ n → j + size ≤ b
+pub room-parent : (size : ℕ) {from n b i j : ℕ} {l m : List ℕ} {ns : List Node} {s : Size} → Wrote ns l m s → Counted ns i j → SpaceFor from n b l → i + 1 ≤ n → j + size ≤ b
     → (s .bytes + size ≤ length m) × (s .nodes < 2 ^ 32)
 room-parent size w c r p q =
     let z = wrote-sized w c in
     (omega (arith, r .fits, z .bytesCounted, wrote-length w), omega (arith, r .numbers, z .nodesCounted))
 
 -- room for a node alone
-pub room-leaf : (n : Node) {from i size : ℕ} {l : List ℕ} → Room from i size l → sizeOf n ≡ size → (0 + sizeOf n ≤ length l) × (0 < 2 ^ 32)
+pub room-leaf : (n : Node) {from i size : ℕ} {l : List ℕ} → SpaceFor from i size l → sizeOf n ≡ size → (0 + sizeOf n ≤ length l) × (0 < 2 ^ 32)
 room-leaf n r e = (omega (arith, r .fits), omega arith)

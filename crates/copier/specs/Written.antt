@@ -34,7 +34,7 @@ pub record Wrote (nodes : List Node) (before after : List ℕ) (answer : Size) :
   pub bytesCounted : answer .bytes ≡ length (flatMap nodeBytes nodes)
 
 -- room for so many nodes, numbered from a number on, in so many bytes
-pub record Room (from nodes bytes : ℕ) (out : List ℕ) : Type 0 where
+pub record SpaceFor (from nodes bytes : ℕ) (out : List ℕ) : Type 0 where
   pub numbers : from + nodes ≤ maxNodes
   pub fits : bytes ≤ length out
 

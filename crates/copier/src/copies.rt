@@ -15,7 +15,7 @@ ghost use Rattle.reader.specs.Index.{numericIn, truthIn, OfSort};
 ghost use Rattle.awhile.specs.Tables.{maxNodes};
 ghost use Rattle.awhile.specs.declared.Sort.the-variants.{Numeric, Truth};
 ghost use Rattle.copier.specs.Sizes.{bytesOfA, bytesOfB, Few};
-ghost use Rattle.copier.specs.Written.{Room, Wrote, WrotePair, WroteBinary, Both};
+ghost use Rattle.copier.specs.Written.{SpaceFor, Wrote, WrotePair, WroteBinary, Both};
 
 // The number of the last of so many nodes.
 pub fn last(from: usize, nodes: usize) -> usize
@@ -42,7 +42,7 @@ pub fn both(from: usize, first: Size, second: Size) -> Pair
 // Copies a numeric node.
 pub fn copy_numeric(table: &[u8], index: &[u16], n: usize, from: usize, out: &mut [u8]) -> Size
     requires { ⌜ OfSort (now table) (now index) Numeric n ⌝ }
-    requires { ⌜ Room from (nodesOfA (numericIn (now table) n)) (bytesOfA (numericIn (now table) n)) (now out) ⌝ }
+    requires { ⌜ SpaceFor from (nodesOfA (numericIn (now table) n)) (bytesOfA (numericIn (now table) n)) (now out) ⌝ }
     ensures { λ r. ⌜ Wrote (writeA from (numericIn (now (table .entry)) n)) (now (out .entry)) (now (out .exit)) r ⌝ }
 {
     let node = numeric_at(table, index, n);
@@ -63,7 +63,7 @@ pub fn copy_numeric(table: &[u8], index: &[u16], n: usize, from: usize, out: &mu
 // Copies a truth node.
 pub fn copy_truth(table: &[u8], index: &[u16], n: usize, from: usize, out: &mut [u8]) -> Size
     requires { ⌜ OfSort (now table) (now index) Truth n ⌝ }
-    requires { ⌜ Room from (nodesOfB (truthIn (now table) n)) (bytesOfB (truthIn (now table) n)) (now out) ⌝ }
+    requires { ⌜ SpaceFor from (nodesOfB (truthIn (now table) n)) (bytesOfB (truthIn (now table) n)) (now out) ⌝ }
     ensures { λ r. ⌜ Wrote (writeB from (truthIn (now (table .entry)) n)) (now (out .entry)) (now (out .exit)) r ⌝ }
 {
     let node = truth_at(table, index, n);
@@ -93,7 +93,7 @@ fn copy_pair(
 ) -> Pair
     requires { ⌜ OfSort (now table) (now index) Numeric left × OfSort (now table) (now index) Numeric right ⌝ }
     requires { ⌜
-        Room from
+        SpaceFor from
         (nodesOfA (numericIn (now table) left) + nodesOfA (numericIn (now table) right))
         (bytesOfA (numericIn (now table) left) + bytesOfA (numericIn (now table) right))
         (now out) ⌝ }
@@ -118,7 +118,7 @@ fn copy_binary(
 ) -> Size
     requires { ⌜ OfSort (now table) (now index) Numeric left × OfSort (now table) (now index) Numeric right ⌝ }
     requires { ⌜
-        Room from
+        SpaceFor from
         (nodesOfA (numericIn (now table) left) + nodesOfA (numericIn (now table) right) + 1)
         (bytesOfA (numericIn (now table) left) + bytesOfA (numericIn (now table) right) + 8)
         (now out) ⌝ }
@@ -145,7 +145,7 @@ fn copy_choice(
         × OfSort (now table) (now index) Numeric yes
         × OfSort (now table) (now index) Numeric no ⌝ }
     requires { ⌜
-        Room from
+        SpaceFor from
         (nodesOfB (truthIn (now table) condition) + nodesOfA (numericIn (now table) yes) + nodesOfA (numericIn (now table) no) + 1)
         (bytesOfB (truthIn (now table) condition) + bytesOfA (numericIn (now table) yes) + bytesOfA (numericIn (now table) no) + 10)
         (now out) ⌝ }
@@ -176,7 +176,7 @@ fn copy_and(
 ) -> Size
     requires { ⌜ OfSort (now table) (now index) Truth left × OfSort (now table) (now index) Truth right ⌝ }
     requires { ⌜
-        Room from
+        SpaceFor from
         (nodesOfB (truthIn (now table) left) + nodesOfB (truthIn (now table) right) + 1)
         (bytesOfB (truthIn (now table) left) + bytesOfB (truthIn (now table) right) + 8)
         (now out) ⌝ }

@@ -11,7 +11,7 @@ use Rattle.awhile.specs.Encoding.{nodesOfB, nodesOf, writeB, writeC}
 use Rattle.awhile.specs.declared.Node.the-variants.{If}
 use Rattle.masks.specs.Hardening.{Origin}
 use Rattle.copier.specs.Sizes.{bytesOfB, bytesOf, Sized}
-use Rattle.copier.specs.Written.{Appended, Wrote, WroteTwo, Room}
+use Rattle.copier.specs.Written.{Appended, Wrote, WroteTwo, SpaceFor}
 use Rattle.copier.specs.declared.Pair.{Pair}
 use Rattle.copier.specs.declared.Size.{Size}
 use Rattle.masking.proofs.TwoParts.{FirstWritten, first-written}
@@ -32,18 +32,18 @@ pub record TestWritten (from : ℕ) (b : BExp) (c d : Com Origin) (l m : List �
   pub parts : FirstWritten from (writeB from b) (λ n. writeC n c ++ writeC (n + nodesOf c) d) (nodesOfB b) (bytesOfB b) (nodesOf c + nodesOf d) (bytesOf c + bytesOf d) 1 10 l m s
 
 module _ {from more size : ℕ} {l m : List ℕ} {s : Size} where
-  pub command-written : (c d : Com Origin) → Room from (nodesOf c + nodesOf d + more) (bytesOf c + bytesOf d + size) l → Wrote (writeC from c) l m s
+  pub command-written : (c d : Com Origin) → SpaceFor from (nodesOf c + nodesOf d + more) (bytesOf c + bytesOf d + size) l → Wrote (writeC from c) l m s
       → CommandWritten from c d more size l m s
   command-written c d room w =
       first-written w (counted-C from c) (λ n. counted-C n d) (some-C c) (bytes-C c) (bytes-C d) room
 
-  pub condition-written : (b : BExp) (d : Com Origin) → Room from (nodesOfB b + nodesOf d + more) (bytesOfB b + bytesOf d + size) l → Wrote (writeB from b) l m s
+  pub condition-written : (b : BExp) (d : Com Origin) → SpaceFor from (nodesOfB b + nodesOf d + more) (bytesOfB b + bytesOf d + size) l → Wrote (writeB from b) l m s
       → ConditionWritten from b d more size l m s
   condition-written b d room w =
       first-written w (counted-B from b) (λ n. counted-C n d) (some-B b) (bytes-B b) (bytes-C d) room
 
 pub test-written : {from : ℕ} {l m : List ℕ} {s : Size} (b : BExp) (c d : Com Origin)
-    → Room from (nodesOfB b + (nodesOf c + nodesOf d) + 1) (bytesOfB b + (bytesOf c + bytesOf d) + 10) l → Wrote (writeB from b) l m s → TestWritten from b c d l m s
+    → SpaceFor from (nodesOfB b + (nodesOf c + nodesOf d) + 1) (bytesOfB b + (bytesOf c + bytesOf d) + 10) l → Wrote (writeB from b) l m s → TestWritten from b c d l m s
 test-written {from} b c d room w =
     record {
       parts = record {

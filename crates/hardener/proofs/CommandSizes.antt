@@ -9,7 +9,7 @@ use Rattle.awhile.specs.Encoding.{nodesOfA, nodesOfB, nodesOf}
 use Rattle.reader.specs.Index.{truthIn}
 use Rattle.masks.specs.Decisions.{Decision, decision}
 use Rattle.masks.specs.Hardening.{Origin, maskedCondition, zeroIfGuessing, maskedIndex, flagIfTrue, flagIfFalse, maskValueOf, harden}
-use Rattle.masking.specs.InMemory.{hardenedIn, flagUpdate, testIn, sideIn, ifIn, loopIn, whileIn}
+use Rattle.masking.specs.InMemory.{hardenedAt, flagUpdate, testIn, sideIn, ifIn, loopIn, whileIn}
 use Rattle.copier.specs.Sizes.{bytesOfA, bytesOfB, bytesOf}
 use Rattle.copier.specs.Totals.{total, totalOfA, totalOfB, totalOf}
 
@@ -48,12 +48,12 @@ module _ (f : ℕ) where
   -- an if and a loop, from their condition and their sides
   module _ (table ds : List ℕ) (b : ℕ) (mask : Bool) (o : Origin) where
     pub if-total : (c d : ℕ) → totalOf (ifIn table ds f b mask o c d)
-        ≡ 3 * (totalOfB (truthIn table b) + cond mask (total 4 30) 0) + totalOf (hardenedIn table ds f c) + totalOf (hardenedIn table ds f d) + total 11 90
+        ≡ 3 * (totalOfB (truthIn table b) + cond mask (total 4 30) 0) + totalOf (hardenedAt table ds f c) + totalOf (hardenedAt table ds f d) + total 11 90
     unfolding ifIn sideIn testIn flagUpdate flagIfTrue flagIfFalse nodesOf bytesOf nodesOfA bytesOfA
     if-total c d = omega (arith, test-total mask (truthIn table b))
 
     pub while-total : (c : ℕ) → totalOf (whileIn table ds f b mask o c)
-        ≡ 3 * (totalOfB (truthIn table b) + cond mask (total 4 30) 0) + totalOf (hardenedIn table ds f c) + total 11 88
+        ≡ 3 * (totalOfB (truthIn table b) + cond mask (total 4 30) 0) + totalOf (hardenedAt table ds f c) + total 11 88
     unfolding whileIn loopIn sideIn testIn flagUpdate flagIfTrue flagIfFalse nodesOf bytesOf nodesOfA bytesOfA
     while-total c = omega (arith, test-total mask (truthIn table b))
 

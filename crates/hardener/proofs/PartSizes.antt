@@ -20,7 +20,7 @@ use Rattle.reader.proofs.Index.{Child, Parts, numeric-size, truth-size, command
 use Rattle.masks.specs.Hardening.{Origin}
 use Rattle.masks.proofs.Growth.{hardened-most, nodesOf-mapped}
 use Rattle.masking.specs.Deciding.{decisionIn, decidedIn}
-use Rattle.masking.specs.InMemory.{hardenedIn}
+use Rattle.masking.specs.InMemory.{hardenedAt}
 use Rattle.copier.specs.Sizes.{bytesOf}
 use Rattle.copier.specs.Totals.{total, totalOf, Totals, OverTwo, Holds, NumericTotal, TruthTotal}
 use Rattle.copier.proofs.Lengths.{counted-C, bytes-A, bytes-B, bytes-C}
@@ -54,43 +54,43 @@ module _ {table ds totals : List ℕ} {n : ℕ} (t : SizesBelow table ds totals 
   pub part-B : {c : ℕ} → Child table Truth n c → TruthTotal (truthIn table c) (getD totals c 0)
   part-B {c} h = t .at c (h .below) .expression .truth (h .isSort)
 
-  part-C : {c : ℕ} → Child table Command n c → getD totals c 0 ≡ totalOf (hardenedIn table ds 0 c)
+  part-C : {c : ℕ} → Child table Command n c → getD totals c 0 ≡ totalOf (hardenedAt table ds 0 c)
   part-C {c} h = t .at c (h .below) .command (h .isSort)
 
   -- ---- the total of a command, by its kind
   module _ {r : ℕ} where
-    pub assign-sized : (x e : ℕ) → Parts table n (Assign x e) → r ≡ getD totals e 0 + total 1 8 → r ≡ totalOf (hardenedIn table ds 0 n)
+    pub assign-sized : (x e : ℕ) → Parts table n (Assign x e) → r ≡ getD totals e 0 + total 1 8 → r ≡ totalOf (hardenedAt table ds 0 n)
     unfolding nodesOf bytesOf
     assign-sized x e p v = total-C (in-assign table ds 0 n (p .2)) (omega (arith, v, counted-total-A (part-A (p .1))))
 
-    pub sequence-sized : (c d : ℕ) → Parts table n (Sequence c d) → OverTwo (getD totals c 0) (getD totals d 0) r → r ≡ totalOf (hardenedIn table ds 0 n)
+    pub sequence-sized : (c d : ℕ) → Parts table n (Sequence c d) → OverTwo (getD totals c 0) (getD totals d 0) r → r ≡ totalOf (hardenedAt table ds 0 n)
     sequence-sized c d p v =
-        total-C (in-sequence table ds 0 n c d (p .2)) (sequence-total (some n) (hardenedIn table ds 0 c) (hardenedIn table ds 0 d) (part-C (p .0)) (part-C (p .1)) v)
+        total-C (in-sequence table ds 0 n c d (p .2)) (sequence-total (some n) (hardenedAt table ds 0 c) (hardenedAt table ds 0 d) (part-C (p .0)) (part-C (p .1)) v)
 
     pub if-sized : (b c d : ℕ) → Parts table n (If b c d)
         → r ≡ 3 * (getD totals b 0 + cond (decisionIn ds n .maskCondition) (total 4 30) 0) + getD totals c 0 + getD totals d 0 + total 11 90
-        → r ≡ totalOf (hardenedIn table ds 0 n)
+        → r ≡ totalOf (hardenedAt table ds 0 n)
     if-sized b c d p v =
         total-C (in-if table ds 0 n b c d (p .3) refl)
         (omega (arith, v, counted-total-B (part-B (p .0)), part-C (p .1), part-C (p .2), if-total 0 table ds b (decisionIn ds n .maskCondition) (some n) c d))
 
     pub while-sized : (b c : ℕ) → Parts table n (While b c)
         → r ≡ 3 * (getD totals b 0 + cond (decisionIn ds n .maskCondition) (total 4 30) 0) + getD totals c 0 + total 11 88
-        → r ≡ totalOf (hardenedIn table ds 0 n)
+        → r ≡ totalOf (hardenedAt table ds 0 n)
     while-sized b c p v =
         total-C (in-while table ds 0 n b c (p .2) refl)
         (omega (arith, v, counted-total-B (part-B (p .0)), part-C (p .1), while-total 0 table ds b (decisionIn ds n .maskCondition) (some n) c))
 
     pub read-sized : (x a i : ℕ) → Parts table n (Read x a i)
         → r ≡ getD totals i 0 + cond (decisionIn ds n .maskIndex) (total 5 40) 0 + cond (decisionIn ds n .maskValue) (total 8 62) 0 + total 1 10
-        → r ≡ totalOf (hardenedIn table ds 0 n)
+        → r ≡ totalOf (hardenedAt table ds 0 n)
     read-sized x a i p v =
         total-C (in-read table ds 0 n (p .3) refl refl)
         (omega (arith, v, counted-total-A (part-A (p .2)), read-total 0 x a n (decisionIn ds n .maskIndex) (decisionIn ds n .maskValue) (numericIn table i)))
 
     pub write-sized : (a i e : ℕ) → Parts table n (Write a i e)
         → r ≡ getD totals i 0 + cond (decisionIn ds n .maskIndex) (total 5 40) 0 + getD totals e 0 + total 1 10
-        → r ≡ totalOf (hardenedIn table ds 0 n)
+        → r ≡ totalOf (hardenedAt table ds 0 n)
     write-sized a i e p v =
         total-C (in-write table ds 0 n (p .3) refl)
         (omega (
@@ -132,7 +132,7 @@ module _ {table ds totals : List ℕ} {n : ℕ} (t : SizesBelow table ds totals 
         }
 
     pub holds-C : Child table Command n c → Holds totals c
-    unfolding hardenedIn decidedIn
+    unfolding hardenedAt decidedIn
     holds-C h =
         record {
           inside = omega (arith, h .inside, t .room);
@@ -144,7 +144,7 @@ module _ {table ds totals : List ℕ} {n : ℕ} (t : SizesBelow table ds totals 
             s .few,
             hardened-most 0 (decidedIn table ds c),
             nodesOf-mapped (decisionIn ds) (commandIn table c),
-            bytes-C (hardenedIn table ds 0 c) .short,
+            bytes-C (hardenedAt table ds 0 c) .short,
           );
         }
 
@@ -157,7 +157,7 @@ module _ {table ds totals : List ℕ} {n : ℕ} (t : SizesBelow table ds totals 
       go k below (no e) = rw (getD-set-other totals n k r 0 e) (t .at k (omega arith))
 
 -- a skip is one node
-pub skip-sized : (table ds : List ℕ) (n : ℕ) → Parts table n Skip → total 1 4 ≡ totalOf (hardenedIn table ds 0 n)
+pub skip-sized : (table ds : List ℕ) (n : ℕ) → Parts table n Skip → total 1 4 ≡ totalOf (hardenedAt table ds 0 n)
 unfolding nodesOf bytesOf
 skip-sized table ds n p = total-C (in-skip table ds 0 n p) refl
 
@@ -169,7 +169,7 @@ module _ {table ds : List ℕ} {n r : ℕ} where
   pub truth-sized : sortOf (nodeIn table n) ≡ Truth → TruthTotal (truthIn table n) r → NodeSize table ds n r
   truth-sized e t = record { expression = truth-node e t; command = λ s. absurd (let z : _≡_ {A = ℕ} 0 1 = cc in omega arith) }
 
-  pub command-sized : sortOf (nodeIn table n) ≡ Command → r ≡ totalOf (hardenedIn table ds 0 n) → NodeSize table ds n r
+  pub command-sized : sortOf (nodeIn table n) ≡ Command → r ≡ totalOf (hardenedAt table ds 0 n) → NodeSize table ds n r
   command-sized e t = record { expression = command-node e; command = λ s. t }
 
 -- ---- all nodes

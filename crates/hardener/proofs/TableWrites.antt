@@ -27,13 +27,13 @@ use Rattle.masks.specs.Decisions.{Decision}
 use Rattle.masks.specs.Growth.{MasksLargeConditions}
 use Rattle.masks.specs.Hardening.{Origin, hardenedProgram, tableOfHardened, hardenedTable}
 use Rattle.masking.specs.Deciding.{decisionIn, decidedIn}
-use Rattle.masking.specs.InMemory.{hardenedIn, Hardenable}
+use Rattle.masking.specs.InMemory.{hardenedAt, Hardenable}
 use Rattle.masking.proofs.DecidedProgram.{program-hardened, program-large}
 use Rattle.hardener.specs.Output.{Measurable, Writable, WroteTable}
 use Rattle.hardener.specs.Sizes.{Sizable, AllSized}
 use Rattle.copier.specs.Sizes.{bytesOf}
 use Rattle.copier.specs.Totals.{bytesTold}
-use Rattle.copier.specs.Written.{Room, Wrote}
+use Rattle.copier.specs.Written.{SpaceFor, Wrote}
 use Rattle.copier.specs.declared.Size.{Size}
 use Rattle.copier.specs.Records.{recordBytes}
 use Rattle.copier.specs.declared.Record.the-variants.{One}
@@ -161,8 +161,8 @@ module _ {table index ds : List ℕ} {declared : Declarations} (bytes : Below 25
   is-last = omega (arith, ready-nodes (m .ready))
 
   -- what comes out for the root is the hardened program
-  root-hardened : hardenedIn table ds (tableOf table .variables) (rootAt declared) ≡ hardenedProgram (tableOf table)
-  root-hardened = ap (hardenedIn table ds (tableOf table .variables)) (sym is-last) ∙ program-hardened (m .decided)
+  root-hardened : hardenedAt table ds (tableOf table .variables) (rootAt declared) ≡ hardenedProgram (tableOf table)
+  root-hardened = ap (hardenedAt table ds (tableOf table .variables)) (sym is-last) ∙ program-hardened (m .decided)
 
   pub root-hardenable : Hardenable table index ds (rootAt declared)
   root-hardenable =
@@ -176,8 +176,8 @@ module _ {table index ds : List ℕ} {declared : Declarations} (bytes : Below 25
       }
 
   -- at most 8 nodes come out per node put in
-  root-grown : nodesOf (hardenedIn table ds 0 (rootAt declared)) ≤ 8 * nodesIn table
-  unfolding hardenedIn decidedIn nodesIn
+  root-grown : nodesOf (hardenedAt table ds 0 (rootAt declared)) ≤ 8 * nodesIn table
+  unfolding hardenedAt decidedIn nodesIn
   root-grown =
       let d : Com Decision = decidedIn table ds (rootAt declared) in
       omega (
@@ -188,7 +188,7 @@ module _ {table index ds : List ℕ} {declared : Declarations} (bytes : Below 25
         root-size (tableOf table) (indexed-well-formed table index bytes (m .ready .indexed)),
       )
 
-  pub root-few : nodesOf (hardenedIn table ds 0 (rootAt declared)) ≤ maxNodes
+  pub root-few : nodesOf (hardenedAt table ds 0 (rootAt declared)) ≤ maxNodes
   root-few = omega (arith, root-grown, m .few)
 
   -- the nodes of the hardened table stand where those of the table do
@@ -196,8 +196,8 @@ module _ {table index ds : List ℕ} {declared : Declarations} (bytes : Below 25
   same-start = ap nodesStart (ready-header (m .ready) .isHeader)
 
   -- how long the hardened table is, by its root
-  pub measured-length : length (tableBytes (hardenedTable (tableOf table))) ≡ nodesStart (declared .header) + bytesOf (hardenedIn table ds 0 (rootAt declared))
-  unfolding hardenedIn
+  pub measured-length : length (tableBytes (hardenedTable (tableOf table))) ≡ nodesStart (declared .header) + bytesOf (hardenedAt table ds 0 (rootAt declared))
+  unfolding hardenedAt
   measured-length =
       let same = any-flag 0 (tableOf table .variables) (decidedIn table ds (rootAt declared)) in
       omega (arith, same .bytesSame, ap bytesOf root-hardened, table-length (tableOf table), same-start)
@@ -212,18 +212,18 @@ module _ {table index ds : List ℕ} {declared : Declarations} (bytes : Below 25
         t .commands (rootAt declared) (root .inside) (root .isSort),
         measured-length,
         root-few,
-        bytes-C (hardenedIn table ds 0 (rootAt declared)) .short,
+        bytes-C (hardenedAt table ds 0 (rootAt declared)) .short,
       )
 
   -- at most 80 bytes come out per node put in
   pub measured-short : length (tableBytes (hardenedTable (tableOf table))) ≤ nodesStart (declared .header) + 80 * declared .header .nodes
-  measured-short = omega (arith, measured-length, bytes-C (hardenedIn table ds 0 (rootAt declared)) .short, root-grown, ready-nodes (m .ready))
+  measured-short = omega (arith, measured-length, bytes-C (hardenedAt table ds 0 (rootAt declared)) .short, root-grown, ready-nodes (m .ready))
 
 -- ---- writing the hardened table
 module _ {table index ds : List ℕ} {declared : Declarations} {out : List ℕ} (bytes : Below 256 table) (w : Writable table index ds declared out) where
   -- what comes out
   abbrev program : Com Origin
-  program = hardenedIn table ds (declared .header .variables) (rootAt declared)
+  program = hardenedAt table ds (declared .header .variables) (rootAt declared)
 
   has-header : HasHeader table (declared .header)
   has-header = ready-header (w .measurable .ready)
@@ -232,7 +232,7 @@ module _ {table index ds : List ℕ} {declared : Declarations} {out : List ℕ} 
   well-declared = indexed-well-formed table index bytes (w .measurable .ready .indexed) .declared
 
   written-program : program ≡ hardenedProgram (tableOf table)
-  written-program = ap (λ f. hardenedIn table ds f (rootAt declared)) (ready-variables (w .measurable .ready)) ∙ root-hardened bytes (w .measurable)
+  written-program = ap (λ f. hardenedAt table ds f (rootAt declared)) (ready-variables (w .measurable .ready)) ∙ root-hardened bytes (w .measurable)
 
   -- the bytes of the hardened table
   whole-bytes : tableBytes (hardenedTable (tableOf table))
@@ -262,13 +262,13 @@ module _ {table index ds : List ℕ} {declared : Declarations} {out : List ℕ} 
 
   -- so many nodes come out that a table may have them
   written-few : nodesOf program ≤ maxNodes
-  unfolding hardenedIn
+  unfolding hardenedAt
   written-few = omega (arith, root-few bytes (w .measurable), any-flag 0 (declared .header .variables) (decidedIn table ds (rootAt declared)) .nodesSame)
 
   -- ---- behind the declarations
   module _ (at : ℕ) (here : at ≡ nodesStart (declared .header)) where
     -- room for the nodes
-    pub nodes-room : (m : List ℕ) → length m ≡ length out → Room 0 (nodesOf program) (bytesOf program) (restOf at m)
+    pub nodes-room : (m : List ℕ) → length m ≡ length out → SpaceFor 0 (nodesOf program) (bytesOf program) (restOf at m)
     nodes-room m same =
         record {
           numbers = omega (arith, written-few);

@@ -7,7 +7,7 @@ use Rattle.awhile.specs.Nodes.{sortOf}
 use Rattle.awhile.specs.declared.Sort.the-variants.{Command}
 use Rattle.reader.specs.Index.{nodesIn, nodeIn, Indexed}
 use Rattle.masks.specs.Hardening.{maxHardened}
-use Rattle.masking.specs.InMemory.{hardenedIn}
+use Rattle.masking.specs.InMemory.{hardenedAt}
 use Rattle.copier.specs.Totals.{totalOf, NodeTotal, EveryCopy}
 
 -- a table that may be hardened, with room for its decisions
@@ -19,7 +19,7 @@ pub record Sizable (table index ds : List ℕ) : Type 0 where
 -- an expression's total is that of every copy, a command's that of what it hardens to, which is the same whatever the flag's number
 pub record NodeSize (table ds : List ℕ) (n answer : ℕ) : Type 0 where
   pub expression : NodeTotal table n answer
-  pub command : sortOf (nodeIn table n) ≡ Command → answer ≡ totalOf (hardenedIn table ds 0 n)
+  pub command : sortOf (nodeIn table n) ≡ Command → answer ≡ totalOf (hardenedAt table ds 0 n)
 
 -- the nodes below a number have theirs
 pub record SizesBelow (table ds totals : List ℕ) (below : ℕ) : Type 0 where
@@ -29,4 +29,4 @@ pub record SizesBelow (table ds totals : List ℕ) (below : ℕ) : Type 0 where
 -- all nodes have theirs: P3's sentence for the expressions, and for the commands what they harden to
 pub record AllSized (table ds totals : List ℕ) : Type 0 where
   pub copies : EveryCopy table totals
-  pub commands : (n : ℕ) → n < nodesIn table → sortOf (nodeIn table n) ≡ Command → getD totals n 0 ≡ totalOf (hardenedIn table ds 0 n)
+  pub commands : (n : ℕ) → n < nodesIn table → sortOf (nodeIn table n) ≡ Command → getD totals n 0 ≡ totalOf (hardenedAt table ds 0 n)

@@ -23,9 +23,9 @@ ghost use Rattle.awhile.specs.Encoding.{nodesOf, writeC};
 ghost use Rattle.awhile.specs.declared.Sort.the-variants.{Numeric, Truth};
 ghost use Rattle.reader.specs.Index.{nodeIn, OfSort, Single};
 ghost use Rattle.hardener.specs.Forms.{assignIn, sequenceIn};
-ghost use Rattle.masking.specs.InMemory.{hardenedIn, sideIn, ifIn, loopIn, whileIn, Hardenable};
+ghost use Rattle.masking.specs.InMemory.{hardenedAt, sideIn, ifIn, loopIn, whileIn, Hardenable};
 ghost use Rattle.copier.specs.Sizes.{bytesOf};
-ghost use Rattle.copier.specs.Written.{Room, Wrote, WroteTwo};
+ghost use Rattle.copier.specs.Written.{SpaceFor, Wrote, WroteTwo};
 
 // An assignment: its value, and the node.
 fn harden_assign(
@@ -37,7 +37,7 @@ fn harden_assign(
     out: &mut [u8],
 ) -> Size
     requires { ⌜ OfSort (now table) (now index) Numeric value ⌝ }
-    requires { ⌜ Room from (nodesOf (assignIn (now table) variable value)) (bytesOf (assignIn (now table) variable value)) (now out) ⌝ }
+    requires { ⌜ SpaceFor from (nodesOf (assignIn (now table) variable value)) (bytesOf (assignIn (now table) variable value)) (now out) ⌝ }
     ensures { λ r. ⌜ Wrote (writeC from (assignIn (now (table .entry)) variable value)) (now (out .entry)) (now (out .exit)) r ⌝ }
 {
     let part = copy_numeric(table, index, value, from, &mut *out);
@@ -65,12 +65,12 @@ fn harden_single(
 ) -> Size
     requires { ⌜ Hardenable (now table) (now index) (now decisions) n × (node ≡ nodeIn (now table) n) × Single node ⌝ }
     requires { ⌜
-        Room from
-        (nodesOf (hardenedIn (now table) (now decisions) flag n))
-        (bytesOf (hardenedIn (now table) (now decisions) flag n))
+        SpaceFor from
+        (nodesOf (hardenedAt (now table) (now decisions) flag n))
+        (bytesOf (hardenedAt (now table) (now decisions) flag n))
         (now out) ⌝ }
     ensures { λ r. ⌜
-        Wrote (writeC from (hardenedIn (now (table .entry)) (now (decisions .entry)) flag n)) (now (out .entry)) (now (out .exit)) r ⌝ }
+        Wrote (writeC from (hardenedAt (now (table .entry)) (now (decisions .entry)) flag n)) (now (out .entry)) (now (out .exit)) r ⌝ }
 {
     match node {
         Node::Assign { variable, value } => harden_assign(table, index, variable, value, from, out),
@@ -119,12 +119,12 @@ pub fn harden_command(
 ) -> Size
     requires { ⌜ Hardenable (now table) (now index) (now decisions) n ⌝ }
     requires { ⌜
-        Room from
-        (nodesOf (hardenedIn (now table) (now decisions) flag n))
-        (bytesOf (hardenedIn (now table) (now decisions) flag n))
+        SpaceFor from
+        (nodesOf (hardenedAt (now table) (now decisions) flag n))
+        (bytesOf (hardenedAt (now table) (now decisions) flag n))
         (now out) ⌝ }
     ensures { λ r. ⌜
-        Wrote (writeC from (hardenedIn (now (table .entry)) (now (decisions .entry)) flag n)) (now (out .entry)) (now (out .exit)) r ⌝ }
+        Wrote (writeC from (hardenedAt (now (table .entry)) (now (decisions .entry)) flag n)) (now (out .entry)) (now (out .exit)) r ⌝ }
 {
     let node = command_at(table, index, n);
     match node {
@@ -184,7 +184,7 @@ fn harden_sequence(
 ) -> Size
     requires { ⌜ Hardenable (now table) (now index) (now decisions) first × Hardenable (now table) (now index) (now decisions) second ⌝ }
     requires { ⌜
-        Room from
+        SpaceFor from
         (nodesOf (sequenceIn (now table) (now decisions) flag first second))
         (bytesOf (sequenceIn (now table) (now decisions) flag first second))
         (now out) ⌝ }
@@ -221,7 +221,7 @@ fn harden_side(
 ) -> Size
     requires { ⌜ OfSort (now table) (now index) Truth condition × Hardenable (now table) (now index) (now decisions) side ⌝ }
     requires { ⌜
-        Room from
+        SpaceFor from
         (nodesOf (sideIn (now table) (now decisions) flag condition mask taken side))
         (bytesOf (sideIn (now table) (now decisions) flag condition mask taken side))
         (now out) ⌝ }
@@ -259,7 +259,7 @@ fn harden_sides(
     requires { ⌜ OfSort (now table) (now index) Truth condition
         × Hardenable (now table) (now index) (now decisions) first × Hardenable (now table) (now index) (now decisions) second ⌝ }
     requires { ⌜
-        Room from
+        SpaceFor from
         (nodesOf (sideIn (now table) (now decisions) flag condition mask true first)
         + nodesOf (sideIn (now table) (now decisions) flag condition mask false second))
         (bytesOf (sideIn (now table) (now decisions) flag condition mask true first)
@@ -316,7 +316,7 @@ fn harden_if(
     requires { ⌜ OfSort (now table) (now index) Truth condition
         × Hardenable (now table) (now index) (now decisions) first × Hardenable (now table) (now index) (now decisions) second ⌝ }
     requires { ⌜
-        Room from
+        SpaceFor from
         (nodesOf (ifIn (now table) (now decisions) flag condition mask none first second))
         (bytesOf (ifIn (now table) (now decisions) flag condition mask none first second))
         (now out) ⌝ }
@@ -364,7 +364,7 @@ fn harden_loop(
 ) -> Size
     requires { ⌜ OfSort (now table) (now index) Truth condition × Hardenable (now table) (now index) (now decisions) body ⌝ }
     requires { ⌜
-        Room from
+        SpaceFor from
         (nodesOf (loopIn (now table) (now decisions) flag condition mask none body))
         (bytesOf (loopIn (now table) (now decisions) flag condition mask none body))
         (now out) ⌝ }
@@ -412,7 +412,7 @@ fn harden_while(
 ) -> Size
     requires { ⌜ OfSort (now table) (now index) Truth condition × Hardenable (now table) (now index) (now decisions) body ⌝ }
     requires { ⌜
-        Room from
+        SpaceFor from
         (nodesOf (whileIn (now table) (now decisions) flag condition mask none body))
         (bytesOf (whileIn (now table) (now decisions) flag condition mask none body))
         (now out) ⌝ }

@@ -13,7 +13,7 @@ use Rattle.bytes_le.proofs.Words.{length-words}
 use Rattle.bytes_le.proofs.Stores.{sets-append}
 use Rattle.awhile.specs.Language.{Com, noteOf}
 use Rattle.reader.specs.Index.{commandIn}
-use Rattle.machine.specs.Memory.{pendingAfter, nextNode}
+use Rattle.machine.specs.Memory.{pendingWords, pendingAfter, nextNode}
 use Rattle.interpreter.specs.Stepping.{pendingOf}
 use Rattle.interpreter.specs.Running.{nextWord}
 use Rattle.interpreter.proofs.Stacks.{length-pending}
@@ -94,7 +94,7 @@ module _ (table : List ℕ) where
   -- "The first N pending entries hold the list, then zeros"
   pub pending-left : (ps ps₀ : List ℕ) (count nodes : ℕ) → Below 256 ps → count ≤ nodes → 4 * nodes ≤ length ps → Noted ps count → drop (4 * nodes) ps ≡ drop (4 * nodes) ps₀
       → sets ps (4 * count) (words (replicate (nodes - count) 0)) ≡ pendingAfter nodes (pendingOf table ps count) ps₀
-  unfolding pendingAfter
+  unfolding pendingWords pendingAfter
   pending-left ps ps₀ count nodes bytes few long noted beyond =
       let zs : List ℕ = words (replicate (nodes - count) 0) in
       let size : length zs ≡ 4 * (nodes - count) = length-words (replicate (nodes - count) 0) ∙ ap (λ n. 4 * n) (length-replicate (nodes - count) 0) in

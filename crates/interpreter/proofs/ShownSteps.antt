@@ -50,7 +50,7 @@ step-shown counts table rest room m (Get x a i) = refl
 step-shown counts table rest room m (Put a i v) = refl
 
 module _ (counts table : List ℕ) (rest : List (Com ℕ)) (s : State ℕ) where
-  side-taken : (v : Bool) (y n : Back) (f : Bool) → turned counts s (cond v (backOn table y rest) (backOn table n rest)) f ≡ changed table (PutBack (cond v y n)) rest s f
+  side-taken : (v : Bool) (y n : Back) (f : Bool) → turned s (cond v (backOn table y rest) (backOn table n rest)) f ≡ changed table (PutBack (cond v y n)) rest s f
   unfolding turned changed
   side-taken true y n f = refl
   side-taken false y n f = refl
@@ -64,25 +64,25 @@ module _ (counts table : List ℕ) (rest : List (Com ℕ)) (s : State ℕ) where
 
   module _ (cells : List ℕ) (words : s .cells ≡ fromWords (sum counts) cells) where
     -- a read of a cell, and a write
-    loaded-word : (x a i : ℕ) → inside counts a i ≡ true → loaded counts s x a i rest ≡ changed table (Assign x (leAt 4 cells (4 * cellPlace counts a i))) rest s (s .flag)
+    loaded-word : (x a i : ℕ) → inside counts a i ≡ true → loaded s x (cellPlace counts a i) rest ≡ changed table (Assign x (leAt 4 cells (4 * cellPlace counts a i))) rest s (s .flag)
     unfolding loaded changed
     loaded-word x a i there =
         let word : getD (s .cells) (cellPlace counts a i) 0 ≡ leAt 4 cells (4 * cellPlace counts a i) = rw words (word-at (sum counts) cells (cellPlace counts a i) (cell-within counts a i there)) in
         rw word
 
-    own-load : (x a i : ℕ) → onlyIf (inside counts a i) (loaded counts s x a i rest) ≡ fitState table rest s (loadFit cells x (s .flag) (cellOf counts a i))
+    own-load : (x a i : ℕ) → onlyIf (inside counts a i) (loaded s x (cellPlace counts a i) rest) ≡ fitState table rest s (loadFit cells x (s .flag) (cellOf counts a i))
     unfolding onlyIf cellOf loadFit
     own-load x a i = go (inside counts a i) refl
       where
-        go : (b : Bool) → inside counts a i ≡ b → onlyIf (inside counts a i) (loaded counts s x a i rest) ≡ fitState table rest s (loadFit cells x (s .flag) (cellOf counts a i))
+        go : (b : Bool) → inside counts a i ≡ b → onlyIf (inside counts a i) (loaded s x (cellPlace counts a i) rest) ≡ fitState table rest s (loadFit cells x (s .flag) (cellOf counts a i))
         go true e = rw (e, loaded-word x a i e)
         go false e = rw e
 
-    own-store : (a i v : ℕ) → onlyIf (inside counts a i) (stored counts s a i v rest) ≡ fitState table rest s (storeFit v (s .flag) (cellOf counts a i))
+    own-store : (a i v : ℕ) → onlyIf (inside counts a i) (stored s (cellPlace counts a i) v rest) ≡ fitState table rest s (storeFit v (s .flag) (cellOf counts a i))
     unfolding onlyIf cellOf storeFit stored changed
     own-store a i v = go (inside counts a i) refl
       where
-        go : (b : Bool) → inside counts a i ≡ b → onlyIf (inside counts a i) (stored counts s a i v rest) ≡ fitState table rest s (storeFit v (s .flag) (cellOf counts a i))
+        go : (b : Bool) → inside counts a i ≡ b → onlyIf (inside counts a i) (stored s (cellPlace counts a i) v rest) ≡ fitState table rest s (storeFit v (s .flag) (cellOf counts a i))
         go true e = rw e
         go false e = rw e
 
@@ -95,16 +95,16 @@ module _ (counts table : List ℕ) (rest : List (Com ℕ)) (s : State ℕ) where
     named-cell true false false p A fit a place missing found = sym missing
     named-cell false own there p A fit a place missing found = sym missing
 
-    named-load : (x a i b j : ℕ) → onlyIf (redirected counts s a i b j) (loaded counts s x b j rest) ≡ fitState table rest s (loadFit cells x (s .flag) (cellFor counts (s .flag) a i (Named b j)))
+    named-load : (x a i b j : ℕ) → onlyIf (redirected counts s a i b j) (loaded s x (cellPlace counts b j) rest) ≡ fitState table rest s (loadFit cells x (s .flag) (cellFor counts (s .flag) a i (Named b j)))
     unfolding redirected cellOf cellFor loadFit
     named-load x a i b j =
-        named-cell (s .flag) (inside counts a i) (inside counts b j) (cellPlace counts a i) (State ℕ) (λ c. fitState table rest s (loadFit cells x (s .flag) c)) (loaded counts s x b j rest) (cellPlace counts b j) refl
+        named-cell (s .flag) (inside counts a i) (inside counts b j) (cellPlace counts a i) (State ℕ) (λ c. fitState table rest s (loadFit cells x (s .flag) c)) (loaded s x (cellPlace counts b j) rest) (cellPlace counts b j) refl
         (λ there. ap some (sym (loaded-word x b j there)))
 
-    named-store : (a i v b j : ℕ) → onlyIf (redirected counts s a i b j) (stored counts s b j v rest) ≡ fitState table rest s (storeFit v (s .flag) (cellFor counts (s .flag) a i (Named b j)))
+    named-store : (a i v b j : ℕ) → onlyIf (redirected counts s a i b j) (stored s (cellPlace counts b j) v rest) ≡ fitState table rest s (storeFit v (s .flag) (cellFor counts (s .flag) a i (Named b j)))
     unfolding redirected cellOf cellFor storeFit stored changed
     named-store a i v b j =
-        named-cell (s .flag) (inside counts a i) (inside counts b j) (cellPlace counts a i) (State ℕ) (λ c. fitState table rest s (storeFit v (s .flag) c)) (stored counts s b j v rest) (cellPlace counts b j) refl
+        named-cell (s .flag) (inside counts a i) (inside counts b j) (cellPlace counts a i) (State ℕ) (λ c. fitState table rest s (storeFit v (s .flag) c)) (stored s (cellPlace counts b j) v rest) (cellPlace counts b j) refl
         (λ there. refl)
 
     -- what a shown step leaves is what the code finds

@@ -36,7 +36,7 @@ use Rattle.interpreter.specs.declared.step.Seen.the-variants.{Nothing as
 use Rattle.interpreter.specs.declared.state.MachineState.{MachineState}
 use Rattle.interpreter.proofs.Words.{words-stored}
 use Rattle.machine.proofs.Runs.{run-goes}
-use Rattle.machine.proofs.Room.{Fits, fits-length, look-fits, AfterNext, next-after}
+use Rattle.machine.proofs.PendingRoom.{Fits, fits-length, look-fits, AfterNext, next-after}
 use Rattle.interpreter.proofs.Stacks.{Entries, length-pending, back-pending, back-entries}
 
 -- ---- what was shown so far, at the front of the buffer

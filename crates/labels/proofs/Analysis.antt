@@ -1,6 +1,6 @@
 -- The analysis is monotone, sets the labels of its targets only, and answers a loop with its settled labelling.
 use Prim.Native.Nat.{ℕ, zero, suc, _<_}
-use mathlib.Core.Bool.{Bool, le, _||_}
+use mathlib.Core.Bool.{Bool, le as atMost, _||_}
 use mathlib.Core.List.{_∷_, List·Memᴰ, List·Memᴰ·head, List·Memᴰ·tail, Memᴰ·append-left, Memᴰ·append-right}
 use mathlib.Core.Path.{_≡_, refl, sym, ap, _∙_}
 use native.Mathlib.Nat.{le-refl}
@@ -26,20 +26,20 @@ mark-below mark (suc n) i h = go (ℕ-discrete i n) (mark-below mark n i)
     go (yes e) r = List·Memᴰ·head (ap mark e)
     go (no e) r = List·Memᴰ·tail (r (omega arith))
 
-module _ {l m : Labelling} {x y : Bool} (h : le x y) (p : l ⊑ m) where
+module _ {l m : Labelling} {x y : Bool} (h : atMost x y) (p : l ⊑ m) where
   -- a larger labelling and context give what is read a larger label
-  pub readLabel-mono : (a : ℕ) (i : AExp) → le (readLabel l x a i) (readLabel m y a i)
+  pub readLabel-mono : (a : ℕ) (i : AExp) → atMost (readLabel l x a i) (readLabel m y a i)
   unfolding readLabel
   readLabel-mono a i = or-mono (labelOfA-mono p i) (or-mono (p .at (arrayMark a)) h)
 
   -- a larger labelling and context give the array written a larger label
-  pub writeLabel-mono : (a : ℕ) (i e : AExp) → le (writeLabel l x a i e) (writeLabel m y a i e)
+  pub writeLabel-mono : (a : ℕ) (i e : AExp) → atMost (writeLabel l x a i e) (writeLabel m y a i e)
   unfolding writeLabel
   writeLabel-mono a i e = or-mono (p .at (arrayMark a)) (or-mono (labelOfA-mono p i) (or-mono (labelOfA-mono p e) h))
 
 module _ {Note : Type 0} where
   -- a larger labelling and context give a larger labelling after the command
-  pub analyse-mono : (c : Com Note) {x y : Bool} {l m : Labelling} → le x y → l ⊑ m → analyse c x l ⊑ analyse c y m
+  pub analyse-mono : (c : Com Note) {x y : Bool} {l m : Labelling} → atMost x y → l ⊑ m → analyse c x l ⊑ analyse c y m
   unfolding analyse
   analyse-mono (skip n) h p = p
   analyse-mono (assign n v e) h p = set-mono (variableMark v) p (or-mono (labelOfA-mono p e) h)

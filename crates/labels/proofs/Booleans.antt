@@ -1,5 +1,5 @@
--- Labels as truths: a label is below another (`le` of mathlib.Core.Bool) if the second is secret where the first is.
-use mathlib.Core.Bool.{Bool, true, false, le, _&&_, _||_, true≢false}
+-- Labels as truths: a label is at most another (`le` of mathlib.Core.Bool) if the second is secret where the first is.
+use mathlib.Core.Bool.{Bool, true, false, le as atMost, _&&_, _||_, true≢false}
 use mathlib.Core.Path.{_≡_, refl, sym, _∙_}
 
 -- a public join has a public first part
@@ -13,34 +13,34 @@ or-false-right true b e = absurd (true≢false e)
 or-false-right false b e = e
 
 -- what is below a public label is public
-pub le-false : {a b : Bool} → le a b → b ≡ false → a ≡ false
-le-false {a = true} h e = sym (h refl) ∙ e
-le-false {a = false} h e = refl
+pub atMost-false : {a b : Bool} → atMost a b → b ≡ false → a ≡ false
+atMost-false {a = true} h e = sym (h refl) ∙ e
+atMost-false {a = false} h e = refl
 
 -- the first part of a join is below it
-pub or-left : (a b : Bool) → le a (a || b)
+pub or-left : (a b : Bool) → atMost a (a || b)
 or-left true b e = refl
 or-left false b e = absurd (true≢false (sym e))
 
 -- the second part of a join is below it
-pub or-right : (a b : Bool) → le b (a || b)
+pub or-right : (a b : Bool) → atMost b (a || b)
 or-right true b e = refl
 or-right false b e = e
 
 -- a join is below what both parts are below
-pub or-least : {a b c : Bool} → le a c → le b c → le (a || b) c
+pub or-least : {a b c : Bool} → atMost a c → atMost b c → atMost (a || b) c
 or-least {a = true} h k = h
 or-least {a = false} h k = k
 
 -- joins of larger labels are larger
-pub or-mono : {a b c d : Bool} → le a c → le b d → le (a || b) (c || d)
+pub or-mono : {a b c d : Bool} → atMost a c → atMost b d → atMost (a || b) (c || d)
 or-mono {a} {b} {c} {d} h k = or-least (λ e. or-left c d (h e)) (λ e. or-right c d (k e))
 
 -- labels below each other are equal
-pub le-antisym : {a b : Bool} → le a b → le b a → a ≡ b
-le-antisym {a = true} h k = sym (h refl)
-le-antisym {a = false} {b = true} h k = k refl
-le-antisym {a = false} {b = false} h k = refl
+pub atMost-antisym : {a b : Bool} → atMost a b → atMost b a → a ≡ b
+atMost-antisym {a = true} h k = sym (h refl)
+atMost-antisym {a = false} {b = true} h k = k refl
+atMost-antisym {a = false} {b = false} h k = refl
 
 -- the first part of a true conjunction is true
 pub and-left : (a b : Bool) → (a && b) ≡ true → a ≡ true

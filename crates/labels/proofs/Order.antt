@@ -1,6 +1,6 @@
 -- The order of labellings: a partial order with `join` as the least upper bound; what setting a label does; expressions' labels are monotone.
 use Prim.Native.Nat.{ℕ}
-use mathlib.Core.Bool.{Bool, true, le, _||_, or-self}
+use mathlib.Core.Bool.{Bool, true, le as atMost, _||_, or-self}
 use mathlib.Core.Logic.{_↔_}
 use mathlib.Core.Path.{_≡_, refl, sym, ap, ap₂, _∙_, subst}
 use native.Mathlib.Decide.{ℕ-discrete, map-dec}
@@ -11,7 +11,7 @@ use Rattle.awhile.specs.Language.{AExp, number, variable, add, subtract, multip
 use Rattle.awhile.specs.Language.{BExp, constant, equal, less, not, and}
 use Rattle.awhile.specs.declared.Labelling.{Labelling}
 use Rattle.labels.specs.Labellings.{Mark, variableMark, arrayMark, labelOf, setLabel, join, same, _⊑_, labelOfA, labelOfB}
-use Rattle.labels.proofs.Booleans.{or-left, or-right, or-least, or-mono, le-antisym, and-left, and-right}
+use Rattle.labels.proofs.Booleans.{or-left, or-right, or-least, or-mono, atMost-antisym, and-left, and-right}
 use Rattle.labels.proofs.Masks.{bit-put, bit-put-other, bit-or, bit-ext}
 
 -- labellings with equal masks are equal
@@ -34,7 +34,7 @@ pub ⊑-trans : {l m n : Labelling} → l ⊑ m → m ⊑ n → l ⊑ n
 
 -- labellings below each other are equal
 pub ⊑-antisym : {l m : Labelling} → l ⊑ m → m ⊑ l → l ≡ m
-⊑-antisym {l} {m} p q = equal-labels l m (λ k. le-antisym (p .at k) (q .at k))
+⊑-antisym {l} {m} p q = equal-labels l m (λ k. atMost-antisym (p .at k) (q .at k))
 
 -- what is secret in a join
 pub label-join : (l m : Labelling) (k : Mark) → labelOf (join l m) k ≡ (labelOf l k || labelOf m k)
@@ -99,11 +99,11 @@ mark-discrete (arrayMark a) (variableMark y) = no (λ e. let z : _≡_ {A = ℕ}
 mark-discrete (arrayMark a) (arrayMark c) = map-dec (λ e. ap arrayMark e) (λ e. cc) (ℕ-discrete a c)
 
 -- setting a larger label in a larger labelling gives a larger one
-pub set-mono : {l m : Labelling} (k : Mark) {b c : Bool} → l ⊑ m → le b c → setLabel l k b ⊑ setLabel m k c
+pub set-mono : {l m : Labelling} (k : Mark) {b c : Bool} → l ⊑ m → atMost b c → setLabel l k b ⊑ setLabel m k c
 set-mono {l} {m} k {b} {c} p h = record { at = λ j e. go j (mark-discrete k j) e }
   where
-    go : (j : Mark) → Dec (k ≡ j) → le (labelOf (setLabel l k b) j) (labelOf (setLabel m k c) j)
-    go j (yes q) = subst (λ (i : Mark). le (labelOf (setLabel l k b) i) (labelOf (setLabel m k c) i)) q (λ e. label-set m k c ∙ h (sym (label-set l k b) ∙ e))
+    go : (j : Mark) → Dec (k ≡ j) → atMost (labelOf (setLabel l k b) j) (labelOf (setLabel m k c) j)
+    go j (yes q) = subst (λ (i : Mark). atMost (labelOf (setLabel l k b) i) (labelOf (setLabel m k c) i)) q (λ e. label-set m k c ∙ h (sym (label-set l k b) ∙ e))
     go j (no n) = λ e. label-set-other m k j c n ∙ p .at j (sym (label-set-other l k j b n) ∙ e)
 
 module _ {l m : Labelling} (p : l ⊑ m) where
@@ -111,7 +111,7 @@ module _ {l m : Labelling} (p : l ⊑ m) where
     unfolding labelOfA
 
     -- a larger labelling gives a numeric expression a larger label
-    pub labelOfA-mono : (e : AExp) → le (labelOfA l e) (labelOfA m e)
+    pub labelOfA-mono : (e : AExp) → atMost (labelOfA l e) (labelOfA m e)
     labelOfA-mono (number n) = λ h. h
     labelOfA-mono (variable x) = p .at (variableMark x)
     labelOfA-mono (add a b) = or-mono (labelOfA-mono a) (labelOfA-mono b)
@@ -120,7 +120,7 @@ module _ {l m : Labelling} (p : l ⊑ m) where
     labelOfA-mono (choice c a b) = or-mono (labelOfB-mono c) (or-mono (labelOfA-mono a) (labelOfA-mono b))
 
     -- a larger labelling gives a truth a larger label
-    pub labelOfB-mono : (b : BExp) → le (labelOfB l b) (labelOfB m b)
+    pub labelOfB-mono : (b : BExp) → atMost (labelOfB l b) (labelOfB m b)
     labelOfB-mono (constant b) = λ h. h
     labelOfB-mono (equal a b) = or-mono (labelOfA-mono a) (labelOfA-mono b)
     labelOfB-mono (less a b) = or-mono (labelOfA-mono a) (labelOfA-mono b)

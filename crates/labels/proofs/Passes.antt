@@ -1,6 +1,6 @@
 -- Repeated passes over a labelling: they settle once a pass adds no secret, which happens within as many passes as there are public marks.
 use Prim.Native.Nat.{ℕ, zero, suc, _≤_}
-use mathlib.Core.Bool.{Bool, true, false, le, cond, true≢false}
+use mathlib.Core.Bool.{Bool, true, false, le as atMost, cond, true≢false}
 use mathlib.Core.List.{List, [], _∷_, List·Memᴰ, List·Memᴰ·head, List·Memᴰ·tail, List·Memᴰ·not-nil, List·Memᴰ·cases-cons}
 use mathlib.Core.Logic.{⊎-elim}
 use mathlib.Core.Path.{_≡_, refl, sym, ap, _∙_, subst}
@@ -24,12 +24,12 @@ member k (j ∷ ks) = go (mark-discrete k j) (member k ks)
     go (no n) (no o) = no (λ m. ⊎-elim n o (List·Memᴰ·cases-cons m))
 
 -- a mark counts as one while it is public: less where the label is larger
-counted-less : (a b : Bool) → le a b → cond b 0 1 ≤ cond a 0 1
+counted-less : (a b : Bool) → atMost a b → cond b 0 1 ≤ cond a 0 1
 counted-less a true h = omega arith
 counted-less true false h = absurd (true≢false (sym (h refl)))
 counted-less false false h = omega arith
 
-counted-back : (a b : Bool) → cond a 0 1 ≤ cond b 0 1 → le b a
+counted-back : (a b : Bool) → cond a 0 1 ≤ cond b 0 1 → atMost b a
 counted-back true b h e = refl
 counted-back false true h e = absurd (omega arith)
 counted-back false false h e = e
@@ -48,12 +48,12 @@ module _ {l m : Labelling} (p : l ⊑ m) where
   public-less (k ∷ ks) = let h = counted-less (labelOf l k) (labelOf m k) (p .at k) in let t = public-less ks in omega arith
 
   -- where as many are public, a mark of the list is public in both or in neither
-  pub public-same : {k : Mark} {ks : List Mark} → List·Memᴰ k ks → publicAmong ks l ≤ publicAmong ks m → le (labelOf m k) (labelOf l k)
+  pub public-same : {k : Mark} {ks : List Mark} → List·Memᴰ k ks → publicAmong ks l ≤ publicAmong ks m → atMost (labelOf m k) (labelOf l k)
   unfolding publicAmong
   public-same {k} (List·Memᴰ·head {x = j} {xs = ks} e) h =
       let t = public-less ks in
-      let c : le (labelOf m j) (labelOf l j) = counted-back (labelOf l j) (labelOf m j) (omega arith) in
-      subst (λ (i : Mark). le (labelOf m i) (labelOf l i)) (sym e) c
+      let c : atMost (labelOf m j) (labelOf l j) = counted-back (labelOf l j) (labelOf m j) (omega arith) in
+      subst (λ (i : Mark). atMost (labelOf m i) (labelOf l i)) (sym e) c
   public-same {k} (List·Memᴰ·tail {x = j} {xs = ks} i) h =
       let c = counted-less (labelOf l j) (labelOf m j) (p .at j) in
       public-same i (omega arith)
@@ -122,7 +122,7 @@ module _ (pass : Labelling → Labelling) (mono : (l m : Labelling) → l ⊑ m 
     idle : (l : Labelling) → publicAmong ks l ≤ publicAmong ks (join l (pass l)) → pass l ⊑ l
     idle l h = record { at = λ k e. go k (member k ks) e }
       where
-        go : (k : Mark) → Dec (List·Memᴰ k ks) → le (labelOf (pass l) k) (labelOf l k)
+        go : (k : Mark) → Dec (List·Memᴰ k ks) → atMost (labelOf (pass l) k) (labelOf l k)
         go k (yes i) = λ e. public-same (join-left l (pass l)) i h (join-right l (pass l) .at k e)
         go k (no n) = λ e. sym (frame l k n) ∙ e
 

@@ -1,6 +1,6 @@
 -- The analysis satisfies the rules for labels, and every annotation that does is above it at every command.
 use Prim.Native.Nat.{ℕ}
-use mathlib.Core.Bool.{Bool, le, _||_}
+use mathlib.Core.Bool.{Bool, le as atMost, _||_}
 use mathlib.Core.List.{[], _∷_, _++_, List·Memᴰ·not-nil, List·Memᴰ·cases-cons, List·Memᴰ·append-cases}
 use mathlib.Core.Logic.{⊎-elim}
 use mathlib.Core.Path.{_≡_, refl, sym, ap, ap₂, fun-ext, subst, _∙_}
@@ -83,10 +83,10 @@ pub analysis-satisfies : (c : Com ℕ) (x : Bool) (l : Labelling) → Annotates 
 analysis-satisfies c x l = record { program = program-annotate c x l; enters = enters-annotate c (⊑-refl l); satisfies = satisfied c x l }
 
 -- what is entered with more is entered with less
-enters-trans : {l m : Labelling} {x y : Bool} {a : Com Entry} → l ⊑ m → le x y → Enters m y a → Enters l x a
+enters-trans : {l m : Labelling} {x y : Bool} {a : Com Entry} → l ⊑ m → atMost x y → Enters m y a → Enters l x a
 enters-trans p h i = record { labelling = ⊑-trans p (i .labelling); context = λ e. i .context (h e) }
 
-entry-above : (e : Entry) (x : Bool) (l : Labelling) → l ⊑ e .labelling → le x (e .context) → EntryAbove e (entered (e .node) x l)
+entry-above : (e : Entry) (x : Bool) (l : Labelling) → l ⊑ e .labelling → atMost x (e .context) → EntryAbove e (entered (e .node) x l)
 entry-above e x l p h = record { node = refl; labelling = p; context = h }
 
 -- whatever satisfies the rules is above the analysis, command by command and after the last

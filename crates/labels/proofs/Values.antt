@@ -14,7 +14,7 @@ use Rattle.awhile.specs.Language.{BExp, constant, equal, less, not, and, truthO
 use Rattle.awhile.specs.declared.Labelling.{Labelling}
 use Rattle.labels.specs.Labellings.{variableMark, labelOf, setLabel, _⊑_, labelOfA, labelOfB}
 use Rattle.labels.specs.Rules.{AgreeOn}
-use Rattle.labels.proofs.Booleans.{or-false-left, or-false-right, le-false}
+use Rattle.labels.proofs.Booleans.{or-false-left, or-false-right, atMost-false}
 use Rattle.labels.proofs.Order.{label-set, label-set-other}
 
 -- an operation on two parts gives one result where the join of their labels is public and public parts are the same
@@ -47,7 +47,7 @@ module _ (l : Labelling) (vs ws : List ℕ) (agree : AgreeOn l vs ws) where
 
 -- states that agree on a labelling agree on every larger one
 pub agree-weaker : {l m : Labelling} {vs ws : List ℕ} → l ⊑ m → AgreeOn l vs ws → AgreeOn m vs ws
-agree-weaker p agree = record { at = λ x e. agree .at x (le-false (p .at (variableMark x)) e) }
+agree-weaker p agree = record { at = λ x e. agree .at x (atMost-false (p .at (variableMark x)) e) }
 
 -- an element stored in lists of one length is the same in both, or in neither
 pub stored-same : (vs ws : List ℕ) (x a c : ℕ) → length vs ≡ length ws → a ≡ c → getD (set vs x a) x 0 ≡ getD (set ws x c) x 0

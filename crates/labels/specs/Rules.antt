@@ -1,6 +1,6 @@
 -- What the labels promise: the statements of the theorems about labellings, the analysis and annotated programs.
 use Prim.Native.Nat.{ℕ, zero, suc, _+_, _^_, _<_}
-use mathlib.Core.Bool.{Bool, false, le, cond, _||_}
+use mathlib.Core.Bool.{Bool, false, le as atMost, cond, _||_}
 use mathlib.Core.List.{List, [], _∷_, _++_, List·Memᴰ}
 use mathlib.Core.Path.{_≡_}
 use lib.ListN.{getD}
@@ -15,7 +15,7 @@ pub record AgreeOn (l : Labelling) (vs ws : List ℕ) : Type 0 where
   pub at : (x : ℕ) → labelOf l (variableMark x) ≡ false → getD vs x 0 ≡ getD ws x 0
 
 -- "bits from V or A up are 0": the labelling marks variables and arrays below these counts only
-pub record Within (variables arrays : ℕ) (l : Labelling) : Type 0 where
+pub record LabelsWithin (variables arrays : ℕ) (l : Labelling) : Type 0 where
   pub variableMask : l .variables < 2 ^ variables
   pub arrayMask : l .arrays < 2 ^ arrays
 
@@ -62,7 +62,7 @@ module _ {Note : Type 0} where
 -- a labelling and a context flow into an annotated command: its own are no smaller
 pub record Enters (l : Labelling) (x : Bool) (c : Com Entry) : Type 0 where
   pub labelling : l ⊑ noteOf c .labelling
-  pub context : le x (noteOf c .context)
+  pub context : atMost x (noteOf c .context)
 
 -- The rules for labels (figure 14 of source 004, with the context at an assignment as document 01 has it): an annotation satisfies them,
 -- with this labelling after the command. Each command's note says the labelling and the context that enter it.
@@ -103,7 +103,7 @@ pub record Annotates (c : Com ℕ) (x : Bool) (l : Labelling) (a : Com Entry) (a
 pub record EntryAbove (e f : Entry) : Type 0 where
   pub node : e .node ≡ f .node
   pub labelling : f .labelling ⊑ e .labelling
-  pub context : le (f .context) (e .context)
+  pub context : atMost (f .context) (e .context)
 
 -- one annotation of a program is above another at every command, those inside loops included
 pub data Above : Com Entry → Com Entry → Type 0 where

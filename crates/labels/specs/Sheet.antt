@@ -24,8 +24,8 @@ pub record SheetRecord : Type 0 where
   pub kind : ℕ
   pub fields : List SheetField
 
-abbrev pub recordOf : ℕ → List SheetField → SheetRecord
-recordOf k fs = record { kind = k; fields = fs }
+abbrev pub sheetRecord : ℕ → List SheetField → SheetRecord
+sheetRecord k fs = record { kind = k; fields = fs }
 
 -- "Label 1 is secret."
 unfoldable pub fieldBytes : SheetField → List ℕ
@@ -50,12 +50,12 @@ entryOf c = noteOf c .labelling
 unfoldable pub commandRecords : Com Entry → List SheetRecord
 commandRecords (skip e) = []
 commandRecords (assign e v a) = []
-commandRecords (sequence e c d) = recordOf 129 (number (e .node) ∷ masks (entryOf d) ∷ []) ∷ []
-commandRecords (if e b c d) = recordOf 130 (number (e .node) ∷ label (labelOfB (e .labelling) b) ∷ []) ∷ []
-commandRecords (while e b c) = recordOf 131 (number (e .node) ∷ label (labelOfB (entryOf c) b) ∷ masks (entryOf c) ∷ []) ∷ []
+commandRecords (sequence e c d) = sheetRecord 129 (number (e .node) ∷ masks (entryOf d) ∷ []) ∷ []
+commandRecords (if e b c d) = sheetRecord 130 (number (e .node) ∷ label (labelOfB (e .labelling) b) ∷ []) ∷ []
+commandRecords (while e b c) = sheetRecord 131 (number (e .node) ∷ label (labelOfB (entryOf c) b) ∷ masks (entryOf c) ∷ []) ∷ []
 commandRecords (read e v a i) =
-    recordOf 132 (number (e .node) ∷ label (readLabel (e .labelling) (e .context) a i) ∷ label (labelOfA (e .labelling) i) ∷ []) ∷ []
-commandRecords (write e a i v) = recordOf 133 (number (e .node) ∷ label (labelOfA (e .labelling) i) ∷ []) ∷ []
+    sheetRecord 132 (number (e .node) ∷ label (readLabel (e .labelling) (e .context) a i) ∷ label (labelOfA (e .labelling) i) ∷ []) ∷ []
+commandRecords (write e a i v) = sheetRecord 133 (number (e .node) ∷ label (labelOfA (e .labelling) i) ∷ []) ∷ []
 
 -- the record of the command with this number, if there is one
 unfoldable pub recordsAt : Com Entry → (node : ℕ) → List SheetRecord
@@ -68,7 +68,7 @@ recordsBelow c (suc n) = recordsBelow c n ++ recordsAt c n
 
 -- the first record: version 1, the number of nodes, and the masks after the program
 unfoldable pub headRecord : (nodes : ℕ) → (final : Labelling) → SheetRecord
-headRecord n final = recordOf 128 (number 1 ∷ number n ∷ masks final ∷ [])
+headRecord n final = sheetRecord 128 (number 1 ∷ number n ∷ masks final ∷ [])
 
 -- the sheet of an annotated program with so many nodes and this labelling after it: its records, and their bytes
 unfoldable pub sheetRecords : (nodes : ℕ) → Com Entry → (final : Labelling) → List SheetRecord

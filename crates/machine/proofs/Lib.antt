@@ -6,5 +6,8 @@ pub mod Runs
 pub mod Notes
 pub mod Traces
 pub mod Cells
-pub mod Room
-pub mod Numbering
+pub mod PendingRoom
+pub mod PlainRuns
+pub mod Closed
+pub mod Pulled
+pub mod Lockstep

@@ -52,7 +52,7 @@ module _ {A B : Type 0} (f : A → B) where
   look-mapped (write n a i e) rest vs = refl
 
   -- a choice between two changed things is the change of the choice
-  cond-mapped : {X Y : Type 0} (g : X → Y) (b : Bool) (x x′ : X) → cond b (g x) (g x′) ≡ g (cond b x x′)
+  pub cond-mapped : {X Y : Type 0} (g : X → Y) (b : Bool) (x x′ : X) → cond b (g x) (g x′) ≡ g (cond b x x′)
   cond-mapped g true x x′ = refl
   cond-mapped g false x x′ = refl
 
@@ -153,56 +153,3 @@ module _ {A B : Type 0} (f : A → B) where
   pub started-mapped : (c : Com A) (vs cs : List ℕ) (g : Guide) → mapMachine (started c vs cs g) ≡ started (mapNotes f c) vs cs g
   unfolding started mapMachine mapState mapPending
   started-mapped c vs cs g = refl
-
--- no note
-unfoldable pub noNote : {A : Type 0} → A → Unit {0}
-noNote n = tt
-
--- outcomes that differ in their notes alone
-pub record EqualButNotes {A B : Type 0} (o : Outcome A) (o′ : Outcome B) : Type 0 where
-  pub end : o .end ≡ o′ .end
-  pub steps : o .machine .steps ≡ o′ .machine .steps
-  pub used : o .machine .used ≡ o′ .machine .used
-  pub shown : o .machine .shown ≡ o′ .machine .shown
-  pub variables : o .machine .state .variables ≡ o′ .machine .state .variables
-  pub cells : o .machine .state .cells ≡ o′ .machine .state .cells
-  pub flag : o .machine .state .flag ≡ o′ .machine .state .flag
-  pub guide : o .machine .guide ≡ o′ .machine .guide
-  pub pending : mapPending noNote (o .machine .state .pending) ≡ mapPending noNote (o′ .machine .state .pending)
-
--- outcomes that are equal without their notes
-pub equal-without : {A B : Type 0} (o : Outcome A) (o′ : Outcome B) → mapOutcome noNote o ≡ mapOutcome noNote o′ → EqualButNotes o o′
-unfolding mapOutcome mapMachine mapState
-equal-without o o′ e =
-    record {
-      end = ap (λ x. x .end) e;
-      steps = ap (λ x. x .machine .steps) e;
-      used = ap (λ x. x .machine .used) e;
-      shown = ap (λ x. x .machine .shown) e;
-      variables = ap (λ x. x .machine .state .variables) e;
-      cells = ap (λ x. x .machine .state .cells) e;
-      flag = ap (λ x. x .machine .state .flag) e;
-      guide = ap (λ x. x .machine .guide) e;
-      pending = ap (λ x. x .machine .state .pending) e;
-    }
-
-module _ {A B : Type 0} (counts : List ℕ) (room : Room) (budget : ℕ) where
-  -- machines that are equal without their notes run to outcomes that are equal but for the notes
-  pub run-without-notes :
-      (m : Machine A) (m′ : Machine B) → mapMachine noNote m ≡ mapMachine noNote m′
-      → EqualButNotes (run counts room budget m) (run counts room budget m′)
-  run-without-notes m m′ same =
-      equal-without
-      (run counts room budget m)
-      (run counts room budget m′)
-      (sym (run-mapped noNote counts room budget m) ∙ (ap (run counts room budget) same ∙ run-mapped noNote counts room budget m′))
-
-  -- so do programs that are equal without their notes
-  pub programs-without-notes :
-      (c : Com A) (d : Com B) (vs cs : List ℕ) (g : Guide) → mapNotes noNote c ≡ mapNotes noNote d
-      → EqualButNotes (run counts room budget (started c vs cs g)) (run counts room budget (started d vs cs g))
-  programs-without-notes c d vs cs g same =
-      run-without-notes
-      (started c vs cs g)
-      (started d vs cs g)
-      (started-mapped noNote c vs cs g ∙ (ap (λ p. started p vs cs g) same ∙ sym (started-mapped noNote d vs cs g)))

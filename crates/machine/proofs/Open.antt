@@ -5,8 +5,8 @@ use Rattle.machine.specs.Directives.{directiveBytes, directiveSize, dire
 use Rattle.machine.specs.Look.{look}
 use Rattle.machine.specs.Steps.{inside, cellPlace, onlyIf, quietly, turned, loaded, stored, redirected, atFork, atGet, atPut}
 use Rattle.machine.specs.Runs.{endNumber, holds, moved, shownIf, shownStep, stepOf, nextOf, next, endWithout, run, started}
-use Rattle.machine.specs.Memory.{pendingAfter, writtenOver, nextNode, runNumbers}
+use Rattle.machine.specs.Memory.{pendingWords, pendingAfter, writtenOver, nextNode, runNumbers}
 
 unfoldable pub opened : Unit {0}
-unfolding opened-below observationBytes shownBytes directiveBytes directiveSize directiveOf wholeDirective firstDirective before directivesIn readDirectives directivesBytes look inside cellPlace onlyIf quietly turned loaded stored redirected atFork atGet atPut endNumber holds moved shownIf shownStep stepOf nextOf next endWithout run started pendingAfter writtenOver nextNode runNumbers
+unfolding opened-below observationBytes shownBytes directiveBytes directiveSize directiveOf wholeDirective firstDirective before directivesIn readDirectives directivesBytes look inside cellPlace onlyIf quietly turned loaded stored redirected atFork atGet atPut endNumber holds moved shownIf shownStep stepOf nextOf next endWithout run started pendingWords pendingAfter writtenOver nextNode runNumbers
 opened = tt

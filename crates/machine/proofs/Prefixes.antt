@@ -40,13 +40,6 @@ module _ {A : Type 0} where
   pub nil-begins : (xs : List A) → Begins [] xs
   nil-begins xs = begins-append [] xs
 
-  -- a common front does not matter
-  pub begins-front : (os : List A) {xs ys : List A} → Begins xs ys → Begins (os ++ xs) (os ++ ys)
-  begins-front os {xs} b = record { after = b .after; whole = ap (λ (l : List A). os ++ l) (b .whole) ∙ sym (append-assoc os xs (b .after)) }
-
-  pub one-begins-front : (os : List A) {xs ys : List A} → OneBegins xs ys → OneBegins (os ++ xs) (os ++ ys)
-  one-begins-front os h = record { either = ⊎-map (begins-front os) (begins-front os) (h .either) }
-
   cons-begins : {x y : A} {xs ys : List A} → Begins (x ∷ xs) (y ∷ ys) → (x ≡ y) × Begins xs ys
   cons-begins {x} {y} {xs} {ys} b =
       let e : y ∷ ys ≡ x ∷ (xs ++ b .after) = b .whole in

@@ -35,7 +35,7 @@ module _ {Note : Type 0} where
   shownTurn o after (guessing (d ∷ ds)) = turnIf o (guessing ds) (after d)
 
   unfoldable pub turnOf : (counts : List ℕ) → State Note → Guide → Look Note → Turn Note
-  turnOf counts s g (quiet rest vs) = turns [] (quietly counts s rest vs) g
+  turnOf counts s g (quiet rest vs) = turns [] (quietly s rest vs) g
   turnOf counts s g (fork v onTrue onFalse) = shownTurn (branch v) (atFork counts s v onTrue onFalse) g
   turnOf counts s g (get x a i rest) = shownTurn (readAt a i) (atGet counts s x a i rest) g
   turnOf counts s g (put a i v rest) = shownTurn (writeAt a i) (atPut counts s a i v rest) g
@@ -91,7 +91,7 @@ module _ {Note : Type 0} where
 
     look-matches : (counts : List ℕ) (l : Look Note) → Matches m room (turnOf counts (m .state) (m .guide) l) (stepOf counts room m l)
     unfolding turnOf stepOf
-    look-matches counts (quiet rest vs) = steps [] (quietly counts (m .state) rest vs) (m .guide) 0
+    look-matches counts (quiet rest vs) = steps [] (quietly (m .state) rest vs) (m .guide) 0
     look-matches counts (fork v onTrue onFalse) = shown-matches (branch v) (atFork counts (m .state) v onTrue onFalse) (m .guide)
     look-matches counts (get x a i rest) = shown-matches (readAt a i) (atGet counts (m .state) x a i rest) (m .guide)
     look-matches counts (put a i v rest) = shown-matches (writeAt a i) (atPut counts (m .state) a i v rest) (m .guide)

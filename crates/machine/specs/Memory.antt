@@ -8,9 +8,13 @@ use Rattle.awhile.specs.Language.{Com, noteOf}
 use Rattle.machine.specs.Observations.{shownBytes}
 use Rattle.machine.specs.Runs.{Outcome, endNumber}
 
--- "The first N pending entries hold the list, then zeros; entries beyond N .. are unchanged": the next command's entry is the last
+-- "The first N pending entries hold the list, then zeros": the next command's entry is the last
+unfoldable pub pendingWords : (nodes : ℕ) → List (Com ℕ) → List ℕ
+pendingWords n cs = map noteOf (reverse cs) ++ replicate (n - length cs) 0
+
+-- "entries beyond N .. are unchanged"
 unfoldable pub pendingAfter : (nodes : ℕ) → List (Com ℕ) → List ℕ → List ℕ
-pendingAfter n cs slice = words (map noteOf (reverse cs) ++ replicate (n - length cs) 0) ++ drop (4 * n) slice
+pendingAfter n cs slice = words (pendingWords n cs) ++ drop (4 * n) slice
 
 -- bytes written at the front of a slice; "bytes beyond are unchanged"
 unfoldable pub writtenOver : (written slice : List ℕ) → List ℕ

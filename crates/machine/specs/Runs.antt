@@ -73,7 +73,7 @@ module _ {Note : Type 0} where
   shownStep room m o after (guessing (d ∷ ds)) = shownIf room m o (guessing ds) 1 (after d)
 
   unfoldable pub stepOf : (counts : List ℕ) → Room → Machine Note → Look Note → Next Note
-  stepOf counts room m (quiet rest vs) = goes (moved m (quietly counts (m .state) rest vs) (m .guide) 0 [])
+  stepOf counts room m (quiet rest vs) = goes (moved m (quietly (m .state) rest vs) (m .guide) 0 [])
   stepOf counts room m (fork v onTrue onFalse) = shownStep room m (branch v) (atFork counts (m .state) v onTrue onFalse) (m .guide)
   stepOf counts room m (get x a i rest) = shownStep room m (readAt a i) (atGet counts (m .state) x a i rest) (m .guide)
   stepOf counts room m (put a i v rest) = shownStep room m (writeAt a i) (atPut counts (m .state) a i v rest) (m .guide)

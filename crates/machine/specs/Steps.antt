@@ -29,7 +29,7 @@ cellPlace counts a i = sum (take a counts) + i
 unfoldable pub onlyIf : {A : Type 0} → Bool → A → Option A
 onlyIf b a = cond b (some a) none
 
-module _ {Note : Type 0} (counts : List ℕ) (s : State Note) where
+module _ {Note : Type 0} (s : State Note) where
   -- a silent step
   unfoldable pub quietly : List (Com Note) → List ℕ → State Note
   quietly rest vs = record { pending = rest; variables = vs; cells = s .cells; flag = s .flag }
@@ -38,16 +38,16 @@ module _ {Note : Type 0} (counts : List ℕ) (s : State Note) where
   unfoldable pub turned : List (Com Note) → (flag : Bool) → State Note
   turned rest f = record { pending = rest; variables = s .variables; cells = s .cells; flag = f }
 
-  -- a read that takes the cell of this array and index
-  unfoldable pub loaded : (variable array index : ℕ) → List (Com Note) → State Note
-  loaded x a i rest =
-      record { pending = rest; variables = set (s .variables) x (getD (s .cells) (cellPlace counts a i) 0); cells = s .cells; flag = s .flag }
+  -- a read that takes the cell at a place among all cells
+  unfoldable pub loaded : (variable place : ℕ) → List (Com Note) → State Note
+  loaded x p rest =
+      record { pending = rest; variables = set (s .variables) x (getD (s .cells) p 0); cells = s .cells; flag = s .flag }
 
-  -- a write to the cell of this array and index
-  unfoldable pub stored : (array index value : ℕ) → List (Com Note) → State Note
-  stored a i v rest =
-      record { pending = rest; variables = s .variables; cells = set (s .cells) (cellPlace counts a i) v; flag = s .flag }
+  -- a write to the cell at a place
+  unfoldable pub stored : (place value : ℕ) → List (Com Note) → State Note
+  stored p v rest = record { pending = rest; variables = s .variables; cells = set (s .cells) p v; flag = s .flag }
 
+module _ {Note : Type 0} (counts : List ℕ) (s : State Note) where
   -- "only if the flag is set and the program's own index is not below the cell count, use the named cell, which must exist"
   unfoldable pub redirected : (array index namedArray namedIndex : ℕ) → Bool
   redirected a i b j = s .flag && (negated (inside counts a i) && inside counts b j)
@@ -55,19 +55,19 @@ module _ {Note : Type 0} (counts : List ℕ) (s : State Note) where
   -- the state after a shown step under a directive, or none where index or directive does not fit.
   -- "73 force, at a branch, goes the other way and sets the flag"; "In bounds only 72 fits."
   unfoldable pub atFork : (value : Bool) → (onTrue onFalse : List (Com Note)) → Directive → Option (State Note)
-  atFork v onTrue onFalse Step = some (turned (cond v onTrue onFalse) (s .flag))
-  atFork v onTrue onFalse Force = some (turned (cond v onFalse onTrue) true)
+  atFork v onTrue onFalse Step = some (turned s (cond v onTrue onFalse) (s .flag))
+  atFork v onTrue onFalse Force = some (turned s (cond v onFalse onTrue) true)
   atFork v onTrue onFalse (Load b j) = none
   atFork v onTrue onFalse (Store b j) = none
 
   unfoldable pub atGet : (variable array index : ℕ) → List (Com Note) → Directive → Option (State Note)
-  atGet x a i rest Step = onlyIf (inside counts a i) (loaded x a i rest)
+  atGet x a i rest Step = onlyIf (inside counts a i) (loaded s x (cellPlace counts a i) rest)
   atGet x a i rest Force = none
-  atGet x a i rest (Load b j) = onlyIf (redirected a i b j) (loaded x b j rest)
+  atGet x a i rest (Load b j) = onlyIf (redirected a i b j) (loaded s x (cellPlace counts b j) rest)
   atGet x a i rest (Store b j) = none
 
   unfoldable pub atPut : (array index value : ℕ) → List (Com Note) → Directive → Option (State Note)
-  atPut a i v rest Step = onlyIf (inside counts a i) (stored a i v rest)
+  atPut a i v rest Step = onlyIf (inside counts a i) (stored s (cellPlace counts a i) v rest)
   atPut a i v rest Force = none
   atPut a i v rest (Load b j) = none
-  atPut a i v rest (Store b j) = onlyIf (redirected a i b j) (stored b j v rest)
+  atPut a i v rest (Store b j) = onlyIf (redirected a i b j) (stored s (cellPlace counts b j) v rest)

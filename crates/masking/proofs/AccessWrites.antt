@@ -11,7 +11,7 @@ use Rattle.awhile.specs.declared.Node.the-variants.{Sequence, Read, Write}
 use Rattle.masks.specs.Decisions.{decision}
 use Rattle.masks.specs.Hardening.{Origin, zeroIfGuessing, maskedIndex, maskValueOf, harden}
 use Rattle.copier.specs.Sizes.{bytesOfA, bytesOfB, bytesOf}
-use Rattle.copier.specs.Written.{Appended, Room, Wrote, Both, pairOf}
+use Rattle.copier.specs.Written.{Appended, SpaceFor, Wrote, Both, pairOf}
 use Rattle.copier.specs.declared.Pair.{Pair}
 use Rattle.copier.specs.declared.Size.{Size}
 use Rattle.copier.proofs.Lengths.{counted-A, counted-C, some-A, some-C, bytes-A, bytes-C}
@@ -24,8 +24,8 @@ use Rattle.masking.proofs.AppendedNodes.{Begun}
 pub wrote-C : (from : ℕ) {c d : Com Origin} {l m : List ℕ} {r : Size} → c ≡ d → Wrote (writeC from d) l m r → Wrote (writeC from c) l m r
 wrote-C from {l = l} {m} {r} p w = subst (λ c. Wrote (writeC from c) l m r) (sym p) w
 
-pub room-C : {c d : Com Origin} {from : ℕ} {l : List ℕ} → c ≡ d → Room from (nodesOf c) (bytesOf c) l → Room from (nodesOf d) (bytesOf d) l
-room-C {from = from} {l} p w = subst (λ c. Room from (nodesOf c) (bytesOf c) l) p w
+pub room-C : {c d : Com Origin} {from : ℕ} {l : List ℕ} → c ≡ d → SpaceFor from (nodesOf c) (bytesOf c) l → SpaceFor from (nodesOf d) (bytesOf d) l
+room-C {from = from} {l} p w = subst (λ c. SpaceFor from (nodesOf c) (bytesOf c) l) p w
 
 -- ---- a read: its index and the read, and the masked value behind it where that is hidden
 -- the index is written, with room for the read
@@ -39,15 +39,15 @@ ReadWritten from f x a n i l m s =
 
 -- the read itself has room in either case
 read-room : {from : ℕ} (f x a n : ℕ) (mask : Bool) (i : AExp) (hide : Bool) {l : List ℕ}
-    → Room from (nodesOf (harden f (read (decision n false mask hide) x a i))) (bytesOf (harden f (read (decision n false mask hide) x a i))) l
-    → Room from (nodesOfA (maskedIndex f mask i) + 1) (bytesOfA (maskedIndex f mask i) + 10) l
+    → SpaceFor from (nodesOf (harden f (read (decision n false mask hide) x a i))) (bytesOf (harden f (read (decision n false mask hide) x a i))) l
+    → SpaceFor from (nodesOfA (maskedIndex f mask i) + 1) (bytesOfA (maskedIndex f mask i) + 10) l
 unfolding harden nodesOf bytesOf
 read-room f x a n mask i true r = record { numbers = omega (arith, r .numbers); fits = omega (arith, r .fits) }
 read-room f x a n mask i false r = r
 
 module _ {from : ℕ} (f x a n : ℕ) (mask : Bool) (i : AExp) (hide : Bool) {l : List ℕ}
-    (room : Room from (nodesOf (harden f (read (decision n false mask hide) x a i))) (bytesOf (harden f (read (decision n false mask hide) x a i))) l) where
-  pub read-index-room : Room from (nodesOfA (maskedIndex f mask i)) (bytesOfA (maskedIndex f mask i)) l
+    (room : SpaceFor from (nodesOf (harden f (read (decision n false mask hide) x a i))) (bytesOf (harden f (read (decision n false mask hide) x a i))) l) where
+  pub read-index-room : SpaceFor from (nodesOfA (maskedIndex f mask i)) (bytesOfA (maskedIndex f mask i)) l
   read-index-room = room-first (read-room f x a n mask i hide room) (omega arith) (omega arith)
 
   module _ {m : List ℕ} {s : Size} (w : Wrote (writeA from (maskedIndex f mask i)) l m s) where
@@ -87,12 +87,12 @@ abbrev pub IndexWritten : (from : ℕ) → (index value : AExp) → (before afte
 IndexWritten from i e l m s = FirstWritten from (writeA from i) (λ n. writeA n e) (nodesOfA i) (bytesOfA i) (nodesOfA e) (bytesOfA e) 1 10 l m s
 
 module _ {from : ℕ} (f a n : ℕ) (mask : Bool) (i e : AExp) {l : List ℕ}
-    (room : Room from (nodesOf (harden f (write (decision n false mask false) a i e))) (bytesOf (harden f (write (decision n false mask false) a i e))) l) where
-  write-room : Room from (nodesOfA (maskedIndex f mask i) + nodesOfA e + 1) (bytesOfA (maskedIndex f mask i) + bytesOfA e + 10) l
+    (room : SpaceFor from (nodesOf (harden f (write (decision n false mask false) a i e))) (bytesOf (harden f (write (decision n false mask false) a i e))) l) where
+  write-room : SpaceFor from (nodesOfA (maskedIndex f mask i) + nodesOfA e + 1) (bytesOfA (maskedIndex f mask i) + bytesOfA e + 10) l
   unfolding harden nodesOf bytesOf
   write-room = room
 
-  pub write-index-room : Room from (nodesOfA (maskedIndex f mask i)) (bytesOfA (maskedIndex f mask i)) l
+  pub write-index-room : SpaceFor from (nodesOfA (maskedIndex f mask i)) (bytesOfA (maskedIndex f mask i)) l
   write-index-room = room-first write-room (omega arith) (omega arith)
 
   module _ {m : List ℕ} {s : Size} (w : Wrote (writeA from (maskedIndex f mask i)) l m s) where

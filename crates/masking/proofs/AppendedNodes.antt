@@ -5,7 +5,7 @@ use mathlib.Core.Path.{_≡_, ap, _∙_}
 use lib.ListN.{length}
 use Rattle.awhile.specs.Nodes.{sizeOf}
 use Rattle.awhile.specs.declared.Node.{Node}
-use Rattle.copier.specs.Written.{Appended, Wrote, Room}
+use Rattle.copier.specs.Written.{Appended, Wrote, SpaceFor}
 use Rattle.copier.specs.declared.Size.{Size}
 use Rattle.copier.proofs.Lengths.{Counted, counted-node, counted-append}
 use Rattle.copier.proofs.Writers.{wrote-sized, wrote-node, wrote-parent, room-parent}
@@ -15,7 +15,7 @@ use Rattle.copier.proofs.Joins.{one-last}
 pub record Begun (from : ℕ) (ns : List Node) (i j n b : ℕ) (l m : List ℕ) (s : Size) : Type 0 where
   pub wrote : Wrote ns l m s
   pub counted : Counted ns i j
-  pub room : Room from n b l
+  pub room : SpaceFor from n b l
 
 module _ {from : ℕ} {ns : List Node} {i j n b : ℕ} {l m : List ℕ} {s : Size} (p : Begun from ns i j n b l m s) where
   -- there is room for a node of so many bytes behind them
@@ -35,5 +35,5 @@ module _ {from : ℕ} {ns : List Node} {i j n b : ℕ} {l m : List ℕ} {s : Siz
   last-is e = e ∙ ap (λ k. from + k - 1) (wrote-sized (p .wrote) (p .counted) .nodesCounted)
 
 -- the first of them
-pub first-begun : (e : Node) {from n b : ℕ} {l m : List ℕ} {s : Size} → Room from n b l → Appended 0 0 e l m s → Begun from (e ∷ []) 1 (sizeOf e) n b l m s
+pub first-begun : (e : Node) {from n b : ℕ} {l m : List ℕ} {s : Size} → SpaceFor from n b l → Appended 0 0 e l m s → Begun from (e ∷ []) 1 (sizeOf e) n b l m s
 first-begun e room a = record { wrote = wrote-node a; counted = counted-node e; room = room }

@@ -8,11 +8,11 @@ use Rattle.masks.specs.Growth.{MasksLargeConditions}
 use Rattle.masks.specs.Hardening.{harden, hardenedProgram}
 use Rattle.masks.proofs.Growth.{decide-large}
 use Rattle.masking.specs.Deciding.{decidedIn, Decides}
-use Rattle.masking.specs.InMemory.{hardenedIn}
+use Rattle.masking.specs.InMemory.{hardenedAt}
 
 module _ {table ds : List ℕ} (decided : Decides table ds) where
-  pub program-hardened : hardenedIn table ds (tableOf table .variables) (nodesIn table - 1) ≡ hardenedProgram (tableOf table)
-  unfolding hardenedIn hardenedProgram
+  pub program-hardened : hardenedAt table ds (tableOf table .variables) (nodesIn table - 1) ≡ hardenedProgram (tableOf table)
+  unfolding hardenedAt hardenedProgram
   program-hardened = ap (harden (tableOf table .variables)) (decided .program)
 
   pub program-large : MasksLargeConditions (decidedIn table ds (nodesIn table - 1))

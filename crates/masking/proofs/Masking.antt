@@ -14,7 +14,7 @@ use Rattle.awhile.specs.declared.Node.the-variants.{Number, Variable, Choice, E
 use Rattle.masks.specs.Hardening.{maskedCondition, zeroIfGuessing, maskedIndex, flagIfTrue, flagIfFalse, maskValueOf}
 use Rattle.masking.specs.InMemory.{flagUpdate, guardNodes}
 use Rattle.copier.specs.Sizes.{bytesOfA, bytesOfB, bytesOf}
-use Rattle.copier.specs.Written.{Appended, Wrote, Both, Room}
+use Rattle.copier.specs.Written.{Appended, Wrote, Both, SpaceFor}
 use Rattle.copier.specs.declared.Pair.{Pair}
 use Rattle.copier.specs.declared.Size.{Size}
 use Rattle.copier.proofs.Lengths.{Counted, counted-node, counted-append, counted-A, counted-B, bytes-A, bytes-B}
@@ -59,12 +59,12 @@ abbrev pub TestWritten : (from f value : ℕ) → (condition : BExp) → (before
 TestWritten from f v b l m s = FirstWritten from (writeB from (equal (variable f) (number v))) (λ n. writeB n b) 3 22 (nodesOfB b) (bytesOfB b) 1 8 l m s
 
 module _ {from : ℕ} (f : ℕ) (mask : Bool) (b : BExp) {l : List ℕ} (e : mask ≡ true)
-    (room : Room from (nodesOfB (maskedCondition f mask b)) (bytesOfB (maskedCondition f mask b)) l) where
-  condition-room : Room from (3 + nodesOfB b + 1) (22 + bytesOfB b + 8) l
+    (room : SpaceFor from (nodesOfB (maskedCondition f mask b)) (bytesOfB (maskedCondition f mask b)) l) where
+  condition-room : SpaceFor from (3 + nodesOfB b + 1) (22 + bytesOfB b + 8) l
   unfolding nodesOfB bytesOfB nodesOfA bytesOfA
   condition-room = room-B (condition-masked f mask b e) room
 
-  pub test-room : Room from 3 22 l
+  pub test-room : SpaceFor from 3 22 l
   test-room = room-first condition-room (omega arith) (omega arith)
 
   -- the test is written, and has room behind it whatever the flag is compared with
@@ -84,7 +84,7 @@ counted-guard : (from f : ℕ) → Counted (guardNodes from f) 4 30
 unfolding guardNodes sizeOf form fieldSize sum
 counted-guard from f = counted-append (counted-test from f 1) (counted-node (Number 0))
 
-pub guard-begun : {from : ℕ} (f : ℕ) {n b : ℕ} {l m : List ℕ} {s : Size} → Room from n b l → Wrote (guardNodes from f) l m s → Begun from (guardNodes from f) 4 30 n b l m s
+pub guard-begun : {from : ℕ} (f : ℕ) {n b : ℕ} {l m : List ℕ} {s : Size} → SpaceFor from n b l → Wrote (guardNodes from f) l m s → Begun from (guardNodes from f) 4 30 n b l m s
 guard-begun {from} f room w = record { wrote = w; counted = counted-guard from f; room = room }
 
 index-nodes : (from f : ℕ) (i : AExp)
@@ -102,12 +102,12 @@ abbrev pub GuardWritten : (from f : ℕ) → (index : AExp) → (before after : 
 GuardWritten from f i l m s = FirstWritten from (guardNodes from f) (λ n. writeA n i) 4 30 (nodesOfA i) (bytesOfA i) 1 10 l m s
 
 module _ {from : ℕ} (f : ℕ) (mask : Bool) (i : AExp) {l : List ℕ} (e : mask ≡ true)
-    (room : Room from (nodesOfA (maskedIndex f mask i)) (bytesOfA (maskedIndex f mask i)) l) where
-  index-room : Room from (4 + nodesOfA i + 1) (30 + bytesOfA i + 10) l
+    (room : SpaceFor from (nodesOfA (maskedIndex f mask i)) (bytesOfA (maskedIndex f mask i)) l) where
+  index-room : SpaceFor from (4 + nodesOfA i + 1) (30 + bytesOfA i + 10) l
   unfolding nodesOfA bytesOfA nodesOfB bytesOfB
   index-room = room-A (index-masked f mask i e) room
 
-  pub guard-room : Room from 4 30 l
+  pub guard-room : SpaceFor from 4 30 l
   guard-room = room-first index-room (omega arith) (omega arith)
 
   -- the guard is written
@@ -166,8 +166,8 @@ module _ (taken : Bool) (f from : ℕ) (b : BExp) where
     ChoiceBegun i j k =
         UpdateBegun (noNodes ++ (Choice i j k ∷ [])) (nodesOfB b + 1 + 1 + 1) (bytesOfB b + sizeOf (keptNode taken f) + sizeOf (keptNode (negated taken) f) + 10) l m s
 
-pub update-room : (taken : Bool) (f from : ℕ) (b : BExp) {l : List ℕ} → Room from (nodesOf (flagUpdate f taken b)) (bytesOf (flagUpdate f taken b)) l
-    → Room from (nodesOfB b + 4) (bytesOfB b + sizeOf (keptNode taken f) + sizeOf (keptNode (negated taken) f) + 18) l
+pub update-room : (taken : Bool) (f from : ℕ) (b : BExp) {l : List ℕ} → SpaceFor from (nodesOf (flagUpdate f taken b)) (bytesOf (flagUpdate f taken b)) l
+    → SpaceFor from (nodesOfB b + 4) (bytesOfB b + sizeOf (keptNode taken f) + sizeOf (keptNode (negated taken) f) + 18) l
 unfolding flagUpdate flagIfTrue flagIfFalse nodesOf bytesOf nodesOfA bytesOfA sizeOf form fieldSize sum
 update-room true f from b r = record { numbers = omega (arith, r .numbers); fits = omega (arith, r .fits) }
 update-room false f from b r = record { numbers = omega (arith, r .numbers); fits = omega (arith, r .fits) }

@@ -9,7 +9,7 @@ use Rattle.awhile.specs.Encoding.{binary}
 use Rattle.awhile.specs.declared.Node.{Node}
 use Rattle.awhile.specs.declared.Node.the-variants.{Sequence}
 use Rattle.copier.specs.Sizes.{Few}
-use Rattle.copier.specs.Written.{Appended, Wrote, WroteTwo, Both, pairOf, Room}
+use Rattle.copier.specs.Written.{Appended, Wrote, WroteTwo, Both, pairOf, SpaceFor}
 use Rattle.copier.specs.declared.Pair.{Pair}
 use Rattle.copier.specs.declared.Size.{Size}
 use Rattle.copier.proofs.Lengths.{Short, Counted}
@@ -24,10 +24,10 @@ pub record FirstWritten (from : ℕ) (ms : List Node) (ns : ℕ → List Node) (
   pub some : 0 < i
   pub firstShort : Short i j
   pub secondShort : Short k h
-  pub room : Room from (i + k + more) (j + h + size) l
+  pub room : SpaceFor from (i + k + more) (j + h + size) l
 
 pub first-written : {from : ℕ} {ms : List Node} {ns : ℕ → List Node} {i j k h more size : ℕ} {l m : List ℕ} {s : Size} → Wrote ms l m s
-    → Counted ms i j → ((number : ℕ) → Counted (ns number) k h) → 0 < i → Short i j → Short k h → Room from (i + k + more) (j + h + size) l
+    → Counted ms i j → ((number : ℕ) → Counted (ns number) k h) → 0 < i → Short i j → Short k h → SpaceFor from (i + k + more) (j + h + size) l
     → FirstWritten from ms ns i j k h more size l m s
 first-written w a b some f g room = record { wrote = w; first = a; second = b; some = some; firstShort = f; secondShort = g; room = room }
 
@@ -42,7 +42,7 @@ module _ {from : ℕ} {ms : List Node} {ns : ℕ → List Node} {i j k h more si
   rest-begins = rest-inside (p .wrote) (p .first) (p .room) (omega arith)
 
   -- and have room there
-  pub rest-room : Room (from + s .nodes) k h (restOf (s .bytes) m)
+  pub rest-room : SpaceFor (from + s .nodes) k h (restOf (s .bytes) m)
   rest-room = room-rest (p .wrote) (p .first) (p .room) (omega arith) (omega arith)
 
   -- the number of the first part's last node can be computed

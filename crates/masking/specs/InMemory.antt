@@ -14,8 +14,8 @@ use Rattle.masks.specs.Hardening.{Origin, maskedCondition, flagIfTrue, flagIfFa
 use Rattle.masking.specs.Deciding.{decidedIn}
 
 -- what comes out for a node
-unfoldable pub hardenedIn : (table decisions : List ℕ) → (f node : ℕ) → Com Origin
-hardenedIn table ds f n = harden f (decidedIn table ds n)
+unfoldable pub hardenedAt : (table decisions : List ℕ) → (f node : ℕ) → Com Origin
+hardenedAt table ds f n = harden f (decidedIn table ds n)
 
 -- the flag's update where a condition was taken as true or as false
 unfoldable pub flagUpdate : (f : ℕ) → (taken : Bool) → BExp → Com Origin
@@ -28,7 +28,7 @@ testIn table f condition mask = maskedCondition f mask (truthIn table condition)
 module _ (table ds : List ℕ) (f condition : ℕ) (mask : Bool) where
   -- a side begins with the flag's update
   unfoldable pub sideIn : (taken : Bool) → (side : ℕ) → Com Origin
-  sideIn taken side = sequence none (flagUpdate f taken (testIn table f condition mask)) (hardenedIn table ds f side)
+  sideIn taken side = sequence none (flagUpdate f taken (testIn table f condition mask)) (hardenedAt table ds f side)
 
   unfoldable pub ifIn : Origin → (first second : ℕ) → Com Origin
   ifIn origin first second = if origin (testIn table f condition mask) (sideIn true first) (sideIn false second)

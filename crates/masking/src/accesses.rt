@@ -18,7 +18,7 @@ ghost use Rattle.awhile.specs.declared.Sort.the-variants.{Numeric};
 ghost use Rattle.masks.specs.Decisions.{decision};
 ghost use Rattle.masks.specs.Hardening.{harden};
 ghost use Rattle.copier.specs.Sizes.{bytesOf, Few};
-ghost use Rattle.copier.specs.Written.{Appended, Room, Wrote, pairOf};
+ghost use Rattle.copier.specs.Written.{Appended, SpaceFor, Wrote, pairOf};
 
 // A sequence over two parts that stand one behind the other.
 pub fn append_sequence(out: &mut [u8], from: usize, first: Size, second: Size) -> Size
@@ -55,7 +55,7 @@ pub fn harden_read(
 ) -> Size
     requires { ⌜ OfSort (now table) (now index) Numeric place ⌝ }
     requires { ⌜
-        Room from
+        SpaceFor from
         (nodesOf (harden flag (read (decision 0 false mask hide) variable array (numericIn (now table) place))))
         (bytesOf (harden flag (read (decision 0 false mask hide) variable array (numericIn (now table) place))))
         (now out) ⌝ }
@@ -97,7 +97,7 @@ pub fn harden_write(
 ) -> Size
     requires { ⌜ OfSort (now table) (now index) Numeric place × OfSort (now table) (now index) Numeric value ⌝ }
     requires { ⌜
-        Room from
+        SpaceFor from
         (nodesOf (harden flag (write (decision 0 false mask false) array (numericIn (now table) place) (numericIn (now table) value))))
         (bytesOf (harden flag (write (decision 0 false mask false) array (numericIn (now table) place) (numericIn (now table) value))))
         (now out) ⌝ }

@@ -17,11 +17,11 @@ ghost use Rattle.awhile.specs.declared.Sort.the-variants.{Numeric, Truth};
 ghost use Rattle.masks.specs.Hardening.{maskedCondition, maskedIndex, maskValueOf};
 ghost use Rattle.masking.specs.InMemory.{flagUpdate, guardNodes};
 ghost use Rattle.copier.specs.Sizes.{bytesOfA, bytesOfB, bytesOf};
-ghost use Rattle.copier.specs.Written.{Room, Wrote};
+ghost use Rattle.copier.specs.Written.{SpaceFor, Wrote};
 
 // flag = value
 fn put_test(flag: usize, value: u32, from: usize, out: &mut [u8]) -> Size
-    requires { ⌜ Room from 3 22 (now out) ⌝ }
+    requires { ⌜ SpaceFor from 3 22 (now out) ⌝ }
     ensures { λ r. ⌜ Wrote (writeB from (equal (variable flag) (number value))) (now (out .entry)) (now (out .exit)) r ⌝ }
 {
     let first = append(&mut *out, 0, 0, Node::Variable { variable: flag });
@@ -49,7 +49,7 @@ pub fn copy_condition(
 ) -> Size
     requires { ⌜ OfSort (now table) (now index) Truth n ⌝ }
     requires { ⌜
-        Room from (nodesOfB (maskedCondition flag mask (truthIn (now table) n))) (bytesOfB (maskedCondition flag mask (truthIn (now table) n))) (now out) ⌝ }
+        SpaceFor from (nodesOfB (maskedCondition flag mask (truthIn (now table) n))) (bytesOfB (maskedCondition flag mask (truthIn (now table) n))) (now out) ⌝ }
     ensures { λ r. ⌜ Wrote (writeB from (maskedCondition flag mask (truthIn (now (table .entry)) n))) (now (out .entry)) (now (out .exit)) r ⌝ }
 {
     if mask {
@@ -73,7 +73,7 @@ pub fn copy_condition(
 
 // The beginning of (flag = 1) ? 0 : e, up to e.
 fn put_guard(flag: usize, from: usize, out: &mut [u8]) -> Size
-    requires { ⌜ Room from 4 30 (now out) ⌝ }
+    requires { ⌜ SpaceFor from 4 30 (now out) ⌝ }
     ensures { λ r. ⌜ Wrote (guardNodes from flag) (now (out .entry)) (now (out .exit)) r ⌝ }
 {
     let test = put_test(flag, 1, from, &mut *out);
@@ -91,7 +91,7 @@ pub fn copy_index(
     out: &mut [u8],
 ) -> Size
     requires { ⌜ OfSort (now table) (now index) Numeric n ⌝ }
-    requires { ⌜ Room from (nodesOfA (maskedIndex flag mask (numericIn (now table) n))) (bytesOfA (maskedIndex flag mask (numericIn (now table) n))) (now out) ⌝ }
+    requires { ⌜ SpaceFor from (nodesOfA (maskedIndex flag mask (numericIn (now table) n))) (bytesOfA (maskedIndex flag mask (numericIn (now table) n))) (now out) ⌝ }
     ensures { λ r. ⌜ Wrote (writeA from (maskedIndex flag mask (numericIn (now (table .entry)) n))) (now (out .entry)) (now (out .exit)) r ⌝ }
 {
     if mask {
@@ -116,7 +116,7 @@ pub fn copy_index(
 
 // variable := (flag = 1) ? 0 : variable
 pub fn put_value_mask(flag: usize, variable: usize, from: usize, out: &mut [u8]) -> Size
-    requires { ⌜ Room from 7 54 (now out) ⌝ }
+    requires { ⌜ SpaceFor from 7 54 (now out) ⌝ }
     ensures { λ r. ⌜ Wrote (writeC from (maskValueOf flag variable)) (now (out .entry)) (now (out .exit)) r ⌝ }
 {
     let guard = put_guard(flag, from, &mut *out);
@@ -171,7 +171,7 @@ pub fn put_flag_update(
 ) -> Size
     requires { ⌜ OfSort (now table) (now index) Truth n ⌝ }
     requires { ⌜
-        Room from
+        SpaceFor from
         (nodesOf (flagUpdate flag taken (maskedCondition flag mask (truthIn (now table) n))))
         (bytesOf (flagUpdate flag taken (maskedCondition flag mask (truthIn (now table) n))))
         (now out) ⌝ }

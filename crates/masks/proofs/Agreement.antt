@@ -11,7 +11,7 @@ use Rattle.awhile.specs.Language.{AExp, BExp, valueOf, truthOf}
 use Rattle.awhile.specs.declared.Labelling.{Labelling}
 use Rattle.labels.specs.Labellings.{_⊑_, Mark, variableMark, arrayMark, labelOf, setLabel, labelOfA, labelOfB}
 use Rattle.labels.proofs.Order.{label-set, label-set-other}
-use Rattle.labels.proofs.Booleans.{le-false}
+use Rattle.labels.proofs.Booleans.{atMost-false}
 use Rattle.labels.proofs.Values.{public-value, public-truth, agree-weaker, agree-set, stored-same}
 use Rattle.machine.specs.Steps.{inside, cellPlace}
 use Rattle.machine.proofs.Cells.{cells-apart}
@@ -21,7 +21,7 @@ use Rattle.masks.proofs.Locked.{Flagged}
 
 -- what is public in the larger labelling is public in the smaller
 pub public-below : {l m : Labelling} → l ⊑ m → (k : Mark) → labelOf m k ≡ false → labelOf l k ≡ false
-public-below h k e = le-false (h .at k) e
+public-below h k e = atMost-false (h .at k) e
 
 pub flagged-larger : {f k : ℕ} {l m : Labelling} {vs ws : List ℕ} → l ⊑ m → Flagged f k l vs ws → Flagged f k m vs ws
 flagged-larger h a =

@@ -15,8 +15,6 @@ use Rattle.awhile.specs.WellFormed.{WellFormed, Within}
 use Rattle.awhile.proofs.Accepted.{accepted-well-formed}
 use Rattle.awhile.proofs.Ranges.{root-within}
 use Rattle.labels.specs.Sheet.{annotated}
-use Rattle.machine.proofs.Notes.{noNote}
-use Rattle.machine.proofs.Numbering.{numbered-without-notes}
 use Rattle.masks.specs.Decisions.{Decision, decide}
 use Rattle.masks.specs.Covering.{Covers}
 use Rattle.masks.specs.Hardening.{Origin, harden, hardenedProgram, tableOfHardened, hardenedTable}
@@ -50,6 +48,10 @@ module _ (t : Table) (w : WellFormed t) (small : length (t .nodes) ≤ 512) (fre
     grown : length (table′ .nodes) ≤ 8 * length (t .nodes)
     grown = omega (arith, hardened-nodes t w free d program, eightfold t w free d program large)
 
+    -- the table's program, with the origins of its nodes, is the hardened one
+    originals : mapNotes (originIn program′) (rootOf table′) ≡ program′
+    originals = ap (mapNotes (originIn program′)) (back .root) ∙ origins-kept program′
+
     -- the demands hold for all decisions that cover the labels and mask no condition of fewer than three nodes
     pub demands-by : Demands t program′ (tableBytes table′)
     demands-by =
@@ -75,11 +77,10 @@ module _ (t : Table) (w : WellFormed t) (small : length (t .nodes) ≤ 512) (fre
               (t .variables)
               (t .counts)
               d
-              (ap (mapNotes (originIn program′)) (back .root) ∙ origins-kept program′)
+              originals
               below
               width));
-          secure =
-              secure-by t d program below (t .labels) table′ (back .counts) (ap (mapNotes noNote) (back .root) ∙ numbered-without-notes program′) covers;
+          secure = secure-by t d program below (t .labels) table′ (originIn program′) (back .counts) originals covers;
         }
 
   -- the demands hold for the decisions that the labels give

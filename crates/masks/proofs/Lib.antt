@@ -10,8 +10,6 @@ pub mod SameRunBudgets
 pub mod SameRun
 pub mod Locked
 pub mod Agreement
-pub mod PlainRuns
 pub mod OneStep
-pub mod LockedRuns
 pub mod Security
 pub mod Demands

@@ -12,9 +12,7 @@ use Rattle.labels.specs.Analysis.{analyse, readLabel}
 use Rattle.labels.specs.Rules.{AgreeOn}
 use Rattle.machine.specs.Look.{look, quiet}
 use Rattle.machine.specs.Steps.{State}
-use Rattle.machine.specs.Runs.{plain}
-use Rattle.machine.specs.Prefixes.{OneBegins}
-use Rattle.machine.proofs.Traces.{trace}
+use Rattle.machine.proofs.PlainRuns.{stateOf, PlainRelated}
 use Rattle.masks.specs.Decisions.{Decision}
 use Rattle.masks.specs.Hardening.{Origin, harden, maskedCondition, maskedIndex, flagIfTrue, flagIfFalse, maskValueOf}
 use Rattle.masks.specs.SameRun.{AssignsBelow}
@@ -55,13 +53,6 @@ pub record Flagged (f value : ℕ) (l : Labelling) (vs ws : List ℕ) : Type 0 w
   pub right : getD ws f 0 ≡ value
   pub lengths : length vs ≡ length ws
   pub declared : f < length vs
-
-abbrev pub stateOf : List (Com Origin) → (variables cells : List ℕ) → (flag : Bool) → State Origin
-stateOf p vs cs b = record { pending = p; variables = vs; cells = cs; flag = b }
-
--- the plain runs from two states show lists of which one begins the other, at every two budgets
-pub record PlainRelated (counts : List ℕ) (s t : State Origin) : Type 0 where
-  pub at : (n m : ℕ) → OneBegins (trace counts n s plain) (trace counts m t plain)
 
 -- what holds besides, by the machine's flag: with the flag clear the public arrays agree and the plain runs are related; with the flag set, nothing
 pub data Besides (counts : List ℕ) (l : Labelling) (s t : State Origin) : Bool → Type 0 where

@@ -4,7 +4,6 @@ use Prim.Native.Nat.{ℕ, _<_}
 use native.Mathlib.Omega.{arith}
 use mathlib.Core.Bool.{Bool, true, false, cond, _||_, true≢false}
 use mathlib.Core.List.{List, [], _∷_}
-use mathlib.Core.Logic.{_⊎_, inl, inr}
 use mathlib.Core.Option.{none}
 use mathlib.Core.Path.{_≡_, refl, sym, ap, subst, subst₂, _∙_}
 use lib.ListN.{length, getD, set, length-set}
@@ -18,48 +17,19 @@ use Rattle.labels.proofs.Analysis.{loop-settles}
 use Rattle.labels.proofs.Booleans.{or-false-left, or-false-right}
 use Rattle.labels.proofs.Values.{public-value}
 use Rattle.machine.specs.Observations.{branch, readAt, writeAt}
-use Rattle.machine.specs.Look.{Look, quiet, fork, get, put, look}
+use Rattle.machine.specs.Look.{quiet, fork, get, put, look}
 use Rattle.machine.specs.Steps.{State, inside, cellPlace, quietly, turned, loaded, stored}
 use Rattle.machine.specs.Runs.{plain}
+use Rattle.machine.proofs.PlainRuns.{stateOf, PlainRelated, plain-after, plain-shows, turn-quiet, turn-fork, turn-get, turn-put}
+use Rattle.machine.proofs.Closed.{Alike, quiet-alike, fork-alike, get-alike, put-alike, get-out-left, get-out-right, put-out-left, put-out-right}
+use Rattle.machine.proofs.Closed.{OneStep, over-alike, next-alike, Closed}
 use Rattle.masks.specs.Decisions.{Decision}
 use Rattle.masks.specs.Covering.{Masked, ValueMasked, Covers, covers-sequence, covers-if, covers-while, covers-read, covers-write, AgreeOnArrays}
 use Rattle.masks.specs.Hardening.{Origin, harden, maskedIndex, flagIfTrue, flagIfFalse, maskValueOf}
 use Rattle.masks.specs.SameRun.{AssignsBelow}
 use Rattle.masks.proofs.Locked.{conditionOf, loopOf, readOf}
-use Rattle.masks.proofs.Locked.{WellLabelled, nothing, item, loop, maskedRead, Flagged, stateOf, PlainRelated, Besides, guessed, straight, Locked, steady, silent}
+use Rattle.masks.proofs.Locked.{WellLabelled, nothing, item, loop, maskedRead, Flagged, Besides, guessed, straight, Locked, steady, silent}
 use Rattle.masks.proofs.Agreement.{public-below, flagged-larger, flagged-set, flagged-flag, same-condition, same-index, zero-guessing, same-straight, arrays-set}
-use Rattle.masks.proofs.PlainRuns.{plain-after, plain-shows, turn-quiet, turn-fork, turn-get, turn-put}
-
--- how the next steps of two configurations are alike
-pub data Alike (counts : List ℕ) (f : ℕ) (s t : State Origin) : Look Origin → Look Origin → Type 0 where
-  quiet-alike : (p : List (Com Origin)) (vs ws : List ℕ)
-      → Locked counts f (quietly counts s p vs) (quietly counts t p ws) → Alike counts f s t (quiet p vs) (quiet p ws)
-  -- one value on both sides; the right side is locked with the flag as it was, the wrong side with the flag set
-  fork-alike : (v : Bool) (onTrue onFalse : List (Com Origin))
-      → Locked counts f (turned counts s (cond v onTrue onFalse) (s .flag)) (turned counts t (cond v onTrue onFalse) (t .flag))
-      → Locked counts f (turned counts s (cond v onFalse onTrue) true) (turned counts t (cond v onFalse onTrue) true)
-      → Alike counts f s t (fork v onTrue onFalse) (fork v onTrue onFalse)
-  -- one index on both sides: locked after the own cell, in bounds, and while guessing after any named cell
-  get-alike : (x a i : ℕ) (rest : List (Com Origin))
-      → (inside counts a i ≡ true → Locked counts f (loaded counts s x a i rest) (loaded counts t x a i rest))
-      → ((b j : ℕ) → s .flag ≡ true → Locked counts f (loaded counts s x b j rest) (loaded counts t x b j rest))
-      → Alike counts f s t (get x a i rest) (get x a i rest)
-  put-alike : (a i v w : ℕ) (rest : List (Com Origin))
-      → (inside counts a i ≡ true → Locked counts f (stored counts s a i v rest) (stored counts t a i w rest))
-      → ((b j : ℕ) → s .flag ≡ true → Locked counts f (stored counts s b j v rest) (stored counts t b j w rest))
-      → Alike counts f s t (put a i v rest) (put a i w rest)
-  -- with the flag clear, an index out of bounds in at least one of the two
-  get-out : (x a i j : ℕ) (rest : List (Com Origin)) → (inside counts a i ≡ false) ⊎ (inside counts a j ≡ false)
-      → s .flag ≡ false → Alike counts f s t (get x a i rest) (get x a j rest)
-  put-out : (a i j v w : ℕ) (rest : List (Com Origin)) → (inside counts a i ≡ false) ⊎ (inside counts a j ≡ false)
-      → s .flag ≡ false → Alike counts f s t (put a i v rest) (put a j w rest)
-
--- nothing is pending on either side, or one command is next on both and their looks are alike; the flags are equal
-pub data OneStep (counts : List ℕ) (f : ℕ) : State Origin → State Origin → Type 0 where
-  over-alike : (b : Bool) (vs ws cs ds : List ℕ) → OneStep counts f (stateOf [] vs cs b) (stateOf [] ws ds b)
-  next-alike : (b : Bool) (c : Com Origin) (rest : List (Com Origin)) (vs ws cs ds : List ℕ)
-      → Alike counts f (stateOf (c ∷ rest) vs cs b) (stateOf (c ∷ rest) ws ds b) (look c rest vs) (look c rest ws)
-      → OneStep counts f (stateOf (c ∷ rest) vs cs b) (stateOf (c ∷ rest) ws ds b)
 
 -- ---- what holds besides, over a step
 module _ {counts : List ℕ} where
@@ -162,7 +132,7 @@ module _ (counts : List ℕ) (f : ℕ) where
       → Flagged f (cond b 1 0) m vs ws
       → Side (choice e (variable f) (number 1)) m onTrue vs ws cs ds
       → Side (choice e (number 1) (variable f)) m onFalse vs ws cs ds
-      → Alike counts f (stateOf (c ∷ rest) vs cs b) (stateOf (c ∷ rest) ws ds b) (look c rest vs) (look c rest ws)
+      → Alike counts (Locked counts f) (stateOf (c ∷ rest) vs cs b) (stateOf (c ∷ rest) ws ds b) (look c rest vs) (look c rest ws)
   unfolding turned Side
   fork-locked {m} b c rest onTrue onFalse e vs ws cs ds e₁ e₂ h be fl sideTrue sideFalse =
       go (truthOf e vs) refl (sym (fork-same b c rest onTrue onFalse (truthOf e vs) (truthOf e ws) vs ws cs ds e₁ e₂ h be))
@@ -173,18 +143,18 @@ module _ (counts : List ℕ) (f : ℕ) where
       t : State Origin
       t = stateOf (c ∷ rest) ws ds b
 
-      go : (v : Bool) → truthOf e vs ≡ v → truthOf e ws ≡ truthOf e vs → Alike counts f s t (look c rest vs) (look c rest ws)
+      go : (v : Bool) → truthOf e vs ≡ v → truthOf e ws ≡ truthOf e vs → Alike counts (Locked counts f) s t (look c rest vs) (look c rest ws)
       go true p q =
           let l₁ : look c rest vs ≡ fork true onTrue onFalse = e₁ ∙ ap (λ (x : Bool). fork x onTrue onFalse) p in
           let l₂ : look c rest ws ≡ fork true onTrue onFalse = e₂ ∙ ap (λ (x : Bool). fork x onTrue onFalse) (q ∙ p) in
-          subst₂ (Alike counts f s t) (sym l₁) (sym l₂)
+          subst₂ (Alike counts (Locked counts f) s t) (sym l₁) (sym l₂)
           (fork-alike true onTrue onFalse
           (sideTrue b (true-right e vs _ p (fl .left)) (true-right e ws _ (q ∙ p) (fl .right)) (fork-besides b c rest onTrue onFalse true vs ws cs ds l₁ l₂ be))
           (sideFalse true (false-wrong e vs p) (false-wrong e ws (q ∙ p)) guessed))
       go false p q =
           let l₁ : look c rest vs ≡ fork false onTrue onFalse = e₁ ∙ ap (λ (x : Bool). fork x onTrue onFalse) p in
           let l₂ : look c rest ws ≡ fork false onTrue onFalse = e₂ ∙ ap (λ (x : Bool). fork x onTrue onFalse) (q ∙ p) in
-          subst₂ (Alike counts f s t) (sym l₁) (sym l₂)
+          subst₂ (Alike counts (Locked counts f) s t) (sym l₁) (sym l₂)
           (fork-alike false onTrue onFalse
           (sideFalse b (false-right e vs _ p (fl .left)) (false-right e ws _ (q ∙ p) (fl .right)) (fork-besides b c rest onTrue onFalse false vs ws cs ds l₁ l₂ be))
           (sideTrue true (true-wrong e vs p) (true-wrong e ws (q ∙ p)) guessed))
@@ -208,13 +178,13 @@ module _ (counts : List ℕ) (f : ℕ) where
         → AgreeOnArrays m counts cs ds → length cs ≡ length ds → PlainRelated counts (stateOf (c ∷ rest) vs cs false) (stateOf (c ∷ rest) ws ds false)
         → AfterRead m false x a next vs ws cs ds
         → (p q : Bool) → inside counts a i ≡ p → inside counts a j ≡ q
-        → Alike counts f (stateOf (c ∷ rest) vs cs false) (stateOf (c ∷ rest) ws ds false) (get x a i next) (get x a j next)
+        → Alike counts (Locked counts f) (stateOf (c ∷ rest) vs cs false) (stateOf (c ∷ rest) ws ds false) (get x a i next) (get x a j next)
     unfolding loaded AfterRead
-    get-straight e₁ e₂ arrays lengths plainly after false q k₁ k₂ = get-out x a i j next (inl k₁) refl
-    get-straight e₁ e₂ arrays lengths plainly after true false k₁ k₂ = get-out x a i j next (inr k₂) refl
+    get-straight e₁ e₂ arrays lengths plainly after false q k₁ k₂ = get-out-left x a i j next k₁ refl
+    get-straight e₁ e₂ arrays lengths plainly after true false k₁ k₂ = get-out-right x a i j next k₂ refl
     get-straight e₁ e₂ arrays lengths plainly after true true k₁ k₂ =
-        subst (λ (k : ℕ). Alike counts f (stateOf (c ∷ rest) vs cs false) (stateOf (c ∷ rest) ws ds false) (get x a i next) (get x a k next)) same
-        (get-alike x a i next (λ h. after _ _ (λ r public. arrays .at a i public k₁) (straight arrays lengths related)) (λ b k h. absurd (true≢false (sym h))))
+        subst (λ (k : ℕ). Alike counts (Locked counts f) (stateOf (c ∷ rest) vs cs false) (stateOf (c ∷ rest) ws ds false) (get x a i next) (get x a k next)) same
+        (get-alike x a i next (λ h. after _ _ (λ r public. arrays .at a i public k₁) (straight arrays lengths related)) (λ b h. absurd (true≢false (sym h))))
       where
         same : i ≡ j
         same =
@@ -231,13 +201,13 @@ module _ (counts : List ℕ) (f : ℕ) where
     get-locked : (b : Bool) → look c rest vs ≡ get x a i next → look c rest ws ≡ get x a j next → (b ≡ true → i ≡ j)
         → Besides counts m (stateOf (c ∷ rest) vs cs b) (stateOf (c ∷ rest) ws ds b) b
         → AfterRead m b x a next vs ws cs ds
-        → Alike counts f (stateOf (c ∷ rest) vs cs b) (stateOf (c ∷ rest) ws ds b) (look c rest vs) (look c rest ws)
+        → Alike counts (Locked counts f) (stateOf (c ∷ rest) vs cs b) (stateOf (c ∷ rest) ws ds b) (look c rest vs) (look c rest ws)
     unfolding loaded AfterRead
     get-locked b e₁ e₂ h guessed after =
-        subst₂ (Alike counts f _ _) (sym e₁) (sym (e₂ ∙ ap (λ (k : ℕ). get x a k next) (sym (h refl))))
-        (get-alike x a i next (λ p. after _ _ (λ r. absurd (true≢false r)) guessed) (λ d k p. after _ _ (λ r. absurd (true≢false r)) guessed))
+        subst₂ (Alike counts (Locked counts f) _ _) (sym e₁) (sym (e₂ ∙ ap (λ (k : ℕ). get x a k next) (sym (h refl))))
+        (get-alike x a i next (λ p. after _ _ (λ r. absurd (true≢false r)) guessed) (λ d p. after _ _ (λ r. absurd (true≢false r)) guessed))
     get-locked b e₁ e₂ h (straight arrays lengths plainly) after =
-        subst₂ (Alike counts f _ _) (sym e₁) (sym e₂) (get-straight e₁ e₂ arrays lengths plainly after _ _ refl refl)
+        subst₂ (Alike counts (Locked counts f) _ _) (sym e₁) (sym e₂) (get-straight e₁ e₂ arrays lengths plainly after _ _ refl refl)
 
   -- ---- writes
   -- what follows a write is locked; with the flag clear the public arrays agree after it
@@ -251,19 +221,19 @@ module _ (counts : List ℕ) (f : ℕ) where
         → AgreeOnArrays m counts cs ds → length cs ≡ length ds → PlainRelated counts (stateOf (c ∷ rest) vs cs false) (stateOf (c ∷ rest) ws ds false)
         → AfterWrite (setLabel m (arrayMark a) r) false next vs ws
         → (p q : Bool) → inside counts a i ≡ p → inside counts a j ≡ q
-        → Alike counts f (stateOf (c ∷ rest) vs cs false) (stateOf (c ∷ rest) ws ds false) (put a i v next) (put a j w next)
+        → Alike counts (Locked counts f) (stateOf (c ∷ rest) vs cs false) (stateOf (c ∷ rest) ws ds false) (put a i v next) (put a j w next)
     unfolding stored AfterWrite
-    put-straight e₁ e₂ eq arrays lengths plainly after false q k₁ k₂ = put-out a i j v w next (inl k₁) refl
-    put-straight e₁ e₂ eq arrays lengths plainly after true false k₁ k₂ = put-out a i j v w next (inr k₂) refl
+    put-straight e₁ e₂ eq arrays lengths plainly after false q k₁ k₂ = put-out-left a i j v w next k₁ refl
+    put-straight e₁ e₂ eq arrays lengths plainly after true false k₁ k₂ = put-out-right a i j v w next k₂ refl
     put-straight e₁ e₂ eq arrays lengths plainly after true true k₁ k₂ =
-        subst (λ (k : ℕ). Alike counts f (stateOf (c ∷ rest) vs cs false) (stateOf (c ∷ rest) ws ds false) (put a i v next) (put a k w next)) same
+        subst (λ (k : ℕ). Alike counts (Locked counts f) (stateOf (c ∷ rest) vs cs false) (stateOf (c ∷ rest) ws ds false) (put a i v next) (put a k w next)) same
         (put-alike a i v w next
         (λ h.
         after _ _
         (straight (arrays-set a i v w r arrays lengths k₁ before eq)
         (length-set cs (cellPlace counts a i) v ∙ (lengths ∙ sym (length-set ds (cellPlace counts a i) w)))
         related))
-        (λ b k h. absurd (true≢false (sym h))))
+        (λ b h. absurd (true≢false (sym h))))
       where
         same : i ≡ j
         same =
@@ -279,13 +249,13 @@ module _ (counts : List ℕ) (f : ℕ) where
     put-locked : (b : Bool) → look c rest vs ≡ put a i v next → look c rest ws ≡ put a j w next → (b ≡ true → i ≡ j) → (r ≡ false → v ≡ w)
         → Besides counts m (stateOf (c ∷ rest) vs cs b) (stateOf (c ∷ rest) ws ds b) b
         → AfterWrite (setLabel m (arrayMark a) r) b next vs ws
-        → Alike counts f (stateOf (c ∷ rest) vs cs b) (stateOf (c ∷ rest) ws ds b) (look c rest vs) (look c rest ws)
+        → Alike counts (Locked counts f) (stateOf (c ∷ rest) vs cs b) (stateOf (c ∷ rest) ws ds b) (look c rest vs) (look c rest ws)
     unfolding stored AfterWrite
     put-locked b e₁ e₂ h eq guessed after =
-        subst₂ (Alike counts f _ _) (sym e₁) (sym (e₂ ∙ ap (λ (k : ℕ). put a k w next) (sym (h refl))))
-        (put-alike a i v w next (λ p. after _ _ guessed) (λ d k p. after _ _ guessed))
+        subst₂ (Alike counts (Locked counts f) _ _) (sym e₁) (sym (e₂ ∙ ap (λ (k : ℕ). put a k w next) (sym (h refl))))
+        (put-alike a i v w next (λ p. after _ _ guessed) (λ d p. after _ _ guessed))
     put-locked b e₁ e₂ h eq (straight arrays lengths plainly) after =
-        subst₂ (Alike counts f _ _) (sym e₁) (sym e₂) (put-straight e₁ e₂ eq arrays lengths plainly after _ _ refl refl)
+        subst₂ (Alike counts (Locked counts f) _ _) (sym e₁) (sym e₂) (put-straight e₁ e₂ eq arrays lengths plainly after _ _ refl refl)
 
   -- ---- a well-labelled list, item by item
   well-labelled-from : {l m : Labelling} {p : List (Com Origin)} → l ⊑ m → WellLabelled f m p → WellLabelled f l p
@@ -298,17 +268,17 @@ module _ (counts : List ℕ) (f : ℕ) where
   quiet-step : {m : Labelling} (b : Bool) (c : Com Origin) (rest p : List (Com Origin)) (vs ws vs′ ws′ cs ds : List ℕ)
       → look c rest vs ≡ quiet p vs′ → look c rest ws ≡ quiet p ws′ → WellLabelled f m p → Flagged f (cond b 1 0) m vs′ ws′
       → Besides counts m (stateOf (c ∷ rest) vs cs b) (stateOf (c ∷ rest) ws ds b) b
-      → Alike counts f (stateOf (c ∷ rest) vs cs b) (stateOf (c ∷ rest) ws ds b) (look c rest vs) (look c rest ws)
+      → Alike counts (Locked counts f) (stateOf (c ∷ rest) vs cs b) (stateOf (c ∷ rest) ws ds b) (look c rest vs) (look c rest ws)
   unfolding quietly
   quiet-step {m} b c rest p vs ws vs′ ws′ cs ds e₁ e₂ wl fl be =
-      subst₂ (Alike counts f _ _) (sym e₁) (sym e₂)
+      subst₂ (Alike counts (Locked counts f) _ _) (sym e₁) (sym e₂)
       (quiet-alike p vs′ ws′ (steady b m p vs′ ws′ cs ds wl fl (besides-quiet c rest p vs ws vs′ ws′ cs ds e₁ e₂ be)))
 
   -- the next steps of two configurations with this pending list, flag and values are alike
   Steps : Bool → Labelling → List (Com Origin) → Type 0
   Steps b m p =
       (vs ws cs ds : List ℕ) → Flagged f (cond b 1 0) m vs ws → Besides counts m (stateOf p vs cs b) (stateOf p ws ds b) b
-      → OneStep counts f (stateOf p vs cs b) (stateOf p ws ds b)
+      → OneStep counts (Locked counts f) (stateOf p vs cs b) (stateOf p ws ds b)
 
   -- a covered condition while guessing
   guessing-condition : {m : Labelling} {vs ws : List ℕ} (n : Decision) (e : BExp) (b : Bool) → Masked (labelOfB m e) (n .maskCondition)
@@ -325,7 +295,7 @@ module _ (counts : List ℕ) (f : ℕ) where
       → WellLabelled f m rest → Steps b m (loopOf f n e c ∷ flagIfFalse f (conditionOf f n e) ∷ rest)
   unfolding Steps look Side flagIfTrue flagIfFalse
   loop-steps b {rest} n e c x m k cov sp closed wl vs ws cs ds fl be =
-      next-alike b (loopOf f n e c) (flagIfFalse f (conditionOf f n e) ∷ rest) vs ws cs ds
+      next-alike refl (loopOf f n e c) (flagIfFalse f (conditionOf f n e) ∷ rest) refl refl
       (fork-locked b (loopOf f n e c) (flagIfFalse f (conditionOf f n e) ∷ rest) _ _ (conditionOf f n e) vs ws cs ds refl refl
       (guessing-condition n e b k fl) be fl
       (λ b′ p q be′. side-locked b′ _ (harden f c) _ vs ws cs ds p q again fl be′)
@@ -385,7 +355,7 @@ module _ (counts : List ℕ) (f : ℕ) where
       → Steps b m (readOf f n v a i ∷ maskValueOf f v ∷ rest)
   unfolding Steps look AfterRead Cleared
   masked-read-steps b {rest} n v a i x m k below wl vs ws cs ds fl be =
-      next-alike b (readOf f n v a i) (maskValueOf f v ∷ rest) vs ws cs ds
+      next-alike refl (readOf f n v a i) (maskValueOf f v ∷ rest) refl refl
       (get-locked (readOf f n v a i) (maskValueOf f v ∷ rest) (maskValueOf f v ∷ rest) v a _ _ vs ws cs ds b refl refl (guessing-index n i b k fl) be
       (λ u w eq be′.
       cleared m rest v (readLabel m x a i) below wl vs ws cs ds u w b fl (λ p q. eq p (read-public m x a i q)) be′))
@@ -400,10 +370,10 @@ module _ (counts : List ℕ) (f : ℕ) where
       → Steps b m (cond mask (sequence none (readOf f n v a i) (maskValueOf f v)) (readOf f n v a i) ∷ rest)
   unfolding Steps look AfterRead
   read-steps b {rest} true n v a i x m k k₁ below wl vs ws cs ds fl be =
-      next-alike b _ rest vs ws cs ds
+      next-alike refl _ rest refl refl
       (quiet-step b _ rest _ vs ws vs ws cs ds refl refl (maskedRead n v a i x m (⊑-refl m) k below wl) fl be)
   read-steps b {rest} false n v a i x m k k₁ below wl vs ws cs ds fl be =
-      next-alike b _ rest vs ws cs ds
+      next-alike refl _ rest refl refl
       (get-locked (readOf f n v a i) rest rest v a _ _ vs ws cs ds b refl refl (guessing-index n i b k fl) be
       (λ u w eq be′.
       steady b (setLabel m (variableMark v) (readLabel m x a i)) rest (set vs v u) (set ws v w) cs ds wl
@@ -429,18 +399,18 @@ module _ (counts : List ℕ) (f : ℕ) where
       → Covers c x m → AssignsBelow f c → WellLabelled f (analyse c x m) rest → Steps b m (harden f c ∷ rest)
   unfolding Steps look harden analyse AfterRead AfterWrite Side flagIfTrue flagIfFalse
   command-steps b {rest} (skip n) x m cov sp wl vs ws cs ds fl be =
-      next-alike b _ rest vs ws cs ds (quiet-step b _ rest rest vs ws vs ws cs ds refl refl wl fl be)
+      next-alike refl _ rest refl refl (quiet-step b _ rest rest vs ws vs ws cs ds refl refl wl fl be)
   command-steps b {rest} (assign n v e) x m cov below wl vs ws cs ds fl be =
-      next-alike b _ rest vs ws cs ds
+      next-alike refl _ rest refl refl
       (quiet-step b _ rest rest vs ws _ _ cs ds refl refl wl
       (flagged-set fl v _ _ (labelOfA m e || x) (omega arith) (λ p. public-value m vs ws (fl .agree) e (or-false-left (labelOfA m e) x p)))
       (besides-larger (arrays-after-set m v (labelOfA m e || x)) be))
   command-steps b {rest} (sequence n c d) x m (covers-sequence k₁ k₂) (s₁, s₂) wl vs ws cs ds fl be =
-      next-alike b _ rest vs ws cs ds
+      next-alike refl _ rest refl refl
       (quiet-step b _ rest _ vs ws vs ws cs ds refl refl
       (item c x m (⊑-refl m) k₁ s₁ (item d x (analyse c x m) (⊑-refl (analyse c x m)) k₂ s₂ wl)) fl be)
   command-steps b {rest} (if n e c d) x m (covers-if k k₁ k₂) (s₁, s₂) wl vs ws cs ds fl be =
-      next-alike b _ rest vs ws cs ds
+      next-alike refl _ rest refl refl
       (fork-locked b _ rest _ _ (conditionOf f n e) vs ws cs ds refl refl (guessing-condition n e b k fl) be fl
       (λ b′ p q be′. side-locked b′ _ (harden f c) rest vs ws cs ds p q (first c k₁ s₁ (join-left _ _)) fl be′)
       (λ b′ p q be′. side-locked b′ _ (harden f d) rest vs ws cs ds p q (first d k₂ s₂ (join-right _ _)) fl be′))
@@ -450,20 +420,20 @@ module _ (counts : List ℕ) (f : ℕ) where
           → WellLabelled f m (harden f h ∷ rest)
       first h k′ s′ below = item h (labelOfB m e || x) m (⊑-refl m) k′ s′ (well-labelled-from below wl)
   command-steps b {rest} (while n e c) x m (covers-while k k₁) s₁ wl vs ws cs ds fl be =
-      next-alike b _ rest vs ws cs ds
+      next-alike refl _ rest refl refl
       (quiet-step b _ rest _ vs ws vs ws cs ds refl refl
       (loop n e c x (analyse (while n e c) x m) (loop-settles n e c x m .above) k k₁ s₁ (loop-settles n e c x m .closed) wl) fl be)
   command-steps b {rest} (read n v a i) x m (covers-read k k₁) below wl vs ws cs ds fl be =
       read-steps b (n .maskValue) n v a i x m k k₁ below wl vs ws cs ds fl be
   command-steps b {rest} (write n a i e) x m (covers-write k) below wl vs ws cs ds fl be =
-      next-alike b _ rest vs ws cs ds
+      next-alike refl _ rest refl refl
       (put-locked (writeLabel m x a i e) _ rest rest a _ _ _ _ vs ws cs ds (write-public m x a i e) b refl refl (guessing-index n i b k fl)
       (λ p. public-value m vs ws (fl .agree) e (value-public m x a i e p)) be
       (λ cs′ ds′ be′. steady b (setLabel m (arrayMark a) (writeLabel m x a i e)) rest vs ws cs′ ds′ wl (flagged-array a (writeLabel m x a i e) fl) be′))
 
   steady-steps : (b : Bool) (l : Labelling) (p : List (Com Origin)) → WellLabelled f l p → Steps b l p
   unfolding Steps
-  steady-steps b l p nothing vs ws cs ds fl be = over-alike b vs ws cs ds
+  steady-steps b l p nothing vs ws cs ds fl be = over-alike refl refl refl
   steady-steps b l p (item c x m g cov sp wl) vs ws cs ds fl be =
       command-steps b c x m cov sp wl vs ws cs ds (flagged-larger g fl) (besides-larger (λ a. public-below g (arrayMark a)) be)
   steady-steps b l p (loop n e c x m g k cov sp closed wl) vs ws cs ds fl be =
@@ -471,9 +441,12 @@ module _ (counts : List ℕ) (f : ℕ) where
   steady-steps b l p (maskedRead n v a i x m g k below wl) vs ws cs ds fl be =
       masked-read-steps b n v a i x m k below wl vs ws cs ds (flagged-larger g fl) (besides-larger (λ a. public-below g (arrayMark a)) be)
 
-  -- THE ONE-STEP LEMMA: locked configurations step alike and are locked again
-  pub one-step : {s t : State Origin} → Locked counts f s t → OneStep counts f s t
+  one-step : {s t : State Origin} → Locked counts f s t → OneStep counts (Locked counts f) s t
   unfolding Steps quietly
   one-step (steady b l p vs ws cs ds wl fl be) = steady-steps b l p wl vs ws cs ds fl be
   one-step (silent b c rest p vs ws vs′ ws′ cs ds e₁ e₂ h) =
-      next-alike b c rest vs ws cs ds (subst₂ (Alike counts f _ _) (sym e₁) (sym e₂) (quiet-alike p vs′ ws′ h))
+      next-alike refl c rest refl refl (subst₂ (Alike counts (Locked counts f) _ _) (sym e₁) (sym e₂) (quiet-alike p vs′ ws′ h))
+
+  -- THE ONE-STEP LEMMA: locked configurations step alike and are locked again
+  pub locked-closed : Closed counts (Locked counts f)
+  locked-closed = record { step = λ s t h. one-step h }

@@ -9,7 +9,7 @@ use lib.ListN.{length, getD, replicate, length-append, length-replicate, List·g
 use lib.Seq.{getD-append-add}
 use Rattle.awhile.specs.Language.{Com, skip, assign, sequence, if, while, read, write, mapNotes}
 use Rattle.awhile.specs.Encoding.{Numbered, numberOf, nodesOfA, nodesOfB, nodesOf, numberedFrom, numbered}
-use Rattle.machine.proofs.Numbering.{notes-twice}
+use Rattle.awhile.proofs.Notes.{notes-twice}
 use Rattle.masks.specs.Hardening.{Origin}
 use Rattle.masks.specs.ReadBack.{origins, originIn}
 

@@ -3,7 +3,7 @@ use Prim.Native.Nat.{ℕ, _+_}
 use native.Mathlib.Omega.{arith}
 use mathlib.Core.Bool.{false}
 use mathlib.Core.List.{List, [], _∷_}
-use mathlib.Core.Path.{_≡_, sym, ap, subst, subst₂, _∙_}
+use mathlib.Core.Path.{_≡_, refl, sym, ap, subst, subst₂, _∙_}
 use lib.ListN.{length, length-append}
 use Rattle.awhile.specs.Language.{Com, mapNotes}
 use Rattle.awhile.specs.Tables.{Table}
@@ -11,12 +11,14 @@ use Rattle.awhile.specs.Trees.{rootOf}
 use Rattle.awhile.specs.declared.Labelling.{Labelling}
 use Rattle.labels.proofs.Order.{⊑-refl}
 use Rattle.machine.specs.Steps.{State}
-use Rattle.machine.specs.Runs.{Room, plain, guessing, run, started}
+use Rattle.machine.specs.Runs.{Guide, plain, guessing, run, started}
 use Rattle.machine.specs.Prefixes.{OneBegins}
-use Rattle.machine.specs.declared.Directive.{Directive}
-use Rattle.machine.proofs.Notes.{noNote, programs-without-notes}
+use Rattle.machine.proofs.Notes.{mapPending, mapState}
 use Rattle.machine.proofs.Prefixes.{beginnings-related}
-use Rattle.machine.proofs.Traces.{run-shows, run-begins}
+use Rattle.machine.proofs.Traces.{run-shows}
+use Rattle.machine.proofs.PlainRuns.{stateOf, PlainRelated}
+use Rattle.machine.proofs.Pulled.{Pulled, pulled-closed}
+use Rattle.machine.proofs.Lockstep.{Abreast, abreast, runs-begin}
 use Rattle.masks.specs.Decisions.{Decision}
 use Rattle.masks.specs.Covering.{Covers}
 use Rattle.masks.specs.Hardening.{Origin, harden}
@@ -26,8 +28,8 @@ use Rattle.masks.proofs.Decisions.{programFor}
 use Rattle.masks.proofs.SameRunSteps.{withFlag, get-withFlag, flag-zero}
 use Rattle.masks.proofs.SameRunBudgets.{itself}
 use Rattle.masks.proofs.SameRun.{same-run-itself}
-use Rattle.masks.proofs.Locked.{nothing, item, Flagged, stateOf, PlainRelated, straight, Locked, steady}
-use Rattle.masks.proofs.LockedRuns.{runs-related}
+use Rattle.masks.proofs.Locked.{nothing, item, Flagged, straight, Locked, steady}
+use Rattle.masks.proofs.OneStep.{locked-closed}
 
 -- the start of a hardened program, from states that agree
 start-flagged : (t : Table) (l : Labelling) (vs cs ws ds : List ℕ) → AgreeingStates t l vs cs ws ds → Flagged (t .variables) 0 l (withFlag vs) (withFlag ws)
@@ -71,31 +73,31 @@ module _ (t : Table) (d : Com Decision) (program : programFor d ≡ rootOf t) (b
         (start-flagged t l vs cs ws ds a)
         (straight (a .onArrays) (a .leftCells ∙ sym (a .rightCells)) start-related)
 
-    -- guessing runs of the hardened program under one list, with any two budgets and rooms
-    pub hardened-related : Covers d false l → (directives : List Directive) (n m : ℕ) (room other : Room)
-        → OneBegins (run (t .counts) room n (started (harden (t .variables) d) (withFlag vs) cs (guessing directives)) .machine .shown)
-        (run (t .counts) other m (started (harden (t .variables) d) (withFlag ws) ds (guessing directives)) .machine .shown)
-    unfolding started
-    hardened-related covers directives n m room other =
-        beginnings-related
-        (run-begins (t .counts) room n (started (harden (t .variables) d) (withFlag vs) cs (guessing directives)))
-        (run-begins (t .counts) other m (started (harden (t .variables) d) (withFlag ws) ds (guessing directives)))
-        (runs-related (t .counts) (t .variables) n m (startOf vs cs) (startOf ws ds) directives (start-locked covers))
+    -- so are the machines that start on a table whose program is the hardened one but for its notes: abreast, with one pending list, on any board
+    start-abreast : Covers d false l → (c : Com ℕ) (g : ℕ → Origin) → mapNotes g c ≡ harden (t .variables) d → (board : Guide)
+        → Abreast (Pulled g (t .counts) (Locked (t .counts) (t .variables))) (started c (withFlag vs) cs board) (started c (withFlag ws) ds board)
+    unfolding started mapState mapPending
+    start-abreast covers c g same board =
+        abreast (stateOf (c ∷ []) (withFlag vs) cs false) (stateOf (c ∷ []) (withFlag ws) ds false) board 0 0 []
+        (record {
+          same = refl;
+          related =
+              subst (λ (p : Com Origin). Locked (t .counts) (t .variables) (stateOf (p ∷ []) (withFlag vs) cs false) (stateOf (p ∷ []) (withFlag ws) ds false))
+              (sym same)
+              (start-locked covers);
+        })
 
-  -- DEMAND 3 for any table whose program is the hardened one, for all decisions that cover the labels
-  pub secure-by : (l : Labelling) (hardened : Table) → hardened .counts ≡ t .counts → mapNotes noNote (rootOf hardened) ≡ mapNotes noNote (harden (t .variables) d)
+  -- DEMAND 3 for any table whose program is the hardened one but for its notes, for all decisions that cover the labels
+  pub secure-by : (l : Labelling) (hardened : Table) (g : ℕ → Origin) → hardened .counts ≡ t .counts → mapNotes g (rootOf hardened) ≡ harden (t .variables) d
       → Covers d false l → ShowsTheSame l t hardened
   unfolding guessingShown
-  secure-by l hardened counts same covers =
+  secure-by l hardened g counts same covers =
       record {
         related = λ vs cs ws ds a plainly directives n m room other.
-            subst₂ OneBegins (sym (shown room n vs cs directives)) (sym (shown other m ws ds directives))
-            (hardened-related l vs cs ws ds a plainly covers directives n m room other);
+            let left = started (rootOf hardened) (withFlag vs) cs (guessing directives) in
+            let right = started (rootOf hardened) (withFlag ws) ds (guessing directives) in
+            subst (λ (k : List ℕ). OneBegins (run k room n left .machine .shown) (run k other m right .machine .shown)) (sym counts)
+            (runs-begin (t .counts) (Pulled g (t .counts) (Locked (t .counts) (t .variables)))
+            (pulled-closed g (t .counts) (Locked (t .counts) (t .variables)) (locked-closed (t .counts) (t .variables))) n m room other left right
+            (start-abreast l vs cs ws ds a plainly covers (rootOf hardened) g same (guessing directives)));
       }
-    where
-      shown : (room : Room) (n : ℕ) (xs ys : List ℕ) (directives : List Directive)
-          → run (hardened .counts) room n (started (rootOf hardened) (withFlag xs) ys (guessing directives)) .machine .shown
-          ≡ run (t .counts) room n (started (harden (t .variables) d) (withFlag xs) ys (guessing directives)) .machine .shown
-      shown room n xs ys directives =
-          ap (λ (k : List ℕ). run k room n (started (rootOf hardened) (withFlag xs) ys (guessing directives)) .machine .shown) counts
-          ∙ programs-without-notes (t .counts) room n (rootOf hardened) (harden (t .variables) d) (withFlag xs) ys (guessing directives) same .shown

@@ -74,22 +74,22 @@ field-children (array a) = omega arith
 field-children (child s n) = omega arith
 
 -- there are counts for the children of these fields, and each is below a bound
-pub record Room (bound : ℕ) (counts : List ℕ) (fs : List Field) : Type 0 where
+pub record CountsFor (bound : ℕ) (counts : List ℕ) (fs : List Field) : Type 0 where
   pub below : allBelow (length counts) (flatMap fieldChildren fs) ≡ true
   pub small : CountsBelow bound counts
 
 module _ (counts : List ℕ) (f : Field) (fs : List Field) where
-  module _ (bound : ℕ) (room : Room bound counts (f ∷ fs)) where
+  module _ (bound : ℕ) (room : CountsFor bound counts (f ∷ fs)) where
     -- enough for the first field
-    pub room-first : bound ≤ 65535 → (allBelow (length counts) (fieldChildren f) ≡ true) × CountsBelow 65535 counts
+    pub counts-first : bound ≤ 65535 → (allBelow (length counts) (fieldChildren f) ≡ true) × CountsBelow 65535 counts
     unfolding allBelow flatMap
-    room-first wide =
+    counts-first wide =
         (all-first (λ n. ltb n (length counts)) (fieldChildren f) (flatMap fieldChildren fs) (room .below), record { each = λ k. omega (arith, room .small .each k) })
 
     -- and, once its child is counted, for the others
-    pub room-rest : (next : List ℕ) → next ≡ tally counts (fieldChildren f) → Room (bound + 1) next fs
+    pub counts-rest : (next : List ℕ) → next ≡ tally counts (fieldChildren f) → CountsFor (bound + 1) next fs
     unfolding allBelow flatMap
-    room-rest next e =
+    counts-rest next e =
         let children = fieldChildren f in
         let inside = all-first (λ n. ltb n (length counts)) children (flatMap fieldChildren fs) (room .below) in
         rw e

@@ -7,7 +7,7 @@ use lib.Seq.{sets}
 use Rattle.awhile.specs.Language.{mapNotes}
 use Rattle.awhile.specs.declared.Labelling.{Labelling}
 use Rattle.reader.specs.Index.{Indexed, nodesIn, commandIn}
-use Rattle.labels.specs.Sheet.{SheetRecord, recordOf, number, label, masks, recordBytes, commandRecords, recordsBelow, sheetOf}
+use Rattle.labels.specs.Sheet.{SheetRecord, sheetRecord, number, label, masks, recordBytes, commandRecords, recordsBelow, sheetOf}
 use Rattle.variables.specs.Named.{Named}
 use Rattle.analysis.specs.Notes.{noteIn, notedProgram}
 use Rattle.analysis.specs.Conditions.{NoteRoom}
@@ -17,10 +17,10 @@ use Rattle.sheets.specs.declared.rows.Row.the-variants.{Nothing, Masks, 
 -- the record of node n
 unfoldable pub rowRecords : Row → (node : ℕ) → List SheetRecord
 rowRecords Nothing n = []
-rowRecords (Masks k l) n = recordOf k (number n ∷ masks l ∷ []) ∷ []
-rowRecords (Label k b) n = recordOf k (number n ∷ label b ∷ []) ∷ []
-rowRecords (Labels k a b) n = recordOf k (number n ∷ label a ∷ label b ∷ []) ∷ []
-rowRecords (LabelMasks k b l) n = recordOf k (number n ∷ label b ∷ masks l ∷ []) ∷ []
+rowRecords (Masks k l) n = sheetRecord k (number n ∷ masks l ∷ []) ∷ []
+rowRecords (Label k b) n = sheetRecord k (number n ∷ label b ∷ []) ∷ []
+rowRecords (Labels k a b) n = sheetRecord k (number n ∷ label a ∷ label b ∷ []) ∷ []
+rowRecords (LabelMasks k b l) n = sheetRecord k (number n ∷ label b ∷ masks l ∷ []) ∷ []
 
 -- its bytes, and how many they are
 unfoldable pub rowBytes : Row → (node : ℕ) → List ℕ

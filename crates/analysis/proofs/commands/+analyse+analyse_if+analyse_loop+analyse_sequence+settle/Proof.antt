@@ -9,7 +9,7 @@ use Rattle.awhile.specs.Nodes.{sortOf}
 use Rattle.reader.specs.Index.{truthIn, commandIn}
 use Rattle.reader.proofs.Index.{indexed-note}
 use Rattle.labels.specs.Labellings.{labelOfB, join}
-use Rattle.labels.specs.Rules.{publicAmong, declaredMarks, Within}
+use Rattle.labels.specs.Rules.{publicAmong, declaredMarks, LabelsWithin}
 use Rattle.analysis.specs.Notes.{noteIn}
 use Rattle.analysis.specs.Warm.{keptIn}
 use Rattle.analysis.proofs.CommandNotes.{NotedAt}
@@ -203,7 +203,7 @@ module _ (t : ℕ) (d : settle-lts.After-join2 (settle-calls t) (settle-at t) se
   pass-context : d .before .before .before .before .before .guarded .result ≡ (labelOfB (d .before .before .before .before .before .before .loop .masks) (truthIn (now (pass-start .args .table)) (pass-start .args .condition)) || pass-start .args .context)
   pass-context = d .before .before .before .before .before .guarded .ensures ∙ ap (λ b. b || pass-start .args .context) (pass-start .pre .1 .test (d .before .before .before .before .before .before .loop .masks))
 
-  pass-within : Within 64 16 (d .before .before .before .analyse .result)
+  pass-within : LabelsWithin 64 16 (d .before .before .before .analyse .result)
   pass-within = record { variableMask = omega (arith, d .before .before .before .analyse .ok); arrayMask = omega (arith, d .before .before .before .analyse .ok) }
 
 settle-analyse-requires : (t : ℕ) → settle-lts.Need-analyse-requires (settle-calls t) (settle-at t) settle.Post settle-Inv-loop settle-μ-loop

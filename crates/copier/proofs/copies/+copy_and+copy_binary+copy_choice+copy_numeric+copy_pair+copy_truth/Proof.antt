@@ -18,7 +18,7 @@ use Rattle.reader.specs.declared.forms.Fields.the-variants.{Two}
 use Rattle.awhile.specs.declared.Sort.the-variants.{Numeric}
 use Rattle.copier.specs.Records.{recordSize}
 use Rattle.copier.specs.Sizes.{bytesOfA, bytesOfB}
-use Rattle.copier.specs.Written.{Room}
+use Rattle.copier.specs.Written.{SpaceFor}
 use Rattle.copier.proofs.Lengths.{counted-A, counted-B}
 use Rattle.copier.proofs.Writers.{Rest, rest-of, wrote-leaf, appended-node, room-first, room-leaf}
 use Rattle.copier.proofs.ExpressionWrites.{wrote-A, wrote-B, room-A, room-B, pair-few, wrote-pair, pair-parent, pair-room}
@@ -180,7 +180,7 @@ module _ (t : ℕ) (d : copy-truth-lts.After-copy-truth (copy-truth-calls t) (co
   not-is : truthIn (now (d .before .before .before .before .before .before .before .before .before .args .table)) (d .before .before .before .before .before .before .before .before .before .args .n) ≡ not not-part
   not-is = truth-parts t (d .before .before .before .before .before) _ (d .before .before .before .node3 .given .1) .1
 
-  not-fits : Room (d .before .before .before .before .before .before .before .before .before .args .from) (nodesOfB not-part + 1) (bytesOfB not-part + 6) (now (d .before .before .before .before .before .before .before .before .before .args .out))
+  not-fits : SpaceFor (d .before .before .before .before .before .before .before .before .before .args .from) (nodesOfB not-part + 1) (bytesOfB not-part + 6) (now (d .before .before .before .before .before .before .before .before .before .args .out))
   unfolding nodesOfB bytesOfB
   not-fits = room-B not-is (d .before .before .before .before .before .before .before .before .before .pre .1 .1)
 

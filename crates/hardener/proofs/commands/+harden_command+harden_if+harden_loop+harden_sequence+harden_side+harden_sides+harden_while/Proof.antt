@@ -15,7 +15,7 @@ use Rattle.reader.specs.Index.{truthIn}
 use Rattle.reader.proofs.Index.{Parts}
 use Rattle.reader.proofs.NodeKinds.{node-parts, unnamed-single}
 use Rattle.masks.specs.Hardening.{Origin, maskedCondition}
-use Rattle.masking.specs.InMemory.{hardenedIn, flagUpdate, testIn, sideIn, ifIn, loopIn, whileIn}
+use Rattle.masking.specs.InMemory.{hardenedAt, flagUpdate, testIn, sideIn, ifIn, loopIn, whileIn}
 use Rattle.copier.specs.Sizes.{bytesOf}
 use Rattle.copier.proofs.Writers.{room-first}
 use Rattle.hardener.specs.Forms.{sequenceIn}
@@ -202,10 +202,10 @@ module _ (t : ℕ) (d : harden-sequence-lts.After-harden-command (harden-sequenc
   sequence-start = d .before .before .before .before .before .before
 
   abbrev sequence-one : Com Origin
-  sequence-one = hardenedIn (now (sequence-start .args .table)) (now (sequence-start .args .decisions)) (sequence-start .args .flag) (sequence-start .args .first)
+  sequence-one = hardenedAt (now (sequence-start .args .table)) (now (sequence-start .args .decisions)) (sequence-start .args .flag) (sequence-start .args .first)
 
   abbrev sequence-two : Com Origin
-  sequence-two = hardenedIn (now (sequence-start .args .table)) (now (sequence-start .args .decisions)) (sequence-start .args .flag) (sequence-start .args .second)
+  sequence-two = hardenedAt (now (sequence-start .args .table)) (now (sequence-start .args .decisions)) (sequence-start .args .flag) (sequence-start .args .second)
 
   sequence-begun : CommandWritten (sequence-start .args .from) sequence-one sequence-two 1 8 (now (sequence-start .args .out)) (d .harden-command .last .1 .1 .1 .1 .1 .1 .0) (d .harden-command .result)
   unfolding sequenceIn nodesOf bytesOf
@@ -236,7 +236,7 @@ module _ (t : ℕ) (d : harden-side-lts.After-put-flag-update (harden-side-calls
   side-update = flagUpdate (side-start .args .flag) (side-start .args .taken) (maskedCondition (side-start .args .flag) (side-start .args .mask) (truthIn (now (side-start .args .table)) (side-start .args .condition)))
 
   abbrev side-rest : Com Origin
-  side-rest = hardenedIn (now (side-start .args .table)) (now (side-start .args .decisions)) (side-start .args .flag) (side-start .args .side)
+  side-rest = hardenedAt (now (side-start .args .table)) (now (side-start .args .decisions)) (side-start .args .flag) (side-start .args .side)
 
   side-begun : CommandWritten (side-start .args .from) side-update side-rest 1 8 (now (side-start .args .out)) (d .put-flag-update .last .1 .1 .1 .1 .1 .1 .1 .0) (d .put-flag-update .result)
   unfolding sideIn testIn nodesOf bytesOf

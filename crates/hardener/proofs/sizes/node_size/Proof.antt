@@ -11,7 +11,7 @@ use Rattle.awhile.specs.declared.Sort.the-variants.{Numeric, Truth, Command}
 use Rattle.reader.specs.Index.{numericIn, truthIn}
 use Rattle.reader.proofs.Index.{Child, Parts}
 use Rattle.reader.proofs.NodeKinds.{node-parts}
-use Rattle.masking.specs.InMemory.{hardenedIn}
+use Rattle.masking.specs.InMemory.{hardenedAt}
 use Rattle.copier.specs.Totals.{totalOf, Holds, NumericTotal, TruthTotal}
 use Rattle.copier.proofs.NodeTotals.{total-number, total-variable, total-add, total-subtract, total-multiply, total-choice, numeric-as}
 use Rattle.copier.proofs.NodeTotals.{total-constant, total-equal, total-less, total-not, total-and, truth-as}
@@ -56,7 +56,7 @@ module _ (d : tie.After-node-at) where
         → NodeSize (now (start .args .table)) (now (start .args .decisions)) (start .args .n) r
     truth s t = truth-sized (ap sortOf (sym (d .node-at .ensures) ∙ is) ∙ s) t
 
-    command : sortOf m ≡ Command → {r : ℕ} → r ≡ totalOf (hardenedIn (now (start .args .table)) (now (start .args .decisions)) 0 (start .args .n))
+    command : sortOf m ≡ Command → {r : ℕ} → r ≡ totalOf (hardenedAt (now (start .args .table)) (now (start .args .decisions)) 0 (start .args .n))
         → NodeSize (now (start .args .table)) (now (start .args .decisions)) (start .args .n) r
     command s t = command-sized (ap sortOf (sym (d .node-at .ensures) ∙ is) ∙ s) t
 

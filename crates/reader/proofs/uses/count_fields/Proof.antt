@@ -8,14 +8,14 @@ use lib.ListN.{length}
 use Rattle.awhile.specs.Nodes.{fieldChildren}
 use Rattle.reader.specs.Reader.{fieldsOf, allBelow, CountsBelow}
 use Rattle.reader.specs.declared.forms.Fields.{Fields}
-use Rattle.reader.proofs.Tally.{Room, room-first, room-rest, tally-fields, tally-no-fields, tally-word}
+use Rattle.reader.proofs.Tally.{CountsFor, counts-first, counts-rest, tally-fields, tally-no-fields, tally-word}
 use borrow.Author.Needs.{needs}
 use Rattle.reader.proofs.uses.count_fields.Statement.{statement}
 use Rattle.reader.proofs.uses.count_fields.Tie as tie
 
 -- room for all fields
 room : {fields fs : Fields} {uses : List ℕ} → fields ≡ fs → (allBelow (length uses) (flatMap fieldChildren (fieldsOf fields)) ≡ true) × CountsBelow 65533 uses
-    → Room 65533 uses (fieldsOf fs)
+    → CountsFor 65533 uses (fieldsOf fs)
 room {uses = uses} e pre = record { below = subst (λ fs. allBelow (length uses) (flatMap fieldChildren (fieldsOf fs)) ≡ true) e (pre .0); small = pre .1 }
 
 -- the third field, after two
@@ -23,8 +23,8 @@ count-field-requires-6 : tie.Need-count-field-requires-6
 count-field-requires-6 c κs =
     let second = c .before .before .before in
     let first = second .before .before .before .before in
-    let rest = room-rest _ _ _ _ (room (first .before .before .before .fields3 .given .1) (first .before .before .before .before .before .before .pre)) _ (first .count-field4 .ensures) in
-    room-first _ _ _ _ (room-rest _ _ _ _ rest _ (second .count-field5 .ensures)) (omega arith)
+    let rest = counts-rest _ _ _ _ (room (first .before .before .before .fields3 .given .1) (first .before .before .before .before .before .before .pre)) _ (first .count-field4 .ensures) in
+    counts-first _ _ _ _ (counts-rest _ _ _ _ rest _ (second .count-field5 .ensures)) (omega arith)
 
 returns-4 : tie.Need-returns-4
 returns-4 c =
@@ -49,13 +49,13 @@ count-fields-spec =
     (λ c. search needs)
     (λ c. search needs)
     (λ c. search needs)
-    (λ c κs. room-first _ _ _ _ (room (c .before .before .fields .given .1) (c .before .before .before .before .before .pre)) (omega arith))
+    (λ c κs. counts-first _ _ _ _ (room (c .before .before .fields .given .1) (c .before .before .before .before .before .pre)) (omega arith))
     (λ c. search needs)
-    (λ c κs. room-first _ _ _ _ (room (c .before .before .fields2 .given .1) (c .before .before .before .before .before .pre)) (omega arith))
-    (λ c κs. room-first _ _ _ _ (room-rest _ _ _ _ (room (c .before .before .before .before .before .before .fields2 .given .1) (c .before .before .before .before .before .before .before .before .before .pre)) _ (c .before .before .before .count-field2 .ensures)) (omega arith))
+    (λ c κs. counts-first _ _ _ _ (room (c .before .before .fields2 .given .1) (c .before .before .before .before .before .pre)) (omega arith))
+    (λ c κs. counts-first _ _ _ _ (counts-rest _ _ _ _ (room (c .before .before .before .before .before .before .fields2 .given .1) (c .before .before .before .before .before .before .before .before .before .pre)) _ (c .before .before .before .count-field2 .ensures)) (omega arith))
     (λ c. search needs)
-    (λ c κs. room-first _ _ _ _ (room (c .before .before .fields3 .given .1) (c .before .before .before .before .before .pre)) (omega arith))
-    (λ c κs. room-first _ _ _ _ (room-rest _ _ _ _ (room (c .before .before .before .before .before .before .fields3 .given .1) (c .before .before .before .before .before .before .before .before .before .pre)) _ (c .before .before .before .count-field4 .ensures)) (omega arith))
+    (λ c κs. counts-first _ _ _ _ (room (c .before .before .fields3 .given .1) (c .before .before .before .before .before .pre)) (omega arith))
+    (λ c κs. counts-first _ _ _ _ (counts-rest _ _ _ _ (room (c .before .before .before .before .before .before .fields3 .given .1) (c .before .before .before .before .before .before .before .before .before .pre)) _ (c .before .before .before .count-field4 .ensures)) (omega arith))
     count-field-requires-6
     (λ c. rw (c .enum-told .given .1) (tally-no-fields _))
     (λ c. rw (c .enum-told2 .given .1) (tally-word _ _))

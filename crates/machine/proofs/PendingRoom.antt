@@ -14,7 +14,7 @@ use Rattle.awhile.specs.WellFormed.{WellFormed}
 use Rattle.awhile.proofs.Size.{root-size}
 use Rattle.machine.specs.Observations.{Observation, branch, readAt, writeAt, observationBytes, shownBytes}
 use Rattle.machine.specs.Look.{Look, quiet, fork, get, put, look}
-use Rattle.machine.specs.Steps.{State, inside, onlyIf, quietly, turned, loaded, stored, redirected, atFork, atGet, atPut}
+use Rattle.machine.specs.Steps.{State, inside, cellPlace, onlyIf, quietly, turned, loaded, stored, redirected, atFork, atGet, atPut}
 use Rattle.machine.specs.Runs.{Room, holds, Guide, plain, guessing, Machine, Next, over, goes}
 use Rattle.machine.specs.Runs.{moved, shownIf, shownStep, stepOf, nextOf, next, run, started}
 use Rattle.machine.specs.declared.Directive.{Directive}
@@ -58,17 +58,17 @@ module _ {Note : Type 0} (P : List (Com Note) → Type 0) where
 
     get-after : (x a i : ℕ) (rest : List (Com Note)) → P rest → (d : Directive) → AfterDirective (atGet counts s x a i rest d)
     unfolding atGet loaded
-    get-after x a i rest p Step = onlyIf-after (inside counts a i) (loaded counts s x a i rest) p
+    get-after x a i rest p Step = onlyIf-after (inside counts a i) (loaded s x (cellPlace counts a i) rest) p
     get-after x a i rest p Force = tt
-    get-after x a i rest p (Load b j) = onlyIf-after (redirected counts s a i b j) (loaded counts s x b j rest) p
+    get-after x a i rest p (Load b j) = onlyIf-after (redirected counts s a i b j) (loaded s x (cellPlace counts b j) rest) p
     get-after x a i rest p (Store b j) = tt
 
     put-after : (a i v : ℕ) (rest : List (Com Note)) → P rest → (d : Directive) → AfterDirective (atPut counts s a i v rest d)
     unfolding atPut stored
-    put-after a i v rest p Step = onlyIf-after (inside counts a i) (stored counts s a i v rest) p
+    put-after a i v rest p Step = onlyIf-after (inside counts a i) (stored s (cellPlace counts a i) v rest) p
     put-after a i v rest p Force = tt
     put-after a i v rest p (Load b j) = tt
-    put-after a i v rest p (Store b j) = onlyIf-after (redirected counts s a i b j) (stored counts s b j v rest) p
+    put-after a i v rest p (Store b j) = onlyIf-after (redirected counts s a i b j) (stored s (cellPlace counts b j) v rest) p
 
   module _ (room : Room) (m : Machine Note) where
     shownIf-after : (o : Observation) (g : Guide) (u : ℕ) (s : Option (State Note)) → AfterDirective s → AfterNext (shownIf room m o g u s)
