@@ -22,12 +22,12 @@ use Rattle.reader.specs.declared.Read.the-variants.{Refused as RefusedRead}
 use Rattle.awhile.specs.declared.Refusal.{Refusal}
 use Rattle.awhile.specs.declared.Refusal.the-variants.{BadDirectives, WrongVariables, WrongCells, ShortPending}
 use Rattle.machine.specs.Directives.{readDirectives, directivesIn}
-use Rattle.interpreter.specs.Listed.{isSome}
+use Rattle.directives.specs.Listed.{isSome}
 use Rattle.machine.specs.Runs.{endNumber}
 use Rattle.machine.specs.Memory.{runNumbers}
 use Rattle.interpreter.specs.Evaluation.{variablesIn}
 use Rattle.interpreter.specs.Stepping.{cellsIn}
-use Rattle.interpreter.specs.Guiding.{orNone, directivesFrom, guideOf}
+use Rattle.directives.specs.Guiding.{orNone, directivesFrom, guideOf}
 use Rattle.interpreter.specs.Running.{runOf, reportOf, RunAsked, RunLeaves}
 use Rattle.interpreter.specs.declared.run.Report.{Report}
 use Rattle.entries.specs.Answers.{answered, refusalNumbers}

@@ -9,9 +9,9 @@ use Rattle.reader.specs.Index.{tableOf}
 use Rattle.awhile.specs.declared.Refusal.{Refusal}
 use Rattle.awhile.specs.declared.Refusal.the-variants.{BadDirectives}
 use Rattle.machine.specs.Directives.{readDirectives}
-use Rattle.interpreter.specs.Listed.{isSome}
+use Rattle.directives.specs.Listed.{isSome}
 use Rattle.machine.specs.Runs.{endNumber}
-use Rattle.interpreter.specs.Guiding.{guideOf}
+use Rattle.directives.specs.Guiding.{guideOf}
 use Rattle.interpreter.specs.Running.{reportOf}
 use Rattle.interpreter.specs.declared.run.Report.{Report}
 use Rattle.entries.specs.Answers.{refusalNumbers}

@@ -4,7 +4,7 @@ use answers::slice::answer_run;
 use awhile::Declarations;
 use awhile::MAX_NODES;
 use awhile::Refusal;
-use interpreter::directives::reads;
+use directives::list::reads;
 use interpreter::run::Report;
 use interpreter::run::run;
 use machine::End;

@@ -10,9 +10,9 @@ use Rattle.awhile.specs.declared.Node.the-variants.{Assign as AssignNode}
 use Rattle.machine.specs.Look.{look}
 use Rattle.interpreter.specs.Evaluation.{valueIn, truthIn}
 use Rattle.interpreter.specs.Actions.{backOn, quietLook, shownLook, lookOf, CommandAt, Looked}
-use Rattle.interpreter.specs.declared.action.Back.the-variants.{Nothing, One, Two}
-use Rattle.interpreter.specs.declared.action.Change.the-variants.{PutBack, Assign}
-use Rattle.interpreter.specs.declared.action.Shown.the-variants.{Fork, Get, Put}
+use Rattle.directives.specs.declared.change.Back.the-variants.{Nothing, One, Two}
+use Rattle.directives.specs.declared.change.Change.the-variants.{PutBack, Assign}
+use Rattle.directives.specs.declared.change.Shown.the-variants.{Fork, Get, Put}
 use Rattle.interpreter.specs.declared.action.Action.{Action}
 use Rattle.interpreter.specs.declared.action.Action.the-variants.{Quiet, Show}
 

@@ -8,10 +8,10 @@ use Rattle.bytes_le.specs.Numbers.{le}
 use Rattle.bytes_le.proofs.Numbers.{length-le}
 use Rattle.bytes_le.proofs.Stores.{sets-append}
 use Rattle.interpreter.specs.Effects.{pushed, variablesAfter, cellsAfter, pendingBytes, Performed}
-use Rattle.interpreter.specs.declared.action.Back.{Back}
-use Rattle.interpreter.specs.declared.action.Back.the-variants.{Two}
-use Rattle.interpreter.specs.declared.action.Change.{Change}
-use Rattle.interpreter.specs.declared.action.Change.the-variants.{PutBack, Assign, Store}
+use Rattle.directives.specs.declared.change.Back.{Back}
+use Rattle.directives.specs.declared.change.Back.the-variants.{Two}
+use Rattle.directives.specs.declared.change.Change.{Change}
+use Rattle.directives.specs.declared.change.Change.the-variants.{PutBack, Assign, Store}
 
 -- a number stored, then what follows behind it
 pub stored-then : (width n : ℕ) (more l m : List ℕ) (at next : ℕ) → at + width ≡ next → m ≡ sets l at (le width n) → sets m next more ≡ sets l at (le width n ++ more)

@@ -1,9 +1,5 @@
 -- Laws for evaluation and runs over a table in memory.
 pub mod Words
-pub mod DirectiveLists
-pub mod Counts
-pub mod CellPlaces
-pub mod Guides
 pub mod ShownSteps
 pub mod NextSteps
 pub mod Effects

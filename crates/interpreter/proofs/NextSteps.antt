@@ -17,19 +17,19 @@ use Rattle.machine.specs.Steps.{quietly}
 use Rattle.machine.specs.Runs.{bytes, holds, Machine, over, goes, moved, shownIf, shownStep, stepOf, nextOf, next, endWithout, run}
 use Rattle.interpreter.specs.Evaluation.{variablesIn}
 use Rattle.interpreter.specs.Actions.{changed, observationOf, quietLook, lookOf, QuietFits, Looked}
-use Rattle.interpreter.specs.Fitting.{fitOf}
-use Rattle.interpreter.specs.Guiding.{Readable, guideOf, GoesBy, RunsOut}
+use Rattle.directives.specs.Fitting.{fitOf}
+use Rattle.directives.specs.Guiding.{Readable, guideOf, GoesBy, RunsOut}
 use Rattle.interpreter.specs.Stepping.{steppedState, pendingOf, cellsIn, machineOf, bytesOf, seenList, ChangeFits, steppedTo, Ends, Advances}
 use Rattle.machine.specs.declared.Directive.{Directive}
 use Rattle.machine.specs.declared.End.{End}
 use Rattle.machine.specs.declared.End.the-variants.{Finished, Spent, OutOfDirectives, Stuck, Full}
-use Rattle.interpreter.specs.declared.action.Change.{Change}
-use Rattle.interpreter.specs.declared.action.Change.the-variants.{PutBack, Assign, Store}
-use Rattle.interpreter.specs.declared.action.Shown.{Shown}
-use Rattle.interpreter.specs.declared.action.Shown.the-variants.{Fork, Get, Put}
+use Rattle.directives.specs.declared.change.Change.{Change}
+use Rattle.directives.specs.declared.change.Change.the-variants.{PutBack, Assign, Store}
+use Rattle.directives.specs.declared.change.Shown.{Shown}
+use Rattle.directives.specs.declared.change.Shown.the-variants.{Fork, Get, Put}
 use Rattle.interpreter.specs.declared.action.Action.the-variants.{Quiet, Show}
-use Rattle.interpreter.specs.declared.fit.Fit.{Fit}
-use Rattle.interpreter.specs.declared.fit.Fit.the-variants.{Goes, Unfit}
+use Rattle.directives.specs.declared.fit.Fit.{Fit}
+use Rattle.directives.specs.declared.fit.Fit.the-variants.{Goes, Unfit}
 use Rattle.interpreter.specs.declared.state.MachineState.{MachineState}
 use Rattle.interpreter.specs.declared.step.Seen.the-variants.{Nothing, Observed}
 use Rattle.machine.proofs.Runs.{run-over, run-nothing}

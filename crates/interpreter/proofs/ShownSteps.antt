@@ -13,22 +13,22 @@ use Rattle.reader.specs.Index.{tableOf}
 use Rattle.machine.specs.Steps.{State, inside, cellPlace, onlyIf, turned, loaded, stored, redirected, atFork, atGet, atPut}
 use Rattle.machine.specs.Runs.{Room, Machine, stepOf, shownStep}
 use Rattle.interpreter.specs.Actions.{backOn, changed, observationOf, shownLook, BackFits, ShownFits}
-use Rattle.interpreter.specs.Fitting.{cellOf, loadTarget, storeTarget, namedUnless, cellFor, forkFit, loadFit, storeFit, fitOf}
+use Rattle.directives.specs.Fitting.{cellOf, loadTarget, storeTarget, namedUnless, cellFor, forkFit, loadFit, storeFit, fitOf}
 use Rattle.interpreter.specs.Stepping.{ChangeFits}
 use Rattle.interpreter.proofs.Words.{word-at}
-use Rattle.interpreter.proofs.Counts.{cell-within}
+use Rattle.directives.proofs.Counts.{cell-within}
 use Rattle.machine.specs.declared.Directive.{Directive}
 use Rattle.machine.specs.declared.Directive.the-variants.{Step, Force, Load, Store}
-use Rattle.interpreter.specs.declared.action.Back.{Back}
-use Rattle.interpreter.specs.declared.action.Change.the-variants.{PutBack, Assign}
-use Rattle.interpreter.specs.declared.action.Shown.{Shown}
-use Rattle.interpreter.specs.declared.action.Shown.the-variants.{Fork, Get, Put}
-use Rattle.interpreter.specs.declared.places.Cell.{Cell}
-use Rattle.interpreter.specs.declared.places.Cell.the-variants.{At, Missing}
-use Rattle.interpreter.specs.declared.fit.Target.{Target}
-use Rattle.interpreter.specs.declared.fit.Target.the-variants.{Own, Named, Neither}
-use Rattle.interpreter.specs.declared.fit.Fit.{Fit}
-use Rattle.interpreter.specs.declared.fit.Fit.the-variants.{Goes, Unfit}
+use Rattle.directives.specs.declared.change.Back.{Back}
+use Rattle.directives.specs.declared.change.Change.the-variants.{PutBack, Assign}
+use Rattle.directives.specs.declared.change.Shown.{Shown}
+use Rattle.directives.specs.declared.change.Shown.the-variants.{Fork, Get, Put}
+use Rattle.directives.specs.declared.places.Cell.{Cell}
+use Rattle.directives.specs.declared.places.Cell.the-variants.{At, Missing}
+use Rattle.directives.specs.declared.fit.Target.{Target}
+use Rattle.directives.specs.declared.fit.Target.the-variants.{Own, Named, Neither}
+use Rattle.directives.specs.declared.fit.Fit.{Fit}
+use Rattle.directives.specs.declared.fit.Fit.the-variants.{Goes, Unfit}
 
 -- the state after a shown step, by the directive
 abbrev pub afterShown : (counts table : List ℕ) → List (Com ℕ) → State ℕ → Shown → Directive → Option (State ℕ)

@@ -20,16 +20,17 @@ use Rattle.machine.specs.Observations.{Observation, observationBytes, shownByte
 use Rattle.machine.specs.Runs.{Outcome, bytes, Machine, run, started}
 use Rattle.machine.specs.Memory.{writtenOver}
 use Rattle.interpreter.specs.Evaluation.{variablesIn}
-use Rattle.interpreter.specs.Actions.{backOn, heightOf, changed, observationOf, BackFits}
-use Rattle.interpreter.specs.Guiding.{guideOf}
+use Rattle.interpreter.specs.Actions.{backOn, changed, observationOf, BackFits}
+use Rattle.directives.specs.Changes.{heightOf}
+use Rattle.directives.specs.Guiding.{guideOf}
 use Rattle.interpreter.specs.Stepping.{startState, pendingOf, cellsIn, machineOf, seenList, ChangeFits, steppedTo, Holds, Ends, Advances}
 use Rattle.interpreter.specs.Effects.{PushFits, pushed, PerformFits, variablesAfter, cellsAfter, pendingBytes, WordFits, Performed, seenBytes}
 use Rattle.interpreter.specs.Running.{runOf, Begun}
 use Rattle.machine.specs.declared.End.{End}
-use Rattle.interpreter.specs.declared.action.Back.{Back}
-use Rattle.interpreter.specs.declared.action.Back.the-variants.{Nothing, One, Two}
-use Rattle.interpreter.specs.declared.action.Change.{Change}
-use Rattle.interpreter.specs.declared.action.Change.the-variants.{PutBack, Assign, Store}
+use Rattle.directives.specs.declared.change.Back.{Back}
+use Rattle.directives.specs.declared.change.Back.the-variants.{Nothing, One, Two}
+use Rattle.directives.specs.declared.change.Change.{Change}
+use Rattle.directives.specs.declared.change.Change.the-variants.{PutBack, Assign, Store}
 use Rattle.interpreter.specs.declared.step.Seen.{Seen}
 use Rattle.interpreter.specs.declared.step.Seen.the-variants.{Observed}
 use Rattle.interpreter.specs.declared.step.Seen.the-variants.{Nothing as NothingSeen}

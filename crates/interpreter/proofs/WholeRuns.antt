@@ -17,7 +17,7 @@ use Rattle.reader.proofs.Index.{indexed-few, indexed-some, indexed-root-sort, i
 use Rattle.machine.specs.Observations.{shownBytes}
 use Rattle.interpreter.specs.Evaluation.{variablesIn}
 use Rattle.interpreter.specs.Actions.{CommandAt}
-use Rattle.interpreter.specs.Fitting.{Starts}
+use Rattle.directives.specs.Fitting.{Starts}
 use Rattle.interpreter.specs.Stepping.{startState, cellsIn, machineOf}
 use Rattle.interpreter.specs.Running.{runOf, Begun, StoppedAs, nextWord, reported, reportOf, RunAsked, RunLeaves}
 use Rattle.interpreter.specs.declared.run.Stopped.{Stopped}

@@ -1,5 +1,5 @@
 -- What the code says the next command does, and what that stands for: node numbers for commands, bytes for lists.
-use Prim.Native.Nat.{ℕ, _+_, _<_}
+use Prim.Native.Nat.{ℕ, _<_}
 use mathlib.Core.Bool.{Bool}
 use mathlib.Core.Path.{_≡_}
 use mathlib.Core.List.{List, _∷_}
@@ -12,12 +12,12 @@ use Rattle.machine.specs.Observations.{Observation, branch, readAt, writeAt}
 use Rattle.machine.specs.Look.{Look, quiet, fork, get, put, look}
 use Rattle.machine.specs.Steps.{State}
 use Rattle.interpreter.specs.Evaluation.{variablesIn}
-use Rattle.interpreter.specs.declared.action.Back.{Back}
-use Rattle.interpreter.specs.declared.action.Back.the-variants.{Nothing, One, Two}
-use Rattle.interpreter.specs.declared.action.Change.{Change}
-use Rattle.interpreter.specs.declared.action.Change.the-variants.{PutBack, Assign, Store}
-use Rattle.interpreter.specs.declared.action.Shown.{Shown}
-use Rattle.interpreter.specs.declared.action.Shown.the-variants.{Fork, Get, Put}
+use Rattle.directives.specs.declared.change.Back.{Back}
+use Rattle.directives.specs.declared.change.Back.the-variants.{Nothing, One, Two}
+use Rattle.directives.specs.declared.change.Change.{Change}
+use Rattle.directives.specs.declared.change.Change.the-variants.{PutBack, Assign, Store}
+use Rattle.directives.specs.declared.change.Shown.{Shown}
+use Rattle.directives.specs.declared.change.Shown.the-variants.{Fork, Get, Put}
 use Rattle.interpreter.specs.declared.action.Action.{Action}
 use Rattle.interpreter.specs.declared.action.Action.the-variants.{Quiet, Show}
 
@@ -26,13 +26,6 @@ unfoldable pub backOn : (table : List ℕ) → Back → List (Com ℕ) → List 
 backOn table Nothing rest = rest
 backOn table (One n) rest = commandIn table n ∷ rest
 backOn table (Two m n) rest = commandIn table n ∷ commandIn table m ∷ rest
-
-unfoldable pub heightOf : Change → (rest : ℕ) → ℕ
-heightOf (PutBack Nothing) rest = rest
-heightOf (PutBack (One n)) rest = rest + 1
-heightOf (PutBack (Two m n)) rest = rest + 2
-heightOf (Assign x v) rest = rest
-heightOf (Store p v) rest = rest
 
 -- a state after a change, with the flag as given
 unfoldable pub changed : (table : List ℕ) → Change → List (Com ℕ) → State ℕ → (flag : Bool) → State ℕ

@@ -6,11 +6,11 @@ use lib.Seq.{sets}
 use Rattle.bytes_le.specs.Numbers.{le}
 use Rattle.machine.specs.Observations.{observationBytes}
 use Rattle.interpreter.specs.Actions.{observationOf}
-use Rattle.interpreter.specs.declared.action.Back.{Back}
-use Rattle.interpreter.specs.declared.action.Back.the-variants.{One, Two}
-use Rattle.interpreter.specs.declared.action.Back.the-variants.{Nothing as NoBack}
-use Rattle.interpreter.specs.declared.action.Change.{Change}
-use Rattle.interpreter.specs.declared.action.Change.the-variants.{PutBack, Assign, Store}
+use Rattle.directives.specs.declared.change.Back.{Back}
+use Rattle.directives.specs.declared.change.Back.the-variants.{One, Two}
+use Rattle.directives.specs.declared.change.Back.the-variants.{Nothing as NoBack}
+use Rattle.directives.specs.declared.change.Change.{Change}
+use Rattle.directives.specs.declared.change.Change.the-variants.{PutBack, Assign, Store}
 use Rattle.interpreter.specs.declared.step.Seen.{Seen}
 use Rattle.interpreter.specs.declared.step.Seen.the-variants.{Nothing, Observed}
 

@@ -15,7 +15,7 @@ use Rattle.machine.specs.Observations.{Observation, shownBytes}
 use Rattle.machine.specs.Runs.{Outcome, bytes, run, started}
 use Rattle.machine.specs.Memory.{pendingAfter, writtenOver, nextNode}
 use Rattle.interpreter.specs.Evaluation.{variablesIn}
-use Rattle.interpreter.specs.Guiding.{Readable, guideOf}
+use Rattle.directives.specs.Guiding.{Readable, guideOf}
 use Rattle.interpreter.specs.Stepping.{startState, cellsIn, machineOf, Holds}
 use Rattle.interpreter.specs.Actions.{CommandAt}
 use Rattle.interpreter.specs.declared.run.Stopped.{Stopped}

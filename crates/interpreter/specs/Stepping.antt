@@ -11,14 +11,15 @@ use Rattle.reader.specs.Index.{Indexed, tableOf, nodesIn, commandIn}
 use Rattle.machine.specs.Observations.{Observation, shownBytes}
 use Rattle.machine.specs.Runs.{Machine, bytes, next, goes, run}
 use Rattle.interpreter.specs.Evaluation.{variablesIn}
-use Rattle.interpreter.specs.Actions.{heightOf, changed, observationOf, CommandAt, BackFits}
-use Rattle.interpreter.specs.Fitting.{Starts}
-use Rattle.interpreter.specs.Guiding.{Readable, guideOf}
+use Rattle.interpreter.specs.Actions.{changed, observationOf, CommandAt, BackFits}
+use Rattle.directives.specs.Changes.{heightOf}
+use Rattle.directives.specs.Fitting.{Starts}
+use Rattle.directives.specs.Guiding.{Readable, guideOf}
 use Rattle.machine.specs.declared.End.{End}
-use Rattle.interpreter.specs.declared.action.Change.{Change}
-use Rattle.interpreter.specs.declared.action.Change.the-variants.{PutBack, Assign, Store}
-use Rattle.interpreter.specs.declared.action.Shown.{Shown}
-use Rattle.interpreter.specs.declared.action.Shown.the-variants.{Fork, Get, Put}
+use Rattle.directives.specs.declared.change.Change.{Change}
+use Rattle.directives.specs.declared.change.Change.the-variants.{PutBack, Assign, Store}
+use Rattle.directives.specs.declared.change.Shown.{Shown}
+use Rattle.directives.specs.declared.change.Shown.the-variants.{Fork, Get, Put}
 use Rattle.interpreter.specs.declared.state.MachineState.{MachineState}
 use Rattle.interpreter.specs.declared.step.Seen.{Seen}
 use Rattle.interpreter.specs.declared.step.Seen.the-variants.{Nothing, Observed}

@@ -1,10 +1,10 @@
 // What a step does to the lent memory.
-use crate::action::Back;
-use crate::action::Change;
-use crate::action::Shown;
 use crate::step::Seen;
 use bytes_le::put::put16;
 use bytes_le::put::put32;
+use directives::change::Back;
+use directives::change::Change;
+use directives::change::Shown;
 ghost use Prim.Native.Nat.{_+_, _*_, _^_, _≤_, _<_};
 ghost use mathlib.Core.Bool.{cond};
 ghost use mathlib.Core.Path.{_≡_};

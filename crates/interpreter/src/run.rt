@@ -7,13 +7,13 @@ ghost use Rattle.bytes_le.specs.Numbers.{words};
 ghost use Rattle.interpreter.specs.Running.{Begun, StoppedAs, nextWord, reported, RunAsked, runOf, RunLeaves};
 use crate::memory::perform;
 use crate::memory::show;
-use crate::places::find_starts;
 use crate::state::MachineState;
 use crate::step::Next;
 use crate::step::next_step;
 use awhile::Header;
 use bytes_le::get::u32_at;
 use bytes_le::put::put32;
+use directives::places::find_starts;
 use machine::End;
 
 // Why a run is over, and the state in which its last step left it.

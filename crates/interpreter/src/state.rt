@@ -1,6 +1,6 @@
 // The machine between two steps, as far as it does not stand in lent memory.
-use crate::action::Change;
-use crate::action::height;
+use directives::change::Change;
+use directives::change::height;
 ghost use mathlib.Core.Path.{_≡_};
 ghost use Rattle.interpreter.specs.Stepping.{startState, Steppable, steppedState};
 

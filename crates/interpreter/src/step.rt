@@ -1,14 +1,14 @@
 // One step of a machine, decided before anything is changed: why it is not taken, or all that it does.
 use crate::action::Action;
-use crate::action::Change;
-use crate::action::Shown;
 use crate::action::look_at;
-use crate::fit::Fit;
-use crate::fit::fitting;
-use crate::guide::Guided;
-use crate::guide::guide;
 use crate::state::MachineState;
 use bytes_le::get::u32_at;
+use directives::change::Change;
+use directives::change::Shown;
+use directives::fit::Fit;
+use directives::fit::fitting;
+use directives::guide::Guided;
+use directives::guide::guide;
 use machine::End;
 ghost use mathlib.Core.Path.{_≡_};
 ghost use Rattle.interpreter.specs.Stepping.{bytesOf, Holds, NextAs};

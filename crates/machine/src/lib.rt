@@ -1,4 +1,4 @@
-// The plain and the guessing machine: the definitions and their theorems. The code is crate `interpreter`.
+// The plain and the guessing machine: the definitions and their theorems. The code is crates `directives` and `interpreter`.
 
 // What the attacker picks for one shown step.
 pub enum Directive {

@@ -9,7 +9,7 @@ use Rattle.bytes_le.proofs.Numbers.{Below, slice-bytes}
 use Rattle.interpreter.specs.Stepping.{Ends, Advances}
 use Rattle.interpreter.specs.Running.{runOf}
 use Rattle.machine.specs.declared.End.{End}
-use Rattle.interpreter.specs.declared.action.Change.{Change}
+use Rattle.directives.specs.declared.change.Change.{Change}
 use Rattle.interpreter.specs.declared.state.MachineState.{MachineState}
 use Rattle.interpreter.specs.declared.step.Seen.{Seen}
 use Rattle.interpreter.specs.declared.step.Next.the-variants.{Over, Goes}

@@ -1,10 +1,10 @@
 -- `next_step` is over for one of the five ends in their order, or takes the step that `next` takes.
 use Rattle.interpreter.proofs.NextSteps.{ends-finished, ends-spent, ends-out, ends-stuck, ends-full, advances-quietly, advances-showing}
 use Rattle.interpreter.specs.declared.action.Action.{Action}
-use Rattle.interpreter.specs.declared.guide.Guided.the-variants.{By}
+use Rattle.directives.specs.declared.guide.Guided.the-variants.{By}
 use Rattle.machine.specs.declared.Directive.{Directive}
 use Rattle.interpreter.specs.Stepping.{Steppable}
-use Rattle.interpreter.specs.Guiding.{GoesBy}
+use Rattle.directives.specs.Guiding.{GoesBy}
 use Rattle.interpreter.specs.Actions.{Looked}
 use Rattle.reader.proofs.Index.{indexed-few}
 use Rattle.reader.specs.Index.{tableOf}

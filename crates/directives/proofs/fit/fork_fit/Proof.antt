@@ -1,0 +1,21 @@
+-- `fork_fit` takes a branch as the program has it, or the other way with the flag set.
+use Rattle.directives.specs.Fitting.{forkFit}
+use borrow.Author.Needs.{needs}
+use Rattle.directives.proofs.fit.fork_fit.Statement.{statement}
+use Rattle.directives.proofs.fit.fork_fit.Tie as tie
+
+pub fork-fit-spec : {M : Type 1} → statement M
+unfolding forkFit
+fork-fit-spec =
+    tie.close
+    (tie.spec
+    (λ c. search needs)
+    (λ c κs. search needs)
+    (λ c. search needs)
+    (λ c κs. search needs)
+    (λ c. search needs)
+    (λ c. search needs)
+    (λ c. rw (c .before .enum-told .given .1, forkFit, c .side .ensures))
+    (λ c. rw (c .before .enum-told2 .given .1, forkFit, c .side2 .ensures))
+    (λ c. rw (c .enum-told3 .given .1, forkFit))
+    (λ c. rw (c .enum-told4 .given .1, forkFit)))

@@ -1,0 +1,73 @@
+-- Which cell a shown step uses under a directive and what it changes, as the code has it: cells by their places, words in bytes.
+use Prim.Native.Nat.{ℕ, _*_, _≤_}
+use mathlib.Core.Bool.{Bool, true, cond}
+use mathlib.Core.Path.{_≡_}
+use mathlib.Core.List.{List}
+use lib.ListN.{length, getD, take}
+use Rattle.bytes_le.specs.Numbers.{leAt}
+use Rattle.awhile.specs.Lists.{sum}
+use Rattle.machine.specs.Steps.{inside, cellPlace}
+use Rattle.machine.specs.declared.Directive.{Directive}
+use Rattle.machine.specs.declared.Directive.the-variants.{Step, Force, Load, Store}
+use Rattle.directives.specs.declared.change.Back.{Back}
+use Rattle.directives.specs.declared.change.Change.the-variants.{PutBack, Assign}
+use Rattle.directives.specs.declared.change.Change.the-variants.{Store as StoreInto}
+use Rattle.directives.specs.declared.change.Shown.{Shown}
+use Rattle.directives.specs.declared.change.Shown.the-variants.{Fork, Get, Put}
+use Rattle.directives.specs.declared.places.Cell.{Cell}
+use Rattle.directives.specs.declared.places.Cell.the-variants.{At, Missing}
+use Rattle.directives.specs.declared.fit.Target.{Target}
+use Rattle.directives.specs.declared.fit.Target.the-variants.{Own, Named, Neither}
+use Rattle.directives.specs.declared.fit.Fit.{Fit}
+use Rattle.directives.specs.declared.fit.Fit.the-variants.{Goes, Unfit}
+
+-- a list that says where each array's cells begin: entry a for array a, up to the end of the sixteenth array there could be
+pub record Starts (counts starts : List ℕ) : Type 0 where
+  pub few : length counts ≤ 16
+  pub begins : (a : ℕ) → a ≤ 16 → getD starts a 0 ≡ sum (take a counts)
+
+-- the cell of an array and an index, if it exists
+unfoldable pub cellOf : (counts : List ℕ) → (array index : ℕ) → Cell
+cellOf counts a i = cond (inside counts a i) (At (cellPlace counts a i)) Missing
+
+-- the cell that a directive asks a read or a write to use
+unfoldable pub loadTarget : Directive → Target
+loadTarget Step = Own
+loadTarget Force = Neither
+loadTarget (Load b j) = Named b j
+loadTarget (Store b j) = Neither
+
+unfoldable pub storeTarget : Directive → Target
+storeTarget Step = Own
+storeTarget Force = Neither
+storeTarget (Load b j) = Neither
+storeTarget (Store b j) = Named b j
+
+unfoldable pub namedUnless : (own named : Cell) → Cell
+namedUnless (At p) named = Missing
+namedUnless Missing named = named
+
+unfoldable pub cellFor : (counts : List ℕ) → (flag : Bool) → (array index : ℕ) → Target → Cell
+cellFor counts f a i Own = cellOf counts a i
+cellFor counts f a i (Named b j) = cond f (namedUnless (cellOf counts a i) (cellOf counts b j)) Missing
+cellFor counts f a i Neither = Missing
+
+-- what a branch, a read and a write change, and the flag after it
+unfoldable pub forkFit : (flag value : Bool) → (yes no : Back) → Directive → Fit
+forkFit f v y n Step = Goes (PutBack (cond v y n)) f
+forkFit f v y n Force = Goes (PutBack (cond v n y)) true
+forkFit f v y n (Load b j) = Unfit
+forkFit f v y n (Store b j) = Unfit
+
+unfoldable pub loadFit : (cells : List ℕ) → (variable : ℕ) → (flag : Bool) → Cell → Fit
+loadFit cells x f (At p) = Goes (Assign x (leAt 4 cells (4 * p))) f
+loadFit cells x f Missing = Unfit
+
+unfoldable pub storeFit : (value : ℕ) → (flag : Bool) → Cell → Fit
+storeFit v f (At p) = Goes (StoreInto p v) f
+storeFit v f Missing = Unfit
+
+unfoldable pub fitOf : (counts cells : List ℕ) → (flag : Bool) → Shown → Directive → Fit
+fitOf counts cells f (Fork v y n) d = forkFit f v y n d
+fitOf counts cells f (Get x a i) d = loadFit cells x f (cellFor counts f a i (loadTarget d))
+fitOf counts cells f (Put a i v) d = storeFit v f (cellFor counts f a i (storeTarget d))

@@ -1,0 +1,49 @@
+-- What guides a shown step, as the code has it: an offset in the bytes of a directive list.
+use Prim.Native.Nat.{ℕ, _+_, _≤_}
+use mathlib.Core.Bool.{Bool, true, cond}
+use mathlib.Core.Path.{_≡_}
+use mathlib.Core.Option.{Option, none, some}
+use mathlib.Core.List.{List, []}
+use lib.ListN.{length, drop}
+use Rattle.machine.specs.Observations.{Observation}
+use Rattle.machine.specs.Directives.{readDirectives}
+use Rattle.directives.specs.Listed.{isSome}
+use Rattle.machine.specs.Steps.{State}
+use Rattle.machine.specs.Runs.{Room, Guide, plain, guessing, Machine, over, shownIf, shownStep}
+use Rattle.machine.specs.declared.Directive.{Directive}
+use Rattle.machine.specs.declared.End.the-variants.{OutOfDirectives}
+use Rattle.directives.specs.declared.guide.Guided.{Guided}
+use Rattle.directives.specs.declared.guide.Guided.the-variants.{By, Out}
+
+-- an offset from which the list reads
+pub record Readable (list : List ℕ) (at : ℕ) : Type 0 where
+  pub within : at ≤ length list
+  pub reads : isSome (readDirectives (drop at list)) ≡ true
+
+-- the directives that are read, none where the bytes are refused
+unfoldable pub orNone : Option (List Directive) → List Directive
+orNone none = []
+orNone (some ds) = ds
+
+-- the directives that stand from an offset on, and the machine that they guide
+unfoldable pub directivesFrom : (list : List ℕ) → (at : ℕ) → List Directive
+directivesFrom list at = orNone (readDirectives (drop at list))
+
+unfoldable pub guideOf : (isGuessing : Bool) → (list : List ℕ) → (at : ℕ) → Guide
+guideOf isGuessing list at = cond isGuessing (guessing (directivesFrom list at)) plain
+
+-- a shown step goes by this directive, with so many bytes and directives used up after it
+pub record GoesBy (isGuessing : Bool) (list : List ℕ) (at : ℕ) (d : Directive) (size used : ℕ) : Type 0 where
+  pub step : (room : Room) (m : Machine ℕ) (o : Observation) (after : Directive → Option (State ℕ))
+      → shownStep room m o after (guideOf isGuessing list at) ≡ shownIf room m o (guideOf isGuessing list (at + size)) used (after d)
+  pub readable : Readable list (at + size)
+  pub few : used ≤ 1
+
+-- a shown step finds no directive
+pub record RunsOut (isGuessing : Bool) (list : List ℕ) (at : ℕ) : Type 0 where
+  pub step : (room : Room) (m : Machine ℕ) (o : Observation) (after : Directive → Option (State ℕ))
+      → shownStep room m o after (guideOf isGuessing list at) ≡ over OutOfDirectives
+
+abbrev pub GuidedAs : (isGuessing : Bool) → (list : List ℕ) → (at : ℕ) → Guided → Type 0
+GuidedAs isGuessing list at (By d size used) = GoesBy isGuessing list at d size used
+GuidedAs isGuessing list at Out = RunsOut isGuessing list at

@@ -1,0 +1,166 @@
+// Which directive fits a shown step, and what the step does under it.
+use crate::change::Back;
+use crate::change::Change;
+use crate::change::Shown;
+use crate::places::Cell;
+use crate::places::cell_at;
+use bytes_le::get::u32_at;
+use machine::Directive;
+ghost use Prim.Native.Nat.{ℕ};
+ghost use mathlib.Core.Bool.{cond};
+ghost use mathlib.Core.Path.{_≡_};
+ghost use mathlib.Core.List.{List};
+ghost use lib.ListN.{length};
+ghost use Rattle.directives.specs.Fitting.{Starts, loadTarget, storeTarget, namedUnless, cellFor, forkFit, loadFit, storeFit, fitOf};
+
+// The cell that a directive asks for: the program's own, another one by name, or none because it does not fit here.
+pub enum Target {
+    Own,
+    Named { array: usize, index: u32 },
+    Neither,
+}
+
+// What a shown step does, if index and directive fit: the change, and the flag after it.
+pub enum Fit {
+    Goes { change: Change, flag: bool },
+    Unfit,
+}
+
+fn load_target(directive: Directive) -> Target
+    ensures { λ r. ⌜ r ≡ loadTarget directive ⌝ }
+{
+    match directive {
+        Directive::Step => Target::Own,
+        Directive::Load { array, index } => Target::Named { array, index },
+        Directive::Force => Target::Neither,
+        Directive::Store { array: _, index: _ } => Target::Neither,
+    }
+}
+
+fn store_target(directive: Directive) -> Target
+    ensures { λ r. ⌜ r ≡ storeTarget directive ⌝ }
+{
+    match directive {
+        Directive::Step => Target::Own,
+        Directive::Store { array, index } => Target::Named { array, index },
+        Directive::Force => Target::Neither,
+        Directive::Load { array: _, index: _ } => Target::Neither,
+    }
+}
+
+// The cell that a read or write uses: its own where that exists, and a named one only where the flag is set and its own does not.
+fn cell_for(starts: &[u16], flag: bool, array: usize, index: u32, target: Target) -> Cell
+    requires { ⌜ length (now starts) ≡ 17 ⌝ }
+    ensures { λ r. ⌜ ((counts : List ℕ) → Starts counts (now (starts .entry)) → r ≡ cellFor counts flag array index target) ⌝ }
+{
+    let own = cell_at(starts, array, index);
+    match target {
+        Target::Own => own,
+        Target::Named {
+            array: other,
+            index: place,
+        } => {
+            if flag {
+                unless(own, cell_at(starts, other, place))
+            } else {
+                Cell::Missing
+            }
+        }
+        Target::Neither => Cell::Missing,
+    }
+}
+
+// A named cell, where the program's own is missing.
+fn unless(own: Cell, named: Cell) -> Cell
+    ensures { λ r. ⌜ r ≡ namedUnless own named ⌝ }
+{
+    match own {
+        Cell::At { place: _ } => Cell::Missing,
+        Cell::Missing => named,
+    }
+}
+
+// The side that a branch takes.
+fn side(value: bool, yes: Back, no: Back) -> Back
+    ensures { λ r. ⌜ r ≡ cond value yes no ⌝ }
+{
+    if value { yes } else { no }
+}
+
+// "73 force, at a branch, goes the other way and sets the flag."
+fn fork_fit(flag: bool, value: bool, yes: Back, no: Back, directive: Directive) -> Fit
+    ensures { λ r. ⌜ r ≡ forkFit flag value yes no directive ⌝ }
+{
+    match directive {
+        Directive::Step => {
+            let back = side(value, yes, no);
+            Fit::Goes {
+                change: Change::PutBack { back },
+                flag,
+            }
+        }
+        Directive::Force => {
+            let back = side(value, no, yes);
+            Fit::Goes {
+                change: Change::PutBack { back },
+                flag: true,
+            }
+        }
+        Directive::Load { array: _, index: _ } => Fit::Unfit,
+        Directive::Store { array: _, index: _ } => Fit::Unfit,
+    }
+}
+
+// A read gives its variable the word of the cell.
+fn load_fit(cells: &[u8], variable: usize, flag: bool, found: Cell) -> Fit
+    ensures { λ r. ⌜ r ≡ loadFit (now (cells .entry)) variable flag found ⌝ }
+{
+    match found {
+        Cell::At { place } => {
+            let value = u32_at(cells, 4 * (place as usize));
+            Fit::Goes {
+                change: Change::Assign { variable, value },
+                flag,
+            }
+        }
+        Cell::Missing => Fit::Unfit,
+    }
+}
+
+fn store_fit(value: u32, flag: bool, found: Cell) -> Fit
+    ensures { λ r. ⌜ r ≡ storeFit value flag found ⌝ }
+{
+    match found {
+        Cell::At { place } => Fit::Goes {
+            change: Change::Store { place, value },
+            flag,
+        },
+        Cell::Missing => Fit::Unfit,
+    }
+}
+
+// What a shown step does under a directive.
+pub fn fitting(starts: &[u16], cells: &[u8], flag: bool, shown: Shown, directive: Directive) -> Fit
+    requires { ⌜ length (now starts) ≡ 17 ⌝ }
+    ensures { λ r. ⌜ ((counts : List ℕ) → Starts counts (now (starts .entry)) → r ≡ fitOf counts (now (cells .entry)) flag shown directive) ⌝ }
+{
+    match shown {
+        Shown::Fork { value, yes, no } => fork_fit(flag, value, yes, no, directive),
+        Shown::Get {
+            variable,
+            array,
+            index,
+        } => {
+            let found = cell_for(starts, flag, array, index, load_target(directive));
+            load_fit(cells, variable, flag, found)
+        }
+        Shown::Put {
+            array,
+            index,
+            value,
+        } => {
+            let found = cell_for(starts, flag, array, index, store_target(directive));
+            store_fit(value, flag, found)
+        }
+    }
+}

@@ -1,0 +1,46 @@
+// What guides a shown step: a directive of the list, or the program itself.
+use crate::list::Listed;
+use crate::list::directive_at;
+use crate::list::size_of;
+use machine::Directive;
+ghost use Rattle.directives.specs.Guiding.{Readable, GuidedAs};
+
+// The directive of the next shown step with the bytes and the directives that it uses up, or that none is left.
+pub enum Guided {
+    By {
+        directive: Directive,
+        size: usize,
+        used: u32,
+    },
+    Out,
+}
+
+// "The guessing machine .. takes one directive per shown step." The plain machine takes every step as the program has it.
+pub fn guide(list: &[u8], guessing: bool, at: usize) -> Guided
+    requires { ⌜ Readable (now list) at ⌝ }
+    ensures { λ r. ⌜ GuidedAs guessing (now (list .entry)) at r ⌝ }
+{
+    if !guessing {
+        return Guided::By {
+            directive: Directive::Step,
+            size: 0,
+            used: 0,
+        };
+    }
+    if list.len() <= at {
+        return Guided::Out;
+    }
+    let found = directive_at(list, at);
+    match found {
+        Listed::One { directive } => {
+            let size = size_of(directive);
+            Guided::By {
+                directive,
+                size,
+                used: 1,
+            }
+        }
+        // a list that was read has a whole directive here
+        Listed::Nothing => Guided::Out,
+    }
+}

@@ -1,0 +1,6 @@
+// What a directive decides: which one guides a shown step, which cell the step uses, and what it changes.
+pub mod change;
+pub mod fit;
+pub mod guide;
+pub mod list;
+pub mod places;
