@@ -12,6 +12,7 @@ use Rattle.directives.specs.Listed.{listed, isSome}
 use Rattle.machine.specs.Runs.{shownStep}
 use Rattle.directives.specs.Guiding.{Readable, orNone, directivesFrom, guideOf, GoesBy, RunsOut}
 use Rattle.directives.proofs.DirectiveLists.{listed-within, reads-next, reads-refused, reads-none-left, isSome-before}
+use Rattle.machine.specs.declared.Board.the-variants.{Plain, Guessing}
 use Rattle.machine.specs.declared.Directive.{Directive}
 use Rattle.machine.specs.declared.Directive.the-variants.{Step}
 use Rattle.directives.specs.declared.list.Listed.{Listed}
@@ -19,12 +20,12 @@ use Rattle.directives.specs.declared.list.Listed.the-variants.{One, Noth
 
 module _ (list : List ℕ) (at : ℕ) (readable : Readable list at) where
   -- the plain machine asks for no directive
-  pub goes-plainly : GoesBy false list at Step 0 0
+  pub goes-plainly : GoesBy Plain list at Step 0 0
   unfolding guideOf shownStep
   goes-plainly = record { step = λ room m o after. refl; readable = rw add-zero readable; few = omega arith }
 
   -- at the end of the list there is none left
-  pub runs-out : length list ≤ at → RunsOut true list at
+  pub runs-out : length list ≤ at → RunsOut Guessing list at
   unfolding guideOf directivesFrom orNone shownStep
   runs-out ended =
       let nothing : readDirectives (drop at list) ≡ some [] = reads-none-left (drop at list) (simp length-drop (omega arith)) in
@@ -37,7 +38,7 @@ module _ (list : List ℕ) (at : ℕ) (readable : Readable list at) where
     orNone-before d (some ds) e = refl
 
     -- the directive that stands there
-    pub goes-by : (d : Directive) → o ≡ One d → (size : ℕ) → size ≡ directiveSize d → GoesBy true list at d size 1
+    pub goes-by : (d : Directive) → o ≡ One d → (size : ℕ) → size ≡ directiveSize d → GoesBy Guessing list at d size 1
     unfolding guideOf directivesFrom shownStep
     goes-by d one size isSize =
         let next = reads-next list at inside o found d one in

@@ -1,6 +1,6 @@
 -- What guides a shown step, as the code has it: an offset in the bytes of a directive list.
 use Prim.Native.Nat.{ℕ, _+_, _≤_}
-use mathlib.Core.Bool.{Bool, true, cond}
+use mathlib.Core.Bool.{true}
 use mathlib.Core.Path.{_≡_}
 use mathlib.Core.Option.{Option, none, some}
 use mathlib.Core.List.{List, []}
@@ -10,6 +10,8 @@ use Rattle.machine.specs.Directives.{readDirectives}
 use Rattle.directives.specs.Listed.{isSome}
 use Rattle.machine.specs.Steps.{State}
 use Rattle.machine.specs.Runs.{Room, Guide, plain, guessing, Machine, over, shownIf, shownStep}
+use Rattle.machine.specs.declared.Board.{Board}
+use Rattle.machine.specs.declared.Board.the-variants.{Plain, Guessing}
 use Rattle.machine.specs.declared.Directive.{Directive}
 use Rattle.machine.specs.declared.End.the-variants.{OutOfDirectives}
 use Rattle.directives.specs.declared.guide.Guided.{Guided}
@@ -29,21 +31,22 @@ orNone (some ds) = ds
 unfoldable pub directivesFrom : (list : List ℕ) → (at : ℕ) → List Directive
 directivesFrom list at = orNone (readDirectives (drop at list))
 
-unfoldable pub guideOf : (isGuessing : Bool) → (list : List ℕ) → (at : ℕ) → Guide
-guideOf isGuessing list at = cond isGuessing (guessing (directivesFrom list at)) plain
+unfoldable pub guideOf : Board → (list : List ℕ) → (at : ℕ) → Guide
+guideOf Plain list at = plain
+guideOf Guessing list at = guessing (directivesFrom list at)
 
 -- a shown step goes by this directive, with so many bytes and directives used up after it
-pub record GoesBy (isGuessing : Bool) (list : List ℕ) (at : ℕ) (d : Directive) (size used : ℕ) : Type 0 where
+pub record GoesBy (board : Board) (list : List ℕ) (at : ℕ) (d : Directive) (size used : ℕ) : Type 0 where
   pub step : (room : Room) (m : Machine ℕ) (o : Observation) (after : Directive → Option (State ℕ))
-      → shownStep room m o after (guideOf isGuessing list at) ≡ shownIf room m o (guideOf isGuessing list (at + size)) used (after d)
+      → shownStep room m o after (guideOf board list at) ≡ shownIf room m o (guideOf board list (at + size)) used (after d)
   pub readable : Readable list (at + size)
   pub few : used ≤ 1
 
 -- a shown step finds no directive
-pub record RunsOut (isGuessing : Bool) (list : List ℕ) (at : ℕ) : Type 0 where
+pub record RunsOut (board : Board) (list : List ℕ) (at : ℕ) : Type 0 where
   pub step : (room : Room) (m : Machine ℕ) (o : Observation) (after : Directive → Option (State ℕ))
-      → shownStep room m o after (guideOf isGuessing list at) ≡ over OutOfDirectives
+      → shownStep room m o after (guideOf board list at) ≡ over OutOfDirectives
 
-abbrev pub GuidedAs : (isGuessing : Bool) → (list : List ℕ) → (at : ℕ) → Guided → Type 0
-GuidedAs isGuessing list at (By d size used) = GoesBy isGuessing list at d size used
-GuidedAs isGuessing list at Out = RunsOut isGuessing list at
+abbrev pub GuidedAs : Board → (list : List ℕ) → (at : ℕ) → Guided → Type 0
+GuidedAs board list at (By d size used) = GoesBy board list at d size used
+GuidedAs board list at Out = RunsOut board list at

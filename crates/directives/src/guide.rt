@@ -2,7 +2,9 @@
 use crate::list::Listed;
 use crate::list::directive_at;
 use crate::list::size_of;
+use machine::Board;
 use machine::Directive;
+ghost use Rattle.machine.specs.declared.Board.the-variants.{Guessing};
 ghost use Rattle.directives.specs.Guiding.{Readable, GuidedAs};
 
 // The directive of the next shown step with the bytes and the directives that it uses up, or that none is left.
@@ -15,18 +17,11 @@ pub enum Guided {
     Out,
 }
 
-// "The guessing machine .. takes one directive per shown step." The plain machine takes every step as the program has it.
-pub fn guide(list: &[u8], guessing: bool, at: usize) -> Guided
+// What a list has for the next shown step.
+fn next_listed(list: &[u8], at: usize) -> Guided
     requires { ⌜ Readable (now list) at ⌝ }
-    ensures { λ r. ⌜ GuidedAs guessing (now (list .entry)) at r ⌝ }
+    ensures { λ r. ⌜ GuidedAs Guessing (now (list .entry)) at r ⌝ }
 {
-    if !guessing {
-        return Guided::By {
-            directive: Directive::Step,
-            size: 0,
-            used: 0,
-        };
-    }
     if list.len() <= at {
         return Guided::Out;
     }
@@ -42,5 +37,20 @@ pub fn guide(list: &[u8], guessing: bool, at: usize) -> Guided
         }
         // a list that was read has a whole directive here
         Listed::Nothing => Guided::Out,
+    }
+}
+
+// "The guessing machine .. takes one directive per shown step." The plain machine takes every step as the program has it.
+pub fn guide(list: &[u8], board: Board, at: usize) -> Guided
+    requires { ⌜ Readable (now list) at ⌝ }
+    ensures { λ r. ⌜ GuidedAs board (now (list .entry)) at r ⌝ }
+{
+    match board {
+        Board::Plain => Guided::By {
+            directive: Directive::Step,
+            size: 0,
+            used: 0,
+        },
+        Board::Guessing => next_listed(list, at),
     }
 }

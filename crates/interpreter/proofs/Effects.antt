@@ -7,7 +7,8 @@ use lib.Seq.{sets}
 use Rattle.bytes_le.specs.Numbers.{le}
 use Rattle.bytes_le.proofs.Numbers.{length-le}
 use Rattle.bytes_le.proofs.Stores.{sets-append}
-use Rattle.interpreter.specs.Effects.{pushed, variablesAfter, cellsAfter, pendingBytes, Performed}
+use Rattle.interpreter.specs.Stepping.{memoryAt}
+use Rattle.interpreter.specs.Effects.{pushed, performed, Performed}
 use Rattle.directives.specs.declared.change.Back.{Back}
 use Rattle.directives.specs.declared.change.Back.the-variants.{Two}
 use Rattle.directives.specs.declared.change.Change.{Change}
@@ -42,14 +43,16 @@ pushed-two b rest m n ps qs rs is first second =
     rw (is, pushed, ← first, ← above) second
 
 module _ (change : Change) (rest : ℕ) (vs cs ps : List ℕ) where
-  pub performed-back : (b : Back) (ps′ : List ℕ) → change ≡ PutBack b → ps′ ≡ pushed b rest ps → Performed change rest vs cs ps vs cs ps′
-  unfolding variablesAfter cellsAfter pendingBytes
-  performed-back b ps′ is pending = rw is (record { variables = refl; cells = refl; pending = pending; word = tt })
+  pub performed-back : (b : Back) (ps′ : List ℕ) → change ≡ PutBack b → ps′ ≡ pushed b rest ps → Performed change rest (memoryAt vs cs ps) (memoryAt vs cs ps′)
+  unfolding performed
+  performed-back b ps′ is pending = rw is (record { memory = ap (memoryAt vs cs) pending; word = tt })
 
-  pub performed-assign : (x v : ℕ) (vs′ : List ℕ) → change ≡ Assign x v → v < 2 ^ 32 → vs′ ≡ sets vs (4 * x) (le 4 v) → Performed change rest vs cs ps vs′ cs ps
-  unfolding variablesAfter cellsAfter pendingBytes
-  performed-assign x v vs′ is fits stored = rw is (record { variables = stored; cells = refl; pending = refl; word = fits })
+  pub performed-assign : (x v : ℕ) (vs′ : List ℕ) → change ≡ Assign x v → v < 2 ^ 32 → vs′ ≡ sets vs (4 * x) (le 4 v)
+      → Performed change rest (memoryAt vs cs ps) (memoryAt vs′ cs ps)
+  unfolding performed
+  performed-assign x v vs′ is fits stored = rw is (record { memory = ap (λ (l : List ℕ). memoryAt l cs ps) stored; word = fits })
 
-  pub performed-store : (p v : ℕ) (cs′ : List ℕ) → change ≡ Store p v → v < 2 ^ 32 → cs′ ≡ sets cs (4 * p) (le 4 v) → Performed change rest vs cs ps vs cs′ ps
-  unfolding variablesAfter cellsAfter pendingBytes
-  performed-store p v cs′ is fits stored = rw is (record { variables = refl; cells = stored; pending = refl; word = fits })
+  pub performed-store : (p v : ℕ) (cs′ : List ℕ) → change ≡ Store p v → v < 2 ^ 32 → cs′ ≡ sets cs (4 * p) (le 4 v)
+      → Performed change rest (memoryAt vs cs ps) (memoryAt vs cs′ ps)
+  unfolding performed
+  performed-store p v cs′ is fits stored = rw is (record { memory = ap (λ (l : List ℕ). memoryAt vs l ps) stored; word = fits })

@@ -23,9 +23,10 @@ use Rattle.interpreter.specs.Evaluation.{variablesIn}
 use Rattle.interpreter.specs.Actions.{backOn, changed, observationOf, BackFits}
 use Rattle.directives.specs.Changes.{heightOf}
 use Rattle.directives.specs.Guiding.{guideOf}
-use Rattle.interpreter.specs.Stepping.{startState, pendingOf, cellsIn, machineOf, seenList, ChangeFits, steppedTo, Holds, Ends, Advances}
-use Rattle.interpreter.specs.Effects.{PushFits, pushed, PerformFits, variablesAfter, cellsAfter, pendingBytes, WordFits, Performed, seenBytes}
+use Rattle.interpreter.specs.Stepping.{Memory, startState, pendingOf, cellsIn, machineOf, seenList, ChangeFits, steppedTo, Between, RunEnds, Advances}
+use Rattle.interpreter.specs.Effects.{PushFits, pushed, PerformFits, performed, WordFits, Performed, seenBytes}
 use Rattle.interpreter.specs.Running.{runOf, Begun}
+use Rattle.machine.specs.declared.Board.{Board}
 use Rattle.machine.specs.declared.End.{End}
 use Rattle.directives.specs.declared.change.Back.{Back}
 use Rattle.directives.specs.declared.change.Back.the-variants.{Nothing, One, Two}
@@ -69,51 +70,52 @@ drop-sets (b ∷ bs) l at k before = drop-sets bs (set l at b) (suc at) k (omega
 
 module _ (table : List ℕ) where
   -- ---- the lists that bytes stand for, after a change
-  changed-variables : (c : Change) (vs : List ℕ) (s : Machine ℕ) → ChangeFits table c → WordFits c → length vs ≡ 4 * tableOf table .variables
-      → (rest : List (Com ℕ)) (f : Bool) → s .state .variables ≡ variablesIn table vs → variablesIn table (variablesAfter c vs) ≡ changed table c rest (s .state) f .variables
-  unfolding variablesIn variablesAfter changed
-  changed-variables (PutBack b) vs s fits word long rest f is = sym is
-  changed-variables (Assign x v) vs s fits word long rest f is = rw is (words-stored (tableOf table .variables) vs x v word fits (omega arith))
-  changed-variables (Store p v) vs s fits word long rest f is = sym is
+  changed-variables : (c : Change) (r : ℕ) (m : Memory) (s : Machine ℕ) → ChangeFits table c → WordFits c → length (m .variables) ≡ 4 * tableOf table .variables
+      → (rest : List (Com ℕ)) (f : Bool) → s .state .variables ≡ variablesIn table (m .variables)
+      → variablesIn table (performed c r m .variables) ≡ changed table c rest (s .state) f .variables
+  unfolding variablesIn performed changed
+  changed-variables (PutBack b) r m s fits word long rest f is = sym is
+  changed-variables (Assign x v) r m s fits word long rest f is = rw is (words-stored (tableOf table .variables) (m .variables) x v word fits (omega arith))
+  changed-variables (Store p v) r m s fits word long rest f is = sym is
 
-  changed-cells : (c : Change) (cs : List ℕ) (s : Machine ℕ) → ChangeFits table c → WordFits c → length cs ≡ 4 * sum (tableOf table .counts)
-      → (rest : List (Com ℕ)) (f : Bool) → s .state .cells ≡ cellsIn table cs → cellsIn table (cellsAfter c cs) ≡ changed table c rest (s .state) f .cells
-  unfolding cellsIn cellsAfter changed
-  changed-cells (PutBack b) cs s fits word long rest f is = sym is
-  changed-cells (Assign x v) cs s fits word long rest f is = sym is
-  changed-cells (Store p v) cs s fits word long rest f is = rw is (words-stored (sum (tableOf table .counts)) cs p v word fits (omega arith))
+  changed-cells : (c : Change) (r : ℕ) (m : Memory) (s : Machine ℕ) → ChangeFits table c → WordFits c → length (m .cells) ≡ 4 * sum (tableOf table .counts)
+      → (rest : List (Com ℕ)) (f : Bool) → s .state .cells ≡ cellsIn table (m .cells) → cellsIn table (performed c r m .cells) ≡ changed table c rest (s .state) f .cells
+  unfolding cellsIn performed changed
+  changed-cells (PutBack b) r m s fits word long rest f is = sym is
+  changed-cells (Assign x v) r m s fits word long rest f is = sym is
+  changed-cells (Store p v) r m s fits word long rest f is = rw is (words-stored (sum (tableOf table .counts)) (m .cells) p v word fits (omega arith))
 
-  changed-pending : (c : Change) (ps : List ℕ) (rest variables cells : ℕ) (s : Machine ℕ) (f : Bool) → PerformFits c rest variables cells (length ps)
-      → pendingOf table (pendingBytes c rest ps) (heightOf c rest) ≡ changed table c (pendingOf table ps rest) (s .state) f .pending
-  unfolding pendingBytes heightOf changed
-  changed-pending (PutBack b) ps rest variables cells s f fits = back-pending table b rest ps fits
-  changed-pending (Assign x v) ps rest variables cells s f fits = refl
-  changed-pending (Store p v) ps rest variables cells s f fits = refl
+  changed-pending : (c : Change) (rest : ℕ) (m : Memory) (s : Machine ℕ) (f : Bool) → PerformFits c rest m
+      → pendingOf table (performed c rest m .pending) (heightOf c rest) ≡ changed table c (pendingOf table (m .pending) rest) (s .state) f .pending
+  unfolding performed heightOf changed
+  changed-pending (PutBack b) rest m s f fits = back-pending table b rest (m .pending) fits
+  changed-pending (Assign x v) rest m s f fits = refl
+  changed-pending (Store p v) rest m s f fits = refl
 
   -- a change leaves the lengths as they are
-  length-variables : (c : Change) (vs : List ℕ) → length (variablesAfter c vs) ≡ length vs
-  unfolding variablesAfter
-  length-variables (PutBack b) vs = refl
-  length-variables (Assign x v) vs = length-sets vs (4 * x) (le 4 v)
-  length-variables (Store p v) vs = refl
-
-  length-cells : (c : Change) (cs : List ℕ) → length (cellsAfter c cs) ≡ length cs
-  unfolding cellsAfter
-  length-cells (PutBack b) cs = refl
-  length-cells (Assign x v) cs = refl
-  length-cells (Store p v) cs = length-sets cs (4 * p) (le 4 v)
-
   length-pushed : (b : Back) (rest : ℕ) (ps : List ℕ) → length (pushed b rest ps) ≡ length ps
   unfolding pushed
   length-pushed Nothing rest ps = refl
   length-pushed (One n) rest ps = length-sets ps (4 * rest) (le 4 n)
   length-pushed (Two m n) rest ps = length-sets (sets ps (4 * rest) (le 4 m)) (4 * rest + 4) (le 4 n) ∙ length-sets ps (4 * rest) (le 4 m)
 
-  length-pending-bytes : (c : Change) (rest : ℕ) (ps : List ℕ) → length (pendingBytes c rest ps) ≡ length ps
-  unfolding pendingBytes
-  length-pending-bytes (PutBack b) rest ps = length-pushed b rest ps
-  length-pending-bytes (Assign x v) rest ps = refl
-  length-pending-bytes (Store p v) rest ps = refl
+  length-variables : (c : Change) (rest : ℕ) (m : Memory) → length (performed c rest m .variables) ≡ length (m .variables)
+  unfolding performed
+  length-variables (PutBack b) rest m = refl
+  length-variables (Assign x v) rest m = length-sets (m .variables) (4 * x) (le 4 v)
+  length-variables (Store p v) rest m = refl
+
+  length-cells : (c : Change) (rest : ℕ) (m : Memory) → length (performed c rest m .cells) ≡ length (m .cells)
+  unfolding performed
+  length-cells (PutBack b) rest m = refl
+  length-cells (Assign x v) rest m = refl
+  length-cells (Store p v) rest m = length-sets (m .cells) (4 * p) (le 4 v)
+
+  length-entries : (c : Change) (rest : ℕ) (m : Memory) → length (performed c rest m .pending) ≡ length (m .pending)
+  unfolding performed
+  length-entries (PutBack b) rest m = length-pushed b rest (m .pending)
+  length-entries (Assign x v) rest m = refl
+  length-entries (Store p v) rest m = refl
 
   -- nothing changes behind what is pending after it
   pushed-beyond : (b : Back) (rest : ℕ) (ps : List ℕ) (k : ℕ) → 4 * heightOf (PutBack b) rest ≤ k → drop k (pushed b rest ps) ≡ drop k ps
@@ -124,18 +126,18 @@ module _ (table : List ℕ) where
       drop-sets (le 4 n) (sets ps (4 * rest) (le 4 m)) (4 * rest + 4) k (rw length-le (omega arith))
       ∙ drop-sets (le 4 m) ps (4 * rest) k (rw length-le (omega arith))
 
-  pending-beyond : (c : Change) (rest : ℕ) (ps : List ℕ) (k : ℕ) → 4 * heightOf c rest ≤ k → drop k (pendingBytes c rest ps) ≡ drop k ps
-  unfolding pendingBytes
-  pending-beyond (PutBack b) rest ps k h = pushed-beyond b rest ps k h
-  pending-beyond (Assign x v) rest ps k h = refl
-  pending-beyond (Store p v) rest ps k h = refl
+  pending-beyond : (c : Change) (rest : ℕ) (m : Memory) (k : ℕ) → 4 * heightOf c rest ≤ k → drop k (performed c rest m .pending) ≡ drop k (m .pending)
+  unfolding performed
+  pending-beyond (PutBack b) rest m k h = pushed-beyond b rest (m .pending) k h
+  pending-beyond (Assign x v) rest m k h = refl
+  pending-beyond (Store p v) rest m k h = refl
 
-  changed-entries : (c : Change) (rest variables cells : ℕ) (ps : List ℕ) → PerformFits c rest variables cells (length ps) → ChangeFits table c → Entries table ps rest
-      → Entries table (pendingBytes c rest ps) (heightOf c rest)
-  unfolding pendingBytes heightOf
-  changed-entries (PutBack b) rest variables cells ps fits new old = back-entries table b rest ps fits new old
-  changed-entries (Assign x v) rest variables cells ps fits new old = old
-  changed-entries (Store p v) rest variables cells ps fits new old = old
+  changed-entries : (c : Change) (rest : ℕ) (m : Memory) → PerformFits c rest m → ChangeFits table c → Entries table (m .pending) rest
+      → Entries table (performed c rest m .pending) (heightOf c rest)
+  unfolding performed heightOf
+  changed-entries (PutBack b) rest m fits new old = back-entries table b rest (m .pending) fits new old
+  changed-entries (Assign x v) rest m fits new old = old
+  changed-entries (Store p v) rest m fits new old = old
 
   -- there is room for what is put back
   push-fits : (b : Back) (rest long : ℕ) → nodesIn table ≤ 4096 → BackFits table b → 4 * heightOf (PutBack b) rest ≤ long → PushFits b rest long
@@ -144,12 +146,12 @@ module _ (table : List ℕ) where
   push-fits (One n) rest long few fits h = (omega (arith, fits .inside), omega arith)
   push-fits (Two m n) rest long few fits h = (omega (arith, fits .0 .inside), omega (arith, fits .1 .inside), omega arith)
 
-  change-fits : (c : Change) (rest : ℕ) (vs cs ps : List ℕ) → nodesIn table ≤ 4096 → ChangeFits table c
-      → length vs ≡ 4 * tableOf table .variables → length cs ≡ 4 * sum (tableOf table .counts) → 4 * heightOf c rest ≤ length ps
-      → PerformFits c rest (length vs) (length cs) (length ps)
-  change-fits (PutBack b) rest vs cs ps few fits v c p = push-fits b rest (length ps) few fits p
-  change-fits (Assign x w) rest vs cs ps few fits v c p = omega arith
-  change-fits (Store q w) rest vs cs ps few fits v c p = omega arith
+  change-fits : (c : Change) (rest : ℕ) (m : Memory) → nodesIn table ≤ 4096 → ChangeFits table c
+      → length (m .variables) ≡ 4 * tableOf table .variables → length (m .cells) ≡ 4 * sum (tableOf table .counts) → 4 * heightOf c rest ≤ length (m .pending)
+      → PerformFits c rest m
+  change-fits (PutBack b) rest m few fits v c p = push-fits b rest (length (m .pending)) few fits p
+  change-fits (Assign x w) rest m few fits v c p = omega arith
+  change-fits (Store q w) rest m few fits v c p = omega arith
 
   -- how many are pending after a change
   back-height : (b : Back) (rest : ℕ) (ps : List ℕ) → length (backOn table b (pendingOf table ps rest)) ≡ heightOf (PutBack b) rest
@@ -174,129 +176,134 @@ module _ (table : List ℕ) where
   changed-state (Store q w) rest s f p v d ep ev ed = λ i. record { pending = ep i; variables = ev i; cells = ed i; flag = f }
 
 -- ---- between two steps of a run
-pub record Underway (table index starts list : List ℕ) (guessing : Bool) (budget : ℕ) (whole : Outcome ℕ) (ps₀ os₀ : List ℕ) (st : MachineState) (vs cs ps os : List ℕ) : Type 0 where
-  pub holds : Holds table index starts list budget (length os₀) st vs cs ps
-  pub fits : Fits (nodesIn table) (pendingOf table ps (st .pending))
+pub record Underway (table index starts list : List ℕ) (board : Board) (budget : ℕ) (whole : Outcome ℕ) (ps₀ os₀ : List ℕ) (st : MachineState) (m : Memory) (os : List ℕ) : Type 0 where
+  pub between : Between table index starts list budget (length os₀) st m
+  pub fits : Fits (nodesIn table) (pendingOf table (m .pending) (st .pending))
   pub seen : List Observation
   pub isShown : length (shownBytes seen) ≡ st .shown
   pub written : os ≡ writtenOver (shownBytes seen) os₀
-  pub beyond : drop (4 * nodesIn table) ps ≡ drop (4 * nodesIn table) ps₀
-  pub same : length ps ≡ length ps₀
-  pub left : run (tableOf table .counts) (bytes (length os₀)) (budget - st .steps) (machineOf table list guessing st vs cs ps seen) ≡ whole
+  pub beyond : drop (4 * nodesIn table) (m .pending) ≡ drop (4 * nodesIn table) ps₀
+  pub same : length (m .pending) ≡ length ps₀
+  pub left : run (tableOf table .counts) (bytes (length os₀)) (budget - st .steps) (machineOf table list board st m seen) ≡ whole
 
-module _ (table index starts list : List ℕ) (guessing : Bool) (budget : ℕ) (bytes-below : Below 256 table) where
+module _ (table index starts list : List ℕ) (board : Board) (budget : ℕ) (bytes-below : Below 256 table) where
   -- at the start
-  pub underway-start : (vs cs ps os : List ℕ) → Begun table index starts list budget (length os) vs cs ps
-      → Underway table index starts list guessing budget (runOf table list guessing budget vs cs os) ps os startState vs cs ps os
+  pub underway-start : (m : Memory) (os : List ℕ) → Begun table index starts list budget (length os) m
+      → Underway table index starts list board budget (runOf table list board budget m (length os)) (m .pending) os startState m os
   unfolding startState pendingOf machineOf shownBytes flatMap writtenOver runOf started nodesIn
-  underway-start vs cs ps os begun =
-      let root : commandIn table (leAt 4 ps 0) ≡ rootOf (tableOf table) = ap (commandIn table) (begun .isRoot) ∙ sym (indexed-root table index bytes-below (begun .holds .indexed)) in
-      let size = root-size (tableOf table) (indexed-well-formed table index bytes-below (begun .holds .indexed)) in
+  underway-start m os begun =
+      let root : commandIn table (leAt 4 (m .pending) 0) ≡ rootOf (tableOf table) =
+      ap (commandIn table) (begun .isRoot) ∙ sym (indexed-root table index bytes-below (begun .between .indexed)) in
+      let size = root-size (tableOf table) (indexed-well-formed table index bytes-below (begun .between .indexed)) in
       record {
-        holds = begun .holds;
+        between = begun .between;
         fits = (omega (arith, ap nodesOf root), tt);
         seen = [];
         isShown = refl;
         written = refl;
         beyond = refl;
         same = refl;
-        left = ap (λ n. run (tableOf table .counts) (bytes (length os)) n (machineOf table list guessing startState vs cs ps [])) (sub-zero budget)
-            ∙ ap (λ c. run (tableOf table .counts) (bytes (length os)) budget (started c (variablesIn table vs) (cellsIn table cs) (guideOf guessing list 0))) root;
+        left = ap (λ n. run (tableOf table .counts) (bytes (length os)) n (machineOf table list board startState m [])) (sub-zero budget)
+            ∙ ap (λ c. run (tableOf table .counts) (bytes (length os)) budget (started c (variablesIn table (m .variables)) (cellsIn table (m .cells)) (guideOf board list 0))) root;
       }
 
-  module _ (whole : Outcome ℕ) (ps₀ os₀ : List ℕ) (st : MachineState) (vs cs ps os : List ℕ) (u : Underway table index starts list guessing budget whole ps₀ os₀ st vs cs ps os) where
+  module _ (whole : Outcome ℕ) (ps₀ os₀ : List ℕ) (st : MachineState) (m : Memory) (os : List ℕ) (u : Underway table index starts list board budget whole ps₀ os₀ st m os) where
+    abbrev here : Machine ℕ
+    here = machineOf table list board st m (u .seen)
+
     -- when it is over
-    pub underway-over : (e : End) → Ends table list guessing budget (length os₀) st vs cs ps e
-        → whole ≡ record { end = e; machine = machineOf table list guessing st vs cs ps (u .seen) }
+    pub underway-over : (e : End) → RunEnds table list board budget (length os₀) st m e
+        → whole ≡ record { end = e; machine = machineOf table list board st m (u .seen) }
     underway-over e ends = sym (u .left) ∙ ends .isRun (u .seen) (u .isShown)
 
     -- the buffer is as long as it was
     pub underway-room : length os ≡ length os₀
-    underway-room = rw (u .written) (length-written (shownBytes (u .seen)) os₀ (omega (arith, u .isShown, u .holds .shownFit)))
+    underway-room = rw (u .written) (length-written (shownBytes (u .seen)) os₀ (omega (arith, u .isShown, u .between .shownFit)))
 
     few-nodes : nodesIn table ≤ 4096
-    few-nodes = indexed-few table index bytes-below (u .holds .indexed)
+    few-nodes = indexed-few table index bytes-below (u .between .indexed)
 
     -- a step that is taken
-    module _ (c : Change) (seen : Seen) (after : MachineState) (adv : Advances table list guessing budget (length os₀) st vs cs ps c seen after) where
+    module _ (c : Change) (seen : Seen) (after : MachineState) (adv : Advances table list board budget (length os₀) st m c seen after) where
       abbrev rest : ℕ
       rest = st .pending - 1
 
       abbrev stepped : Machine ℕ
-      stepped = steppedTo table list guessing (pendingOf table ps rest) (machineOf table list guessing st vs cs ps (u .seen)) c seen after
+      stepped = steppedTo table list board (pendingOf table (m .pending) rest) here c seen after
 
-      fits-after : Fits (nodesIn table) (changed table c (pendingOf table ps rest) (machineOf table list guessing st vs cs ps (u .seen) .state) (after .flag) .pending)
+      fits-after : Fits (nodesIn table) (changed table c (pendingOf table (m .pending) rest) (here .state) (after .flag) .pending)
       unfolding machineOf steppedTo
       fits-after =
           subst (AfterNext (Fits (nodesIn table))) (adv .isNext (u .seen) (u .isShown))
-          (next-after (Fits (nodesIn table)) (tableOf table .counts) (bytes (length os₀)) (look-fits (nodesIn table)) (machineOf table list guessing st vs cs ps (u .seen)) (u .fits))
+          (next-after (Fits (nodesIn table)) (tableOf table .counts) (bytes (length os₀)) (look-fits (nodesIn table)) here (u .fits))
 
       -- as many are pending as the nodes allow
       height-few : heightOf c rest ≤ nodesIn table
       height-few =
-          let m : Machine ℕ = machineOf table list guessing st vs cs ps (u .seen) in
-          let within = fits-length (nodesIn table) (changed table c (pendingOf table ps rest) (m .state) (after .flag) .pending) fits-after in
-          omega (arith, changed-height table c rest ps m (after .flag))
+          let within = fits-length (nodesIn table) (changed table c (pendingOf table (m .pending) rest) (here .state) (after .flag) .pending) fits-after in
+          omega (arith, changed-height table c rest (m .pending) here (after .flag))
 
       -- the change can be made
-      pub perform-fits : PerformFits c rest (length vs) (length cs) (length ps)
-      perform-fits = change-fits table c rest vs cs ps few-nodes (adv .fits) (u .holds .variablesLong) (u .holds .cellsLong) (omega (arith, height-few, u .holds .pendingLong))
+      pub perform-fits : PerformFits c rest m
+      perform-fits = change-fits table c rest m few-nodes (adv .fits) (u .between .variablesLong) (u .between .cellsLong) (omega (arith, height-few, u .between .pendingLong))
 
       -- what is shown fits the buffer
       pub show-fits : st .shown + length (seenBytes seen) ≤ length os
       show-fits = rw (← seen-bytes seen, underway-room) (omega (arith, adv .isShown, adv .shownFit))
 
-      left-after : (m : Machine ℕ) → m ≡ stepped → run (tableOf table .counts) (bytes (length os₀)) (budget - after .steps) m ≡ whole
-      left-after m e =
+      left-after : (x : Machine ℕ) → x ≡ stepped → run (tableOf table .counts) (bytes (length os₀)) (budget - after .steps) x ≡ whole
+      left-after x e =
           let one : budget - st .steps ≡ suc (budget - after .steps) = omega (arith, adv .isSteps, adv .stepsFit) in
-          rw e (sym (run-goes (tableOf table .counts) (bytes (length os₀)) (budget - after .steps) (machineOf table list guessing st vs cs ps (u .seen)) (adv .isNext (u .seen) (u .isShown)))
+          rw e (sym (run-goes (tableOf table .counts) (bytes (length os₀)) (budget - after .steps) here (adv .isNext (u .seen) (u .isShown)))
           ∙ rw (← one) (u .left))
 
-      module _ (vs′ cs′ ps′ os′ : List ℕ) (p : Performed c rest vs cs ps vs′ cs′ ps′) (o : os′ ≡ sets os (st .shown) (seenBytes seen)) where
-        pending-after : pendingOf table ps′ (after .pending) ≡ changed table c (pendingOf table ps rest) (machineOf table list guessing st vs cs ps (u .seen) .state) (after .flag) .pending
-        pending-after =
-            rw (p .pending, adv .isHeight)
-            (changed-pending table c ps rest (length vs) (length cs) (machineOf table list guessing st vs cs ps (u .seen)) (after .flag) perform-fits)
+      -- the memory after it
+      abbrev mem : Memory
+      mem = performed c rest m
 
-        machine-after : machineOf table list guessing after vs′ cs′ ps′ (u .seen ++ seenList seen) ≡ stepped
-        unfolding machineOf steppedTo
-        machine-after =
-            let m : Machine ℕ = machineOf table list guessing st vs cs ps (u .seen) in
-            let state =
-            changed-state table c (pendingOf table ps rest) m (after .flag) (pendingOf table ps′ (after .pending)) (variablesIn table vs′) (cellsIn table cs′) pending-after
-            (rw (p .variables) (changed-variables table c vs m (adv .fits) (p .word) (u .holds .variablesLong) (pendingOf table ps rest) (after .flag) refl))
-            (rw (p .cells) (changed-cells table c cs m (adv .fits) (p .word) (u .holds .cellsLong) (pendingOf table ps rest) (after .flag) refl)) in
-            λ i. record { state = state i; guide = guideOf guessing list (after .at); steps = after .steps; used = after .used; shown = u .seen ++ seenList seen }
+      pending-after : pendingOf table (mem .pending) (after .pending) ≡ changed table c (pendingOf table (m .pending) rest) (here .state) (after .flag) .pending
+      pending-after = rw (adv .isHeight) (changed-pending table c rest m here (after .flag) perform-fits)
 
-        holds-after : Holds table index starts list budget (length os₀) after vs′ cs′ ps′
-        holds-after =
-            let h = u .holds in
-            record {
-              indexed = h .indexed;
-              begins = h .begins;
-              startsLong = h .startsLong;
-              variablesLong = rw (p .variables, length-variables table c vs) (h .variablesLong);
-              cellsLong = rw (p .cells, length-cells table c cs) (h .cellsLong);
-              pendingLong = rw (p .pending, length-pending-bytes table c rest ps) (h .pendingLong);
-              readable = adv .readable;
-              entries = rw (p .pending, adv .isHeight) (changed-entries table c rest (length vs) (length cs) ps perform-fits (adv .fits) (λ j less. h .entries j (omega arith)));
-              few = omega (arith, adv .isHeight, height-few);
-              stepsFit = omega (arith, adv .isSteps, adv .stepsFit);
-              usedFit = adv .usedFit;
-              shownFit = adv .shownFit;
-            }
+      machine-after : WordFits c → machineOf table list board after mem (u .seen ++ seenList seen) ≡ stepped
+      unfolding machineOf steppedTo
+      machine-after word =
+          let state =
+          changed-state table c (pendingOf table (m .pending) rest) here (after .flag) (pendingOf table (mem .pending) (after .pending)) (variablesIn table (mem .variables)) (cellsIn table (mem .cells)) pending-after
+          (changed-variables table c rest m here (adv .fits) word (u .between .variablesLong) (pendingOf table (m .pending) rest) (after .flag) refl)
+          (changed-cells table c rest m here (adv .fits) word (u .between .cellsLong) (pendingOf table (m .pending) rest) (after .flag) refl) in
+          λ i. record { state = state i; guide = guideOf board list (after .at); steps = after .steps; used = after .used; shown = u .seen ++ seenList seen }
 
-        pub underway-next : Underway table index starts list guessing budget whole ps₀ os₀ after vs′ cs′ ps′ os′
-        underway-next =
-            record {
-              holds = holds-after;
-              fits = rw pending-after fits-after;
-              seen = u .seen ++ seenList seen;
-              isShown = rw (shown-append (u .seen) (seenList seen), length-append) (omega (arith, u .isShown, adv .isShown));
-              written =
-                  o ∙ rw (u .written, ← u .isShown, shown-append (u .seen) (seenList seen), seen-bytes seen)
-                  (written-more (shownBytes (u .seen)) (seenBytes seen) os₀ (rw (← seen-bytes seen) (omega (arith, u .isShown, adv .isShown, adv .shownFit))));
-              beyond = rw (p .pending) (pending-beyond table c rest ps (4 * nodesIn table) (omega (arith, height-few)) ∙ u .beyond);
-              same = rw (p .pending, length-pending-bytes table c rest ps) (u .same);
-              left = left-after (machineOf table list guessing after vs′ cs′ ps′ (u .seen ++ seenList seen)) machine-after;
-            }
+      between-after : Between table index starts list budget (length os₀) after mem
+      between-after =
+          let h = u .between in
+          record {
+            indexed = h .indexed;
+            begins = h .begins;
+            startsLong = h .startsLong;
+            variablesLong = length-variables table c rest m ∙ h .variablesLong;
+            cellsLong = length-cells table c rest m ∙ h .cellsLong;
+            pendingLong = rw (length-entries table c rest m) (h .pendingLong);
+            readable = adv .readable;
+            entries = rw (adv .isHeight) (changed-entries table c rest m perform-fits (adv .fits) (λ j less. h .entries j (omega arith)));
+            few = omega (arith, adv .isHeight, height-few);
+            stepsFit = omega (arith, adv .isSteps, adv .stepsFit);
+            usedFit = adv .usedFit;
+            shownFit = adv .shownFit;
+          }
+
+      pub underway-next : (m′ : Memory) (os′ : List ℕ) → Performed c rest m m′ → os′ ≡ sets os (st .shown) (seenBytes seen)
+          → Underway table index starts list board budget whole ps₀ os₀ after m′ os′
+      underway-next m′ os′ p o =
+          rw (p .memory)
+          (record {
+            between = between-after;
+            fits = rw pending-after fits-after;
+            seen = u .seen ++ seenList seen;
+            isShown = rw (shown-append (u .seen) (seenList seen), length-append) (omega (arith, u .isShown, adv .isShown));
+            written =
+                o ∙ rw (u .written, ← u .isShown, shown-append (u .seen) (seenList seen), seen-bytes seen)
+                (written-more (shownBytes (u .seen)) (seenBytes seen) os₀ (rw (← seen-bytes seen) (omega (arith, u .isShown, adv .isShown, adv .shownFit))));
+            beyond = pending-beyond table c rest m (4 * nodesIn table) (omega (arith, height-few)) ∙ u .beyond;
+            same = length-entries table c rest m ∙ u .same;
+            left = left-after (machineOf table list board after mem (u .seen ++ seenList seen)) (machine-after (p .word));
+          })

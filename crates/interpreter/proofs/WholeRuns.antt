@@ -1,7 +1,6 @@
 -- A whole run: how it begins, and what it leaves.
 use Prim.Native.Nat.{ℕ, _*_, _-_, _^_, _≤_, _<_}
 use native.Mathlib.Omega.{arith}
-use mathlib.Core.Bool.{Bool}
 use mathlib.Core.Path.{_≡_, sym, _∙_}
 use mathlib.Core.List.{List}
 use lib.ListN.{length, drop, replicate}
@@ -18,16 +17,17 @@ use Rattle.machine.specs.Observations.{shownBytes}
 use Rattle.interpreter.specs.Evaluation.{variablesIn}
 use Rattle.interpreter.specs.Actions.{CommandAt}
 use Rattle.directives.specs.Fitting.{Starts}
-use Rattle.interpreter.specs.Stepping.{startState, cellsIn, machineOf}
-use Rattle.interpreter.specs.Running.{runOf, Begun, StoppedAs, nextWord, reported, reportOf, RunAsked, RunLeaves}
+use Rattle.interpreter.specs.Stepping.{Memory, memoryAt, startState, cellsIn, machineOf}
+use Rattle.interpreter.specs.Running.{runOf, Begun, StoppedAs, nextWord, reportWith, reportOf, RunAsked, RunLeaves}
+use Rattle.machine.specs.declared.Board.{Board}
 use Rattle.interpreter.specs.declared.run.Stopped.{Stopped}
 use Rattle.interpreter.specs.declared.run.Report.{Report}
 use Rattle.interpreter.proofs.Words.{leAt-stored}
 use Rattle.interpreter.proofs.Underway.{drop-sets}
 use Rattle.interpreter.proofs.Leavings.{Noted, pending-left, next-noted}
 
-module _ (table index list : List ℕ) (header : Header) (bytes : Below 256 table) (vs cs ps₀ : List ℕ)
-    (asked : RunAsked table index list header vs cs ps₀) where
+module _ (table index list : List ℕ) (header : Header) (bytes : Below 256 table) (m₀ : Memory)
+    (asked : RunAsked table index list header m₀) where
   -- the table's header
   pub asked-header : HasHeader table header
   asked-header = record { reads = asked .indexed .reads; isHeader = asked .isHeader }
@@ -42,7 +42,7 @@ module _ (table index list : List ℕ) (header : Header) (bytes : Below 256 tabl
   few-nodes = indexed-few table index bytes (asked .indexed)
 
   -- the root's number, as a word
-  pub root-below : (0 < header .nodes) × (header .nodes - 1 < 2 ^ 32) × (4 ≤ length ps₀)
+  pub root-below : (0 < header .nodes) × (header .nodes - 1 < 2 ^ 32) × (4 ≤ length (m₀ .pending))
   root-below =
       let positive = some-nodes in
       let few = few-nodes in
@@ -50,22 +50,22 @@ module _ (table index list : List ℕ) (header : Header) (bytes : Below 256 tabl
       let long = asked .pendingLong in
       (omega arith, omega arith, omega arith)
 
-  module _ (ps : List ℕ) (root : ps ≡ sets ps₀ 0 (le 4 (header .nodes - 1))) where
+  module _ (ps : List ℕ) (root : ps ≡ sets (m₀ .pending) 0 (le 4 (header .nodes - 1))) where
     root-there : leAt 4 ps 0 ≡ nodesIn table - 1
-    root-there = rw (root, leAt-stored 4 (header .nodes - 1) ps₀ 0 (root-below .1) (root-below .2), same-nodes)
+    root-there = rw (root, leAt-stored 4 (header .nodes - 1) (m₀ .pending) 0 (root-below .1) (root-below .2), same-nodes)
 
     root-command : CommandAt table (nodesIn table - 1)
     root-command = record { inside = omega (arith, some-nodes); isCommand = indexed-root-sort table index bytes (asked .indexed) }
 
-    pending-same : length ps ≡ length ps₀
-    pending-same = rw root (length-sets ps₀ 0 (le 4 (header .nodes - 1)))
+    pending-same : length ps ≡ length (m₀ .pending)
+    pending-same = rw root (length-sets (m₀ .pending) 0 (le 4 (header .nodes - 1)))
 
     -- all is ready for the first step
-    pub run-begins : (starts : List ℕ) → Starts (tableOf table .counts) starts → length starts ≡ 17 → (budget room : ℕ) → Begun table index starts list budget room vs cs ps
+    pub run-begins : (starts : List ℕ) → Starts (tableOf table .counts) starts → length starts ≡ 17 → (budget room : ℕ) → Begun table index starts list budget room (memoryAt (m₀ .variables) (m₀ .cells) ps)
     unfolding startState
     run-begins starts begins long budget room =
         record {
-          holds =
+          between =
               record {
                 indexed = asked .indexed;
                 begins = begins;
@@ -86,33 +86,36 @@ module _ (table index list : List ℕ) (header : Header) (bytes : Below 256 tabl
         only : (j : ℕ) → j < 1 → CommandAt table (leAt 4 ps (4 * j))
         only j less = let first : j ≡ 0 = omega arith in rw (first, root-there) root-command
 
-    module _ (guessing : Bool) (budget : ℕ) (os vs′ cs′ ps′ os′ : List ℕ) (s : Stopped) (stopped : StoppedAs table list guessing budget vs cs ps os vs′ cs′ ps′ os′ s)
-        (sameV : length vs′ ≡ length vs) (sameC : length cs′ ≡ length cs) (sameP : length ps′ ≡ length ps) where
+    module _ (board : Board) (budget : ℕ) (os : List ℕ) (m : Memory) (os′ : List ℕ) (s : Stopped)
+        (stopped : StoppedAs table list board budget (memoryAt (m₀ .variables) (m₀ .cells) ps) os m os′ s)
+        (sameV : length (m .variables) ≡ length (m₀ .variables)) (sameC : length (m .cells) ≡ length (m₀ .cells)) (sameP : length (m .pending) ≡ length ps) where
       -- what is pending fits the slice
-      pub pending-within : (s .state .pending ≤ header .nodes) × (4 * header .nodes ≤ length ps′)
+      pub pending-within : (s .state .pending ≤ header .nodes) × (4 * header .nodes ≤ length (m .pending))
       pending-within = (omega (arith, stopped .few, same-nodes), omega (arith, sameP, pending-same, asked .pendingLong))
 
-      beyond : drop (4 * nodesIn table) ps′ ≡ drop (4 * nodesIn table) ps → drop (4 * header .nodes) ps′ ≡ drop (4 * header .nodes) ps₀
+      beyond : drop (4 * nodesIn table) (m .pending) ≡ drop (4 * nodesIn table) ps → drop (4 * header .nodes) (m .pending) ≡ drop (4 * header .nodes) (m₀ .pending)
       beyond e =
           rw (same-nodes)
-          (e ∙ rw root (drop-sets (le 4 (header .nodes - 1)) ps₀ 0 (4 * nodesIn table) (rw length-le (omega (arith, some-nodes)))))
+          (e ∙ rw root (drop-sets (le 4 (header .nodes - 1)) (m₀ .pending) 0 (4 * nodesIn table) (rw length-le (omega (arith, some-nodes)))))
 
       -- what a run leaves
-      pub run-leaves : Below 256 vs′ → Below 256 cs′ → Below 256 ps′ → (cleared : List ℕ) → cleared ≡ sets ps′ (4 * s .state .pending) (words (replicate (header .nodes - s .state .pending) 0))
-          → (n : ℕ) → n ≡ nextWord ps′ (s .state .pending) → (r : Report) → r ≡ reported s n
-          → RunLeaves (runOf table list guessing budget vs cs os) (header .nodes) ps₀ os vs′ cs′ cleared os′ r
-      unfolding machineOf variablesIn cellsIn reported reportOf
+      pub run-leaves : Below 256 (m .variables) → Below 256 (m .cells) → Below 256 (m .pending)
+          → (cleared : List ℕ) → cleared ≡ sets (m .pending) (4 * s .state .pending) (words (replicate (header .nodes - s .state .pending) 0))
+          → (n : ℕ) → n ≡ nextWord (m .pending) (s .state .pending) → (r : Report) → r ≡ reportWith s n
+          → RunLeaves (runOf table list board budget m₀ (length os)) (header .nodes) m₀ os (memoryAt (m .variables) (m .cells) cleared) os′ r
+      unfolding runOf machineOf variablesIn cellsIn reportWith reportOf
       run-leaves bytesV bytesC bytesP cleared isCleared n isNext r isReport =
-          let noted : Noted table ps′ (s .state .pending) = λ j less. indexed-note table index bytes (asked .indexed) (leAt 4 ps′ (4 * j)) (stopped .entries j less .inside) (stopped .entries j less .isCommand) in
+          let noted : Noted table (m .pending) (s .state .pending) =
+          λ j less. indexed-note table index bytes (asked .indexed) (leAt 4 (m .pending) (4 * j)) (stopped .entries j less .inside) (stopped .entries j less .isCommand) in
           let counted : s .state .shown ≡ length (shownBytes (stopped .seen)) = sym (stopped .isShown) in
-          let next = isNext ∙ next-noted table ps′ (s .state .pending) noted in
+          let next = isNext ∙ next-noted table (m .pending) (s .state .pending) noted in
           rw (stopped .isOutcome)
           (record {
-            variables = sym (words-fromWords (tableOf table .variables) vs′ (sameV ∙ asked .variablesLong) bytesV);
-            cells = sym (words-fromWords (sum (tableOf table .counts)) cs′ (sameC ∙ asked .cellsLong) bytesC);
+            variables = sym (words-fromWords (tableOf table .variables) (m .variables) (sameV ∙ asked .variablesLong) bytesV);
+            cells = sym (words-fromWords (sum (tableOf table .counts)) (m .cells) (sameC ∙ asked .cellsLong) bytesC);
             pending =
                 isCleared
-                ∙ pending-left table ps′ ps₀ (s .state .pending) (header .nodes) bytesP (pending-within .0) (pending-within .1) noted (beyond (stopped .beyond));
+                ∙ pending-left table (m .pending) (m₀ .pending) (s .state .pending) (header .nodes) bytesP (pending-within .0) (pending-within .1) noted (beyond (stopped .beyond));
             observations = stopped .observations;
             report =
                 isReport

@@ -15,6 +15,7 @@ use Rattle.interpreter.specs.Actions.{changed, observationOf, CommandAt,
 use Rattle.directives.specs.Changes.{heightOf}
 use Rattle.directives.specs.Fitting.{Starts}
 use Rattle.directives.specs.Guiding.{Readable, guideOf}
+use Rattle.machine.specs.declared.Board.{Board}
 use Rattle.machine.specs.declared.End.{End}
 use Rattle.directives.specs.declared.change.Change.{Change}
 use Rattle.directives.specs.declared.change.Change.the-variants.{PutBack, Assign, Store}
@@ -44,7 +45,17 @@ unfoldable pub steppedState : MachineState → Change → (flag : Bool) → (use
 steppedState s c f u size b =
     record { flag = f; steps = s .steps + 1; used = s .used + u; at = s .at + size; pending = heightOf c (s .pending - 1); shown = s .shown + b }
 
--- ---- what it stands for, with the lent bytes
+-- ---- the lent bytes
+-- The slices that a run works in. All contracts take them as one: a board that is lent one more adds a field here.
+pub record Memory : Type 0 where
+  pub variables : List ℕ
+  pub cells : List ℕ
+  pub pending : List ℕ
+
+abbrev pub memoryAt : (variables cells pending : List ℕ) → Memory
+memoryAt vs cs ps = record { variables = vs; cells = cs; pending = ps }
+
+-- ---- what a state stands for, with the lent bytes
 -- the first so many entries, the next command first
 unfoldable pub pendingOf : (table pending : List ℕ) → (count : ℕ) → List (Com ℕ)
 pendingOf table pending zero = []
@@ -53,21 +64,21 @@ pendingOf table pending (suc k) = commandIn table (leAt 4 pending (4 * k)) ∷ p
 unfoldable pub cellsIn : (table cells : List ℕ) → List ℕ
 cellsIn table cells = fromWords (sum (tableOf table .counts)) cells
 
-unfoldable pub machineOf : (table list : List ℕ) → (guessing : Bool) → MachineState → (variables cells pending : List ℕ) → List Observation → Machine ℕ
-machineOf table list g st vs cs ps os =
+unfoldable pub machineOf : (table list : List ℕ) → Board → MachineState → Memory → List Observation → Machine ℕ
+machineOf table list board st m os =
     record {
-      state = record { pending = pendingOf table ps (st .pending); variables = variablesIn table vs; cells = cellsIn table cs; flag = st .flag };
-      guide = guideOf g list (st .at);
+      state = record { pending = pendingOf table (m .pending) (st .pending); variables = variablesIn table (m .variables); cells = cellsIn table (m .cells); flag = st .flag };
+      guide = guideOf board list (st .at);
       steps = st .steps;
       used = st .used;
       shown = os;
     }
 
 -- ---- what a step does
-unfoldable pub bytesOf : Shown → ℕ
-bytesOf (Fork v y n) = 6
-bytesOf (Get x a i) = 10
-bytesOf (Put a i v) = 10
+unfoldable pub shownSize : Shown → ℕ
+shownSize (Fork v y n) = 6
+shownSize (Get x a i) = 10
+shownSize (Put a i v) = 10
 
 unfoldable pub seenList : Seen → List Observation
 seenList Nothing = []
@@ -80,43 +91,43 @@ ChangeFits table (Assign x v) = x < tableOf table .variables
 ChangeFits table (Store p v) = p < sum (tableOf table .counts)
 
 -- the machine after a step: its command taken off, its change made
-unfoldable pub steppedTo : (table list : List ℕ) → (guessing : Bool) → List (Com ℕ) → Machine ℕ → Change → Seen → MachineState → Machine ℕ
-steppedTo table list g rest m c seen st =
+unfoldable pub steppedTo : (table list : List ℕ) → Board → List (Com ℕ) → Machine ℕ → Change → Seen → MachineState → Machine ℕ
+steppedTo table list board rest m c seen st =
     record {
       state = changed table c rest (m .state) (st .flag);
-      guide = guideOf g list (st .at);
+      guide = guideOf board list (st .at);
       steps = st .steps;
       used = st .used;
       shown = m .shown ++ seenList seen;
     }
 
--- ---- what holds between two steps
-pub record Holds (table index starts list : List ℕ) (budget room : ℕ) (state : MachineState) (variables cells pending : List ℕ) : Type 0 where
+-- ---- between two steps
+pub record Between (table index starts list : List ℕ) (budget room : ℕ) (state : MachineState) (m : Memory) : Type 0 where
   pub indexed : Indexed table index
   pub begins : Starts (tableOf table .counts) starts
   pub startsLong : length starts ≡ 17
-  pub variablesLong : length variables ≡ 4 * tableOf table .variables
-  pub cellsLong : length cells ≡ 4 * sum (tableOf table .counts)
-  pub pendingLong : 4 * nodesIn table ≤ length pending
+  pub variablesLong : length (m .variables) ≡ 4 * tableOf table .variables
+  pub cellsLong : length (m .cells) ≡ 4 * sum (tableOf table .counts)
+  pub pendingLong : 4 * nodesIn table ≤ length (m .pending)
   pub readable : Readable list (state .at)
-  pub entries : (j : ℕ) → j < state .pending → CommandAt table (leAt 4 pending (4 * j))
+  pub entries : (j : ℕ) → j < state .pending → CommandAt table (leAt 4 (m .pending) (4 * j))
   pub few : state .pending ≤ nodesIn table
   pub stepsFit : state .steps ≤ budget
   pub usedFit : state .used ≤ state .steps
   pub shownFit : state .shown ≤ room
 
-module _ (table list : List ℕ) (isGuessing : Bool) (budget room : ℕ) (state : MachineState) (variables cells pending : List ℕ) where
+module _ (table list : List ℕ) (board : Board) (budget room : ℕ) (state : MachineState) (m : Memory) where
   -- the run is over
-  pub record Ends (end : End) : Type 0 where
+  pub record RunEnds (end : End) : Type 0 where
     pub isRun : (os : List Observation) → length (shownBytes os) ≡ state .shown
-        → run (tableOf table .counts) (bytes room) (budget - state .steps) (machineOf table list isGuessing state variables cells pending os)
-        ≡ record { end = end; machine = machineOf table list isGuessing state variables cells pending os }
+        → run (tableOf table .counts) (bytes room) (budget - state .steps) (machineOf table list board state m os)
+        ≡ record { end = end; machine = machineOf table list board state m os }
 
   -- the step is taken
   pub record Advances (change : Change) (seen : Seen) (after : MachineState) : Type 0 where
     pub isNext : (os : List Observation) → length (shownBytes os) ≡ state .shown
-        → next (tableOf table .counts) (bytes room) (machineOf table list isGuessing state variables cells pending os)
-        ≡ goes (steppedTo table list isGuessing (pendingOf table pending (state .pending - 1)) (machineOf table list isGuessing state variables cells pending os) change seen after)
+        → next (tableOf table .counts) (bytes room) (machineOf table list board state m os)
+        ≡ goes (steppedTo table list board (pendingOf table (m .pending) (state .pending - 1)) (machineOf table list board state m os) change seen after)
     pub fits : ChangeFits table change
     pub some : 0 < state .pending
     pub isHeight : after .pending ≡ heightOf change (state .pending - 1)
@@ -128,5 +139,5 @@ module _ (table list : List ℕ) (isGuessing : Bool) (budget room : ℕ) (state 
     pub shownFit : after .shown ≤ room
 
   abbrev pub NextAs : Next → Type 0
-  NextAs (Over e) = Ends e
+  NextAs (Over e) = RunEnds e
   NextAs (Goes c seen st) = Advances c seen st

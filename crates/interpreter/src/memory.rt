@@ -14,6 +14,7 @@ ghost use lib.Seq.{sets};
 ghost use Rattle.bytes_le.specs.Numbers.{le};
 ghost use Rattle.machine.specs.Observations.{observationBytes};
 ghost use Rattle.interpreter.specs.Actions.{observationOf};
+ghost use Rattle.interpreter.specs.Stepping.{memoryAt};
 ghost use Rattle.interpreter.specs.Effects.{PushFits, pushed, PerformFits, Performed, seenBytes};
 
 // Puts a command on the pending list, above so many others.
@@ -49,8 +50,9 @@ pub fn perform(
     pending: &mut [u8],
     rest: usize,
 )
-    requires { ⌜ PerformFits change rest (length (now variables)) (length (now cells)) (length (now pending)) ⌝ }
-    ensures { λ _. ⌜ Performed change rest (now (variables .entry)) (now (cells .entry)) (now (pending .entry)) (now (variables .exit)) (now (cells .exit)) (now (pending .exit)) ⌝ }
+    requires { ⌜ PerformFits change rest (memoryAt (now variables) (now cells) (now pending)) ⌝ }
+    ensures { λ _. ⌜ Performed change rest (memoryAt (now (variables .entry)) (now (cells .entry)) (now (pending .entry)))
+        (memoryAt (now (variables .exit)) (now (cells .exit)) (now (pending .exit))) ⌝ }
 {
     match change {
         Change::PutBack { back } => {

@@ -1,10 +1,11 @@
-// Whole runs, of either machine.
+// Whole runs, on any board.
 ghost use Prim.Native.Nat.{_*_, _-_, _≤_};
 ghost use mathlib.Core.Path.{_≡_};
 ghost use lib.ListN.{length, replicate};
 ghost use lib.Seq.{sets};
 ghost use Rattle.bytes_le.specs.Numbers.{words};
-ghost use Rattle.interpreter.specs.Running.{Begun, StoppedAs, nextWord, reported, RunAsked, runOf, RunLeaves};
+ghost use Rattle.interpreter.specs.Stepping.{memoryAt};
+ghost use Rattle.interpreter.specs.Running.{Begun, StoppedAs, nextWord, reportWith, RunAsked, runOf, RunLeaves};
 use crate::memory::perform;
 use crate::memory::show;
 use crate::state::MachineState;
@@ -14,6 +15,7 @@ use awhile::Header;
 use bytes_le::get::u32_at;
 use bytes_le::put::put32;
 use directives::places::find_starts;
+use machine::Board;
 use machine::End;
 
 // Why a run is over, and the state in which its last step left it.
@@ -28,17 +30,17 @@ fn go_on(
     index: &[u16],
     starts: &[u16],
     directives: &[u8],
-    guessing: bool,
+    board: Board,
     variables: &mut [u8],
     cells: &mut [u8],
     pending: &mut [u8],
     observations: &mut [u8],
     budget: u32,
 ) -> Stopped
-    requires { ⌜ Begun (now table) (now index) (now starts) (now directives) budget (length (now observations)) (now variables) (now cells) (now pending) ⌝ }
-    ensures { λ r. ⌜ StoppedAs (now (table .entry)) (now (directives .entry)) guessing budget
-        (now (variables .entry)) (now (cells .entry)) (now (pending .entry)) (now (observations .entry))
-        (now (variables .exit)) (now (cells .exit)) (now (pending .exit)) (now (observations .exit)) r ⌝ }
+    requires { ⌜ Begun (now table) (now index) (now starts) (now directives) budget (length (now observations)) (memoryAt (now variables) (now cells) (now pending)) ⌝ }
+    ensures { λ r. ⌜ StoppedAs (now (table .entry)) (now (directives .entry)) board budget
+        (memoryAt (now (variables .entry)) (now (cells .entry)) (now (pending .entry))) (now (observations .entry))
+        (memoryAt (now (variables .exit)) (now (cells .exit)) (now (pending .exit))) (now (observations .exit)) r ⌝ }
 {
     let room = observations.len();
     let mut state = MachineState::start();
@@ -48,7 +50,7 @@ fn go_on(
             index,
             starts,
             directives,
-            guessing,
+            board,
             &*variables,
             &*cells,
             &*pending,
@@ -111,7 +113,7 @@ fn next_word(pending: &[u8], count: usize) -> u32
 
 // The numbers of a run that is over.
 fn numbers_of(stopped: Stopped, next: u32) -> Report
-    ensures { λ r. ⌜ r ≡ reported stopped next ⌝ }
+    ensures { λ r. ⌜ r ≡ reportWith stopped next ⌝ }
 {
     let end = stopped.end;
     let state = stopped.state;
@@ -131,17 +133,19 @@ pub fn run(
     index: &[u16],
     header: Header,
     directives: &[u8],
-    guessing: bool,
+    board: Board,
     variables: &mut [u8],
     cells: &mut [u8],
     pending: &mut [u8],
     observations: &mut [u8],
     budget: u32,
 ) -> Report
-    requires { ⌜ RunAsked (now table) (now index) (now directives) header (now variables) (now cells) (now pending) ⌝ }
-    ensures { λ r. ⌜ RunLeaves (runOf (now (table .entry)) (now (directives .entry)) guessing budget (now (variables .entry)) (now (cells .entry)) (now (observations .entry)))
-        (header .nodes) (now (pending .entry)) (now (observations .entry))
-        (now (variables .exit)) (now (cells .exit)) (now (pending .exit)) (now (observations .exit)) r ⌝ }
+    requires { ⌜ RunAsked (now table) (now index) (now directives) header (memoryAt (now variables) (now cells) (now pending)) ⌝ }
+    ensures { λ r. ⌜ RunLeaves
+        (runOf (now (table .entry)) (now (directives .entry)) board budget
+        (memoryAt (now (variables .entry)) (now (cells .entry)) (now (pending .entry))) (length (now (observations .entry))))
+        (header .nodes) (memoryAt (now (variables .entry)) (now (cells .entry)) (now (pending .entry))) (now (observations .entry))
+        (memoryAt (now (variables .exit)) (now (cells .exit)) (now (pending .exit))) (now (observations .exit)) r ⌝ }
 {
     let mut starts = [0u16; 17];
     let nodes = header.nodes;
@@ -152,7 +156,7 @@ pub fn run(
         index,
         &starts,
         directives,
-        guessing,
+        board,
         &mut *variables,
         &mut *cells,
         &mut *pending,

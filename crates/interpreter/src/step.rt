@@ -1,4 +1,4 @@
-// One step of a machine, decided before anything is changed: why it is not taken, or all that it does.
+// One step of a board, decided before anything is changed: why it is not taken, or all that it does.
 use crate::action::Action;
 use crate::action::look_at;
 use crate::state::MachineState;
@@ -9,9 +9,10 @@ use directives::fit::Fit;
 use directives::fit::fitting;
 use directives::guide::Guided;
 use directives::guide::guide;
+use machine::Board;
 use machine::End;
 ghost use mathlib.Core.Path.{_≡_};
-ghost use Rattle.interpreter.specs.Stepping.{bytesOf, Holds, NextAs};
+ghost use Rattle.interpreter.specs.Stepping.{memoryAt, shownSize, Between, NextAs};
 
 // What a step shows, if anything.
 pub enum Seen {
@@ -33,7 +34,7 @@ pub enum Next {
 
 // The length of an observation's record.
 fn bytes_of(shown: Shown) -> usize
-    ensures { λ r. ⌜ r ≡ bytesOf shown ⌝ }
+    ensures { λ r. ⌜ r ≡ shownSize shown ⌝ }
 {
     match shown {
         Shown::Fork {
@@ -54,13 +55,13 @@ fn bytes_of(shown: Shown) -> usize
     }
 }
 
-// The next step of either machine. The five ends are checked in their order.
+// The next step of a board. The five ends are checked in their order.
 pub fn next_step(
     table: &[u8],
     index: &[u16],
     starts: &[u16],
     directives: &[u8],
-    guessing: bool,
+    board: Board,
     variables: &[u8],
     cells: &[u8],
     pending: &[u8],
@@ -68,8 +69,9 @@ pub fn next_step(
     budget: u32,
     state: MachineState,
 ) -> Next
-    requires { ⌜ Holds (now table) (now index) (now starts) (now directives) budget room state (now variables) (now cells) (now pending) ⌝ }
-    ensures { λ r. ⌜ NextAs (now (table .entry)) (now (directives .entry)) guessing budget room state (now (variables .entry)) (now (cells .entry)) (now (pending .entry)) r ⌝ }
+    requires { ⌜ Between (now table) (now index) (now starts) (now directives) budget room state (memoryAt (now variables) (now cells) (now pending)) ⌝ }
+    ensures { λ r. ⌜ NextAs (now (table .entry)) (now (directives .entry)) board budget room state
+        (memoryAt (now (variables .entry)) (now (cells .entry)) (now (pending .entry))) r ⌝ }
 {
     let count = state.pending;
     if count == 0 {
@@ -91,7 +93,7 @@ pub fn next_step(
                 directive,
                 size,
                 used,
-            } = guide(directives, guessing, state.at)
+            } = guide(directives, board, state.at)
             else {
                 return Next::Over {
                     end: End::OutOfDirectives,

@@ -1,5 +1,11 @@
 // The plain and the guessing machine: the definitions and their theorems. The code is crates `directives` and `interpreter`.
 
+// The boards that a table runs on: the plain one takes every step as the program has it, the guessing one takes a directive for each shown step.
+pub enum Board {
+    Plain,
+    Guessing,
+}
+
 // What the attacker picks for one shown step.
 pub enum Directive {
     Step,

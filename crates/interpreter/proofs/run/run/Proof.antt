@@ -14,23 +14,23 @@ use Rattle.interpreter.proofs.run.run.Tie as tie
 module _ (d : tie.After-go-on) where
   within : (d .go-on .result .state .pending ≤ d .before .before .before .before .before .before .before .before .before .before .before .before .before .before .before .before .before .before .before .before .args .header .nodes) × (4 * d .before .before .before .before .before .before .before .before .before .before .before .before .before .before .before .before .before .before .before .before .args .header .nodes ≤ length (d .go-on .last .1 .1 .1 .1 .1 .1 .1 .0))
   within =
-      pending-within _ _ _ _ (slice-bytes _ (d .before .before .before .before .before .before .before .before .before .before .before .before .before .before .before .before .before .before .before .shared-slice-known .given)) _ _ _ (d .before .before .before .before .before .before .before .before .before .before .before .before .before .before .before .before .before .before .before .before .pre) _ (d .before .before .before .before .before .before .before .before .put32 .ensures) _ _ _ _ _ _ _ _ (d .go-on .ensures)
+      pending-within _ _ _ _ (slice-bytes _ (d .before .before .before .before .before .before .before .before .before .before .before .before .before .before .before .before .before .before .before .shared-slice-known .given)) _ (d .before .before .before .before .before .before .before .before .before .before .before .before .before .before .before .before .before .before .before .before .pre) _ (d .before .before .before .before .before .before .before .before .put32 .ensures) _ _ _ _ _ _ (d .go-on .ensures)
       (d .go-on .kept .1 .1 .1 .1 .1 .0) (d .go-on .kept .1 .1 .1 .1 .1 .1 .0) (d .go-on .kept .1 .1 .1 .1 .1 .1 .1 .0)
 
 find-starts-requires : tie.Need-find-starts-requires
-find-starts-requires c κs = (asked-header _ _ _ _ (slice-bytes _ (c .before .before .before .before .before .before .before .shared-slice-known .given)) _ _ _ (c .before .before .before .before .before .before .before .before .pre), refl)
+find-starts-requires c κs = (asked-header _ _ _ _ (slice-bytes _ (c .before .before .before .before .before .before .before .shared-slice-known .given)) _ (c .before .before .before .before .before .before .before .before .pre), refl)
 
 sub-put32 : tie.Need-sub-put32
-sub-put32 c = root-below _ _ _ _ (slice-bytes _ (c .before .before .before .before .before .before .before .before .before .before .shared-slice-known .given)) _ _ _ (c .before .before .before .before .before .before .before .before .before .before .before .pre) .0
+sub-put32 c = root-below _ _ _ _ (slice-bytes _ (c .before .before .before .before .before .before .before .before .before .before .shared-slice-known .given)) _ (c .before .before .before .before .before .before .before .before .before .before .before .pre) .0
 
 cast-put32 : tie.Need-cast-put32
-cast-put32 c = record { fits = root-below _ _ _ _ (slice-bytes _ (c .before .before .before .before .before .before .before .before .before .before .shared-slice-known .given)) _ _ _ (c .before .before .before .before .before .before .before .before .before .before .before .pre) .1 }
+cast-put32 c = record { fits = root-below _ _ _ _ (slice-bytes _ (c .before .before .before .before .before .before .before .before .before .before .shared-slice-known .given)) _ (c .before .before .before .before .before .before .before .before .before .before .before .pre) .1 }
 
 put32-requires : tie.Need-put32-requires
-put32-requires c κs = root-below _ _ _ _ (slice-bytes _ (c .before .before .before .before .before .before .before .before .before .before .shared-slice-known .given)) _ _ _ (c .before .before .before .before .before .before .before .before .before .before .before .pre) .2
+put32-requires c κs = root-below _ _ _ _ (slice-bytes _ (c .before .before .before .before .before .before .before .before .before .before .shared-slice-known .given)) _ (c .before .before .before .before .before .before .before .before .before .before .before .pre) .2
 
 go-on-requires : tie.Need-go-on-requires
-go-on-requires c κs = run-begins _ _ _ _ (slice-bytes _ (c .before .before .before .before .before .before .before .before .before .before .before .before .before .before .before .before .before .before .shared-slice-known .given)) _ _ _ (c .before .before .before .before .before .before .before .before .before .before .before .before .before .before .before .before .before .before .before .pre) _ (c .before .before .before .before .before .before .before .put32 .ensures) _ (c .before .before .before .before .before .before .before .before .before .before .find-starts .ensures) (c .before .before .before .before .before .before .before .before .before .before .find-starts .kept .1 .1 .0) _ _
+go-on-requires c κs = run-begins _ _ _ _ (slice-bytes _ (c .before .before .before .before .before .before .before .before .before .before .before .before .before .before .before .before .before .before .shared-slice-known .given)) _ (c .before .before .before .before .before .before .before .before .before .before .before .before .before .before .before .before .before .before .before .pre) _ (c .before .before .before .before .before .before .before .put32 .ensures) _ (c .before .before .before .before .before .before .before .before .before .before .find-starts .ensures) (c .before .before .before .before .before .before .before .before .before .before .find-starts .kept .1 .1 .0) _ _
 
 next-word-requires : tie.Need-next-word-requires
 next-word-requires c κs =
@@ -43,7 +43,7 @@ clear-requires c κs = within (c .before .before .before .before .before .before
 returns : tie.Need-returns
 returns c =
     let d = c .before .before .before .before .before .before .before .before .before .before .before .before .before .before .before .before in
-    run-leaves _ _ _ _ (slice-bytes _ (d .before .before .before .before .before .before .before .before .before .before .before .before .before .before .before .before .before .before .before .shared-slice-known .given)) _ _ _ (d .before .before .before .before .before .before .before .before .before .before .before .before .before .before .before .before .before .before .before .before .pre) _ (d .before .before .before .before .before .before .before .before .put32 .ensures) _ _ _ _ _ _ _ _ (d .go-on .ensures)
+    run-leaves _ _ _ _ (slice-bytes _ (d .before .before .before .before .before .before .before .before .before .before .before .before .before .before .before .before .before .before .before .shared-slice-known .given)) _ (d .before .before .before .before .before .before .before .before .before .before .before .before .before .before .before .before .before .before .before .before .pre) _ (d .before .before .before .before .before .before .before .before .put32 .ensures) _ _ _ _ _ _ (d .go-on .ensures)
     (d .go-on .kept .1 .1 .1 .1 .1 .0) (d .go-on .kept .1 .1 .1 .1 .1 .1 .0) (d .go-on .kept .1 .1 .1 .1 .1 .1 .1 .0)
     (slice-bytes _ (c .before .before .before .before .before .before .before .before .before .before .before .before .before .before .slice-known6 .given)) (slice-bytes _ (c .before .before .before .before .before .before .before .before .before .before .before .before .slice-known7 .given)) (slice-bytes _ (c .before .before .before .before .before .before .before .before .before .before .slice-known8 .given))
     _ (c .before .before .before .clear .ensures) _ (c .before .before .before .before .before .next-word .ensures) _ (c .numbers-of .ensures)

@@ -50,11 +50,11 @@ module _ (d : tie.After-look-at) where
       }
 
 guided-by : (d : tie.After-guide) (e : Directive) (size used : ℕ) → d .guide .result ≡ By e size used
-    → GoesBy (d .before .before .before .before .before .before .before .before .before .before .before .before .before .before .before .before .args .guessing) (now (d .before .before .before .before .before .before .before .before .before .before .before .before .before .before .before .before .args .directives)) (d .before .before .before .before .before .before .before .before .before .before .before .before .before .before .before .before .args .state .at) e size used
+    → GoesBy (d .before .before .before .before .before .before .before .before .before .before .before .before .before .before .before .before .args .board) (now (d .before .before .before .before .before .before .before .before .before .before .before .before .before .before .before .before .args .directives)) (d .before .before .before .before .before .before .before .before .before .before .before .before .before .before .before .before .args .state .at) e size used
 guided-by d e size used is = rw is at (d .guide .ensures)
 
 returns-2 : tie.Need-returns-2
-returns-2 c = ends-spent _ _ _ (c .before .before .before .before .before .before .before .before .before .before .args .budget) _ (c .before .before .before .before .before .before .before .before .before .before .args .state) _ _ _ (pos-of-ne-zero (c .before .before .if1 .left)) (c .if2 .taken)
+returns-2 c = ends-spent _ _ _ (c .before .before .before .before .before .before .before .before .before .before .args .budget) _ (c .before .before .before .before .before .before .before .before .before .before .args .state) _ (pos-of-ne-zero (c .before .before .if1 .left)) (c .if2 .taken)
 
 look-at-requires : tie.Need-look-at-requires
 look-at-requires c κs =
@@ -72,12 +72,12 @@ returns-3 : tie.Need-returns-3
 returns-3 c =
     let d = c .before .before .before .before .before .before in
     let out = rw (c .enum-told .given .1) at (c .before .before .guide .ensures) in
-    ends-out _ _ _ _ _ _ _ _ _ (here d) (d .before .before .if2 .left) (start d .pre .usedFit) (start d .pre .shownFit) _ (looked d _ (c .before .before .before .before .action2 .given .1)) out
+    ends-out _ _ _ _ _ _ _ (here d) (d .before .before .if2 .left) (start d .pre .usedFit) (start d .pre .shownFit) _ (looked d _ (c .before .before .before .before .action2 .given .1)) out
 
 returns-4 : tie.Need-returns-4
 returns-4 c =
     let d = c .before .before .before .before .before .before .before .before .before .before in
-    ends-stuck _ _ _ _ _ _ _ _ _ (here d) (d .before .before .if2 .left) (start d .pre .usedFit) (start d .pre .shownFit) _ (looked d _ (c .before .before .before .before .before .before .before .before .action2 .given .1)) _ _ _ (guided-by (c .before .before .before .before .before .before) _ _ _ (c .before .before .before .before .directive .given .1)) _ (c .before .before .fitting .ensures (tableOf (start d .args .table .now) .counts) (start d .pre .begins)) (c .enum-told2 .given .1)
+    ends-stuck _ _ _ _ _ _ _ (here d) (d .before .before .if2 .left) (start d .pre .usedFit) (start d .pre .shownFit) _ (looked d _ (c .before .before .before .before .before .before .before .before .action2 .given .1)) _ _ _ (guided-by (c .before .before .before .before .before .before) _ _ _ (c .before .before .before .before .directive .given .1)) _ (c .before .before .fitting .ensures (tableOf (start d .args .table .now) .counts) (start d .pre .begins)) (c .enum-told2 .given .1)
 
 sub-if3 : tie.Need-sub-if3
 sub-if3 c = omega (arith, start (c .before .before .before .before .before .before .before .before .before .before .before .before .before) .pre .shownFit)
@@ -85,7 +85,7 @@ sub-if3 c = omega (arith, start (c .before .before .before .before .before .befo
 returns-5 : tie.Need-returns-5
 returns-5 c =
     let d = c .before .before .before .before .before .before .before .before .before .before .before .before .before .before in
-    ends-full _ _ _ _ _ _ _ _ _ (here d) (d .before .before .if2 .left) (start d .pre .usedFit) (start d .pre .shownFit) _ (looked d _ (c .before .before .before .before .before .before .before .before .before .before .before .before .action2 .given .1)) _ _ _ (guided-by (c .before .before .before .before .before .before .before .before .before .before) _ _ _ (c .before .before .before .before .before .before .before .before .directive .given .1)) _ (c .before .before .before .before .before .before .fitting .ensures (tableOf (start d .args .table .now) .counts) (start d .pre .begins)) _ _ (c .before .before .before .before .change .given .1) _ (c .before .before .bytes-of .ensures) (c .if3 .taken)
+    ends-full _ _ _ _ _ _ _ (here d) (d .before .before .if2 .left) (start d .pre .usedFit) (start d .pre .shownFit) _ (looked d _ (c .before .before .before .before .before .before .before .before .before .before .before .before .action2 .given .1)) _ _ _ (guided-by (c .before .before .before .before .before .before .before .before .before .before) _ _ _ (c .before .before .before .before .before .before .before .before .directive .given .1)) _ (c .before .before .before .before .before .before .fitting .ensures (tableOf (start d .args .table .now) .counts) (start d .pre .begins)) _ _ (c .before .before .before .before .change .given .1) _ (c .before .before .bytes-of .ensures) (c .if3 .taken)
 
 stepped-requires : tie.Need-stepped-requires
 stepped-requires c κs =
@@ -97,19 +97,19 @@ returns-6 : tie.Need-returns-6
 returns-6 c =
     let d = c .before .before .before .before in
     rw (c .stepped-silently .ensures)
-    (advances-quietly _ _ _ _ _ _ _ _ _ (here d) (d .before .before .if2 .left) (start d .pre .usedFit) (start d .pre .shownFit) (start d .pre .readable) _ (looked d _ (c .before .before .action .given .1)))
+    (advances-quietly _ _ _ _ _ _ _ (here d) (d .before .before .if2 .left) (start d .pre .usedFit) (start d .pre .shownFit) (start d .pre .readable) _ (looked d _ (c .before .before .action .given .1)))
 
 returns-7 : tie.Need-returns-7
 returns-7 c =
     let d = c .before .before .before .before .before .before .before .before .before .before .before .before .before .before .before in
     rw (c .stepped .ensures)
-    (advances-showing _ _ _ _ _ _ _ _ _ (here d) (d .before .before .if2 .left) (start d .pre .usedFit) (start d .pre .shownFit) _ (looked d _ (c .before .before .before .before .before .before .before .before .before .before .before .before .before .action2 .given .1)) _ _ _ (guided-by (c .before .before .before .before .before .before .before .before .before .before .before) _ _ _ (c .before .before .before .before .before .before .before .before .before .directive .given .1)) _ (c .before .before .before .before .before .before .before .fitting .ensures (tableOf (start d .args .table .now) .counts) (start d .pre .begins)) _ _ (c .before .before .before .before .before .change .given .1) _ (c .before .before .before .bytes-of .ensures) (c .before .if3 .left))
+    (advances-showing _ _ _ _ _ _ _ (here d) (d .before .before .if2 .left) (start d .pre .usedFit) (start d .pre .shownFit) _ (looked d _ (c .before .before .before .before .before .before .before .before .before .before .before .before .before .action2 .given .1)) _ _ _ (guided-by (c .before .before .before .before .before .before .before .before .before .before .before) _ _ _ (c .before .before .before .before .before .before .before .before .before .directive .given .1)) _ (c .before .before .before .before .before .before .before .fitting .ensures (tableOf (start d .args .table .now) .counts) (start d .pre .begins)) _ _ (c .before .before .before .before .before .change .given .1) _ (c .before .before .before .bytes-of .ensures) (c .before .if3 .left))
 
 pub next-step-spec : {M : Type 1} → statement M
 next-step-spec =
     tie.close
     (tie.spec
-    (λ c. ends-finished _ _ _ _ _ _ _ _ _ (c .if1 .taken))
+    (λ c. ends-finished _ _ _ _ _ _ _ (c .if1 .taken))
     returns-2
     (λ c. search needs)
     (λ c. search needs)
