@@ -1,11 +1,12 @@
 -- What the inner functions of the running entries answer and leave.
 use Prim.Native.Nat.{ℕ}
-use mathlib.Core.Bool.{Bool, cond}
+use mathlib.Core.Bool.{cond}
 use mathlib.Core.List.{List, [], _∷_}
 use mathlib.Core.Path.{_≡_}
 use Rattle.awhile.specs.Refusals.{Answer, refused, got, check, andThen, refusalNumber}
 use Rattle.awhile.specs.Tables.{Table, readTable}
 use Rattle.reader.specs.Index.{tableOf}
+use Rattle.machine.specs.declared.Board.{Board}
 use Rattle.awhile.specs.declared.Refusal.{Refusal}
 use Rattle.awhile.specs.declared.Refusal.the-variants.{BadDirectives}
 use Rattle.machine.specs.Directives.{readDirectives}
@@ -37,15 +38,15 @@ unfoldable pub runnable : (directives : List ℕ) → Lent → Table → Answer 
 runnable list lent t = check (isSome (readDirectives list)) BadDirectives (lentFor lent t)
 
 -- what a call on an answer of the reader came to: the lent slices at exit
-pub data CameTo (a : Answer Table) (list : List ℕ) (guessing : Bool) (budget : ℕ) (lent lent′ : Lent) : Done → Type 0 where
-  not-run : (r : Refusal) → a ≡ refused r → lent′ ≡ lent → CameTo a list guessing budget lent lent′ (Refused r)
-  has-run : (t : Table) (r : Report) → a ≡ got t → lent′ ≡ ranAll t lent [] (runIn t lent budget (guideOf guessing list 0)) .lent
-      → r ≡ reportOf (runIn t lent budget (guideOf guessing list 0)) → CameTo a list guessing budget lent lent′ (Ended r)
+pub data CameTo (a : Answer Table) (list : List ℕ) (board : Board) (budget : ℕ) (lent lent′ : Lent) : Done → Type 0 where
+  not-run : (r : Refusal) → a ≡ refused r → lent′ ≡ lent → CameTo a list board budget lent lent′ (Refused r)
+  has-run : (t : Table) (r : Report) → a ≡ got t → lent′ ≡ ranAll t lent [] (runIn t lent budget (guideOf board list 0)) .lent
+      → r ≡ reportOf (runIn t lent budget (guideOf board list 0)) → CameTo a list board budget lent lent′ (Ended r)
 
 -- for a table that was read
-pub record DoneAs (table list : List ℕ) (guessing : Bool) (budget : ℕ) (lent lent′ : Lent) (done : Done) : Type 0 where
-  pub came : CameTo (runnable list lent (tableOf table)) list guessing budget lent lent′ done
+pub record DoneAs (table list : List ℕ) (board : Board) (budget : ℕ) (lent lent′ : Lent) (done : Done) : Type 0 where
+  pub came : CameTo (runnable list lent (tableOf table)) list board budget lent lent′ done
 
 -- for any table
-pub record ReadDone (table list : List ℕ) (guessing : Bool) (budget : ℕ) (lent lent′ : Lent) (done : Done) : Type 0 where
-  pub came : CameTo (andThen (readTable table) (runnable list lent)) list guessing budget lent lent′ done
+pub record ReadDone (table list : List ℕ) (board : Board) (budget : ℕ) (lent lent′ : Lent) (done : Done) : Type 0 where
+  pub came : CameTo (andThen (readTable table) (runnable list lent)) list board budget lent lent′ done

@@ -7,6 +7,7 @@ use awhile::Refusal;
 use directives::list::reads;
 use interpreter::run::Report;
 use interpreter::run::run;
+use machine::Board;
 use machine::End;
 use reader::Read;
 use reader::tables::read;
@@ -73,7 +74,7 @@ fn run_read(
     index: &[u16],
     declared: Declarations,
     directives: &[u8],
-    guessing: bool,
+    board: Board,
     variables: &mut [u8],
     cells: &mut [u8],
     pending: &mut [u8],
@@ -81,7 +82,7 @@ fn run_read(
     budget: u32,
 ) -> Done
     requires { ⌜ Ready (now table) (now index) declared ⌝ }
-    ensures { λ r. ⌜ DoneAs (now (table .entry)) (now (directives .entry)) guessing budget
+    ensures { λ r. ⌜ DoneAs (now (table .entry)) (now (directives .entry)) board budget
         (lentAt (now (variables .entry)) (now (cells .entry)) (now (pending .entry)) (now (observations .entry)))
         (lentAt (now (variables .exit)) (now (cells .exit)) (now (pending .exit)) (now (observations .exit))) r ⌝ }
 {
@@ -111,7 +112,7 @@ fn run_read(
         index,
         header,
         directives,
-        guessing,
+        board,
         &mut *variables,
         &mut *cells,
         &mut *pending,
@@ -125,14 +126,14 @@ fn run_read(
 fn read_and_run(
     table: &[u8],
     directives: &[u8],
-    guessing: bool,
+    board: Board,
     variables: &mut [u8],
     cells: &mut [u8],
     pending: &mut [u8],
     observations: &mut [u8],
     budget: u32,
 ) -> Done
-    ensures { λ r. ⌜ ReadDone (now (table .entry)) (now (directives .entry)) guessing budget
+    ensures { λ r. ⌜ ReadDone (now (table .entry)) (now (directives .entry)) board budget
         (lentAt (now (variables .entry)) (now (cells .entry)) (now (pending .entry)) (now (observations .entry)))
         (lentAt (now (variables .exit)) (now (cells .exit)) (now (pending .exit)) (now (observations .exit))) r ⌝ }
 {
@@ -145,7 +146,7 @@ fn read_and_run(
             &index,
             declared,
             directives,
-            guessing,
+            board,
             &mut *variables,
             &mut *cells,
             &mut *pending,
@@ -175,7 +176,7 @@ pub extern "C" fn flow_run(
     let done = read_and_run(
         table,
         none,
-        false,
+        Board::Plain,
         &mut *variables,
         &mut *cells,
         &mut *pending,
@@ -204,7 +205,7 @@ pub extern "C" fn flow_guess(
     let done = read_and_run(
         table,
         directives,
-        true,
+        Board::Guessing,
         &mut *variables,
         &mut *cells,
         &mut *pending,

@@ -32,7 +32,7 @@ returns-4 c = short-pending _ _ _ _ (c .before .before .before .before .before .
 run-requires : tie.Need-run-requires
 run-requires c κs =
     let start = c .before .before .before .before .before .before .before .before .before .before .before .before .before .before .before .before .before .before .before .before in
-    run-asked _ _ _ _ (start .pre) (start .args .guessing) (start .args .budget) _ _ _ (now (start .args .observations)) _ (c .before .before .before .before .before .before .before .before .before .before .before .reads .ensures) (not-false _ (c .before .before .before .before .before .before .before .before .before .before .if1 .left)) (c .before .before .before .before .before .before .before .before .if2 .left) (c .before .before .before .before .before .before .if3 .left) (c .before .before .before .before .if4 .left)
+    run-asked _ _ _ _ (start .pre) (start .args .board) (start .args .budget) _ _ _ (now (start .args .observations)) _ (c .before .before .before .before .before .before .before .before .before .before .before .reads .ensures) (not-false _ (c .before .before .before .before .before .before .before .before .before .before .if1 .left)) (c .before .before .before .before .before .before .before .before .if2 .left) (c .before .before .before .before .before .before .if3 .left) (c .before .before .before .before .if4 .left)
 
 returns-5 : tie.Need-returns-5
 returns-5 c =
