@@ -1,160 +1,7 @@
 // Runs of a table, on the plain machine and on the guessing one.
-use answers::slice::answer_refusal;
-use answers::slice::answer_run;
-use awhile::Declarations;
-use awhile::MAX_NODES;
-use awhile::Refusal;
-use directives::list::reads;
-use interpreter::run::Report;
-use interpreter::run::run;
-use machine::Board;
-use machine::End;
-use reader::Read;
-use reader::tables::read;
-ghost use mathlib.Core.Bool.{cond};
-ghost use mathlib.Core.Path.{_≡_};
-ghost use Rattle.machine.specs.Runs.{endNumber};
-ghost use Rattle.reader.specs.Index.{Ready};
-ghost use Rattle.entries.specs.Answers.{answered};
-ghost use Rattle.flow.specs.Runs.{resultOf, numbersOf, DoneAs, ReadDone};
+use running::machines::run_guessing;
+use running::machines::run_plain;
 ghost use Rattle.entries.specs.Promises.{lentAt, Runs, Guesses};
-
-// What a call that runs came to.
-pub enum Done {
-    Refused { refusal: Refusal },
-    Ended { report: Report },
-}
-
-// Document 01's number of an end.
-fn number_of(end: End) -> u64
-    ensures { λ r. ⌜ r ≡ endNumber end ⌝ }
-{
-    match end {
-        End::Finished => 1,
-        End::Spent => 2,
-        End::OutOfDirectives => 3,
-        End::Stuck => 4,
-        End::Full => 5,
-    }
-}
-
-fn bit(flag: bool) -> u64
-    ensures { λ r. ⌜ r ≡ cond flag 1 0 ⌝ }
-{
-    if flag { 1 } else { 0 }
-}
-
-// The answer of a call that runs, and its first number.
-fn answer_done(answer: &mut [u8], done: Done) -> u64
-    ensures { λ r. ⌜ (r ≡ resultOf done) × (now (answer .exit) ≡ answered (numbersOf done) (now (answer .entry))) ⌝ }
-{
-    match done {
-        Done::Refused { refusal } => answer_refusal(&mut *answer, refusal),
-        Done::Ended { report } => {
-            let end = report.end;
-            let number = number_of(end);
-            let flag = bit(report.flag);
-            answer_run(
-                &mut *answer,
-                number,
-                report.steps as u64,
-                report.used as u64,
-                report.shown as u64,
-                flag,
-                report.next as u64,
-            );
-            0
-        }
-    }
-}
-
-// Runs a table that was read, if the list reads and the slices have the right lengths.
-fn run_read(
-    table: &[u8],
-    index: &[u16],
-    declared: Declarations,
-    directives: &[u8],
-    board: Board,
-    variables: &mut [u8],
-    cells: &mut [u8],
-    pending: &mut [u8],
-    observations: &mut [u8],
-    budget: u32,
-) -> Done
-    requires { ⌜ Ready (now table) (now index) declared ⌝ }
-    ensures { λ r. ⌜ DoneAs (now (table .entry)) (now (directives .entry)) board budget
-        (lentAt (now (variables .entry)) (now (cells .entry)) (now (pending .entry)) (now (observations .entry)))
-        (lentAt (now (variables .exit)) (now (cells .exit)) (now (pending .exit)) (now (observations .exit))) r ⌝ }
-{
-    let header = declared.header;
-    if !reads(directives) {
-        return Done::Refused {
-            refusal: Refusal::BadDirectives,
-        };
-    }
-    if variables.len() != 4 * header.variables {
-        return Done::Refused {
-            refusal: Refusal::WrongVariables,
-        };
-    }
-    if cells.len() != 4 * declared.cells {
-        return Done::Refused {
-            refusal: Refusal::WrongCells,
-        };
-    }
-    if pending.len() < 4 * header.nodes {
-        return Done::Refused {
-            refusal: Refusal::ShortPending,
-        };
-    }
-    let report = run(
-        table,
-        index,
-        header,
-        directives,
-        board,
-        &mut *variables,
-        &mut *cells,
-        &mut *pending,
-        &mut *observations,
-        budget,
-    );
-    Done::Ended { report }
-}
-
-// Reads a table and runs it.
-fn read_and_run(
-    table: &[u8],
-    directives: &[u8],
-    board: Board,
-    variables: &mut [u8],
-    cells: &mut [u8],
-    pending: &mut [u8],
-    observations: &mut [u8],
-    budget: u32,
-) -> Done
-    ensures { λ r. ⌜ ReadDone (now (table .entry)) (now (directives .entry)) board budget
-        (lentAt (now (variables .entry)) (now (cells .entry)) (now (pending .entry)) (now (observations .entry)))
-        (lentAt (now (variables .exit)) (now (cells .exit)) (now (pending .exit)) (now (observations .exit))) r ⌝ }
-{
-    let mut index = [0u16; MAX_NODES];
-    let found = read(table, &mut index);
-    match found {
-        Read::Refused { refusal } => Done::Refused { refusal },
-        Read::Accepted { declared } => run_read(
-            table,
-            &index,
-            declared,
-            directives,
-            board,
-            &mut *variables,
-            &mut *cells,
-            &mut *pending,
-            &mut *observations,
-            budget,
-        ),
-    }
-}
 
 // Runs a table on the plain machine.
 #[no_mangle]
@@ -171,19 +18,15 @@ pub extern "C" fn flow_run(
         (lentAt (now (variables .entry)) (now (cells .entry)) (now (pending .entry)) (now (observations .entry))) budget (now (answer .entry)) r
         (lentAt (now (variables .exit)) (now (cells .exit)) (now (pending .exit)) (now (observations .exit))) (now (answer .exit)) ⌝ }
 {
-    // the plain machine asks for no directives
-    let none = &table[..0];
-    let done = read_and_run(
+    run_plain(
         table,
-        none,
-        Board::Plain,
         &mut *variables,
         &mut *cells,
         &mut *pending,
         &mut *observations,
         budget,
-    );
-    answer_done(&mut *answer, done)
+        &mut *answer,
+    )
 }
 
 // Runs a table on the guessing machine, under a list of directives.
@@ -202,15 +45,14 @@ pub extern "C" fn flow_guess(
         (lentAt (now (variables .entry)) (now (cells .entry)) (now (pending .entry)) (now (observations .entry))) budget (now (answer .entry)) r
         (lentAt (now (variables .exit)) (now (cells .exit)) (now (pending .exit)) (now (observations .exit))) (now (answer .exit)) ⌝ }
 {
-    let done = read_and_run(
+    run_guessing(
         table,
         directives,
-        Board::Guessing,
         &mut *variables,
         &mut *cells,
         &mut *pending,
         &mut *observations,
         budget,
-    );
-    answer_done(&mut *answer, done)
+        &mut *answer,
+    )
 }

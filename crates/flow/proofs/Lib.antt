@@ -1,3 +1,0 @@
--- Laws of this crate.
-pub mod HardenedCalls
-pub mod Runs

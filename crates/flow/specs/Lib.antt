@@ -1,3 +1,0 @@
--- What the code inside the entries asks and answers.
-pub mod Writes
-pub mod Runs

@@ -1,0 +1,2 @@
+-- What the code of the hardening entry asks.
+pub mod Writes

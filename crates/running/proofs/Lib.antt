@@ -1,0 +1,2 @@
+-- Laws of this crate.
+pub mod Runs

@@ -1,0 +1,2 @@
+-- What the code of the two entries that run a table answers and leaves.
+pub mod Runs
