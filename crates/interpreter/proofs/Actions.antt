@@ -8,7 +8,7 @@ use Rattle.awhile.specs.declared.Sort.the-variants.{Command}
 use Rattle.awhile.specs.declared.Node.the-variants.{Skip, Sequence, If, While, Read, Write}
 use Rattle.awhile.specs.declared.Node.the-variants.{Assign as AssignNode}
 use Rattle.machine.specs.Look.{look}
-use Rattle.interpreter.specs.Evaluation.{valueIn, truthIn}
+use Rattle.interpreter.specs.Evaluation.{valueIn, holdsIn}
 use Rattle.interpreter.specs.Actions.{backOn, quietLook, shownLook, lookOf, CommandAt, Looked}
 use Rattle.directives.specs.declared.change.Back.the-variants.{Nothing, One, Two}
 use Rattle.directives.specs.declared.change.Change.the-variants.{PutBack, Assign}
@@ -35,16 +35,16 @@ module _ (table variables : List ℕ) (n : ℕ) where
   looked-sequence c d r is parts =
       rw is (record { isLook = λ rest. rw (parts .2, look); fits = (child-command d (parts .1), child-command c (parts .0)) })
 
-  pub looked-if : (b c d : ℕ) (v : Bool) (r : Action) → r ≡ Show (Fork v (One c) (One d)) → v ≡ truthIn table variables b → Parts table n (If b c d)
+  pub looked-if : (b c d : ℕ) (v : Bool) (r : Action) → r ≡ Show (Fork v (One c) (One d)) → v ≡ holdsIn table variables b → Parts table n (If b c d)
       → Looked table variables n r
-  unfolding look lookOf shownLook backOn truthIn
+  unfolding look lookOf shownLook backOn holdsIn
   looked-if b c d v r is truth parts =
       rw is (rw truth (record { isLook = λ rest. rw (parts .3, look); fits = (child-command c (parts .1), child-command d (parts .2)) }))
 
-  pub looked-while : (b c : ℕ) (v : Bool) (r : Action) → r ≡ Show (Fork v (Two n c) Nothing) → v ≡ truthIn table variables b → CommandAt table n
+  pub looked-while : (b c : ℕ) (v : Bool) (r : Action) → r ≡ Show (Fork v (Two n c) Nothing) → v ≡ holdsIn table variables b → CommandAt table n
       → Parts table n (While b c)
       → Looked table variables n r
-  unfolding look lookOf shownLook backOn truthIn
+  unfolding look lookOf shownLook backOn holdsIn
   looked-while b c v r is truth self parts =
       rw is (rw truth (record { isLook = λ rest. rw (parts .2, look); fits = ((self, child-command c (parts .1)), tt) }))
 

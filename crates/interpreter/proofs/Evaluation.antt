@@ -9,15 +9,14 @@ use native.Mathlib.Omega.{arith}
 use Rattle.bytes_le.specs.Numbers.{leAt}
 use Rattle.bytes_le.proofs.Numbers.{Below}
 use Rattle.awhile.specs.Language.{AExp, BExp, valueOf, truthOf}
-use Rattle.reader.specs.Index.{nodeIn, numericIn}
-use Rattle.reader.specs.Index.{truthIn as truthTreeIn}
+use Rattle.reader.specs.Index.{nodeIn, numericIn, truthIn}
 use Rattle.reader.proofs.Index.{Child, Parts, indexed-parts}
 use Rattle.awhile.specs.declared.Sort.{Sort}
 use Rattle.awhile.specs.declared.Sort.the-variants.{Numeric, Truth}
 use Rattle.awhile.specs.declared.Node.{Node}
 use Rattle.awhile.specs.declared.Node.the-variants.{Number, Variable, Add, Subtract, Multiply, Choice}
 use Rattle.awhile.specs.declared.Node.the-variants.{Constant, Equal, Less, Not, And}
-use Rattle.interpreter.specs.Evaluation.{NodeOf, variablesIn, valueIn, truthIn}
+use Rattle.interpreter.specs.Evaluation.{NodeOf, variablesIn, valueIn, holdsIn}
 use Rattle.interpreter.proofs.Words.{word-at}
 
 module _ (table index variables : List ℕ) (n : ℕ) where
@@ -54,8 +53,8 @@ module _ (table variables : List ℕ) (n : ℕ) where
   unfolding valueIn
   value-tree is = ap (λ t. valueOf t (variablesIn table variables)) is
 
-  truth-tree : {e : BExp} → truthTreeIn table n ≡ e → truthIn table variables n ≡ truthOf e (variablesIn table variables)
-  unfolding truthIn
+  truth-tree : {e : BExp} → truthIn table n ≡ e → holdsIn table variables n ≡ truthOf e (variablesIn table variables)
+  unfolding holdsIn
   truth-tree is = ap (λ t. truthOf t (variablesIn table variables)) is
 
   -- the values of nodes without operands
@@ -67,7 +66,7 @@ module _ (table variables : List ℕ) (n : ℕ) where
   unfolding valueOf variablesIn
   value-variable {x} parts is = is ∙ sym (value-tree (parts .1) ∙ word-at _ variables x (parts .0))
 
-  pub truth-constant : {v : ℕ} → Parts table n (Constant v) → eqb v 1 ≡ truthIn table variables n
+  pub truth-constant : {v : ℕ} → Parts table n (Constant v) → eqb v 1 ≡ holdsIn table variables n
   unfolding truthOf
   truth-constant parts = sym (truth-tree (parts .1))
 
@@ -85,26 +84,26 @@ module _ (table variables : List ℕ) (n : ℕ) where
     unfolding valueOf valueIn
     value-multiply parts is = is ∙ rw (values .0, values .1) (sym (value-tree (parts .2)))
 
-    pub truth-equal : Parts table n (Equal a b) → eqb x y ≡ truthIn table variables n
+    pub truth-equal : Parts table n (Equal a b) → eqb x y ≡ holdsIn table variables n
     unfolding truthOf valueIn
     truth-equal parts = rw (values .0, values .1) (sym (truth-tree (parts .2)))
 
-    pub truth-less : Parts table n (Less a b) → ltb x y ≡ truthIn table variables n
+    pub truth-less : Parts table n (Less a b) → ltb x y ≡ holdsIn table variables n
     unfolding truthOf valueIn
     truth-less parts = rw (values .0, values .1) (sym (truth-tree (parts .2)))
 
   -- the values of nodes over truths
   pub value-choice : {c a b r : ℕ} → Parts table n (Choice c a b)
-      → r ≡ cond (truthIn table variables c) (valueIn table variables a) (valueIn table variables b) → r ≡ valueIn table variables n
-  unfolding valueOf valueIn truthIn
+      → r ≡ cond (holdsIn table variables c) (valueIn table variables a) (valueIn table variables b) → r ≡ valueIn table variables n
+  unfolding valueOf valueIn holdsIn
   value-choice parts is = is ∙ sym (value-tree (parts .3))
 
-  pub truth-not : {a : ℕ} {r : Bool} → Parts table n (Not a) → r ≡ negated (truthIn table variables a) → r ≡ truthIn table variables n
-  unfolding truthOf truthIn
+  pub truth-not : {a : ℕ} {r : Bool} → Parts table n (Not a) → r ≡ negated (holdsIn table variables a) → r ≡ holdsIn table variables n
+  unfolding truthOf holdsIn
   truth-not parts is = is ∙ sym (truth-tree (parts .1))
 
-  pub truth-and : {a b : ℕ} {r : Bool} → Parts table n (And a b) → r ≡ (truthIn table variables a && truthIn table variables b) → r ≡ truthIn table variables n
-  unfolding truthOf truthIn
+  pub truth-and : {a b : ℕ} {r : Bool} → Parts table n (And a b) → r ≡ (holdsIn table variables a && holdsIn table variables b) → r ≡ holdsIn table variables n
+  unfolding truthOf holdsIn
   truth-and parts is = is ∙ sym (truth-tree (parts .2))
 
 -- which of two values a test chooses, and whether a second test counts

@@ -7,8 +7,7 @@ use lib.ListN.{length}
 use Rattle.bytes_le.specs.Numbers.{fromWords}
 use Rattle.awhile.specs.Language.{valueOf, truthOf}
 use Rattle.awhile.specs.Nodes.{sortOf}
-use Rattle.reader.specs.Index.{Indexed, tableOf, nodesIn, nodeIn, numericIn}
-use Rattle.reader.specs.Index.{truthIn as truthTreeIn}
+use Rattle.reader.specs.Index.{Indexed, tableOf, nodesIn, nodeIn, numericIn, truthIn}
 use Rattle.awhile.specs.declared.Sort.{Sort}
 
 -- a node of a sort in an indexed table, and a slice with a word for each variable
@@ -26,5 +25,6 @@ variablesIn table variables = fromWords (tableOf table .variables) variables
 unfoldable pub valueIn : (table variables : List ℕ) → (n : ℕ) → ℕ
 valueIn table variables n = valueOf (numericIn table n) (variablesIn table variables)
 
-unfoldable pub truthIn : (table variables : List ℕ) → (n : ℕ) → Bool
-truthIn table variables n = truthOf (truthTreeIn table n) (variablesIn table variables)
+-- whether a truth node's expression is true
+unfoldable pub holdsIn : (table variables : List ℕ) → (n : ℕ) → Bool
+holdsIn table variables n = truthOf (truthIn table n) (variablesIn table variables)

@@ -10,7 +10,7 @@ ghost use Prim.Native.Nat.{_+_, _-_, _*_, _%_, _^_};
 ghost use mathlib.Core.Bool.{cond, not, _&&_};
 ghost use mathlib.Core.Path.{_≡_};
 ghost use Rattle.awhile.specs.declared.Sort.the-variants.{Numeric, Truth};
-ghost use Rattle.interpreter.specs.Evaluation.{NodeOf, valueIn, truthIn};
+ghost use Rattle.interpreter.specs.Evaluation.{NodeOf, valueIn, holdsIn};
 
 // The product modulo 2^32.
 fn product(a: u32, b: u32) -> u32
@@ -52,7 +52,7 @@ fn chosen(
 ) -> u32
     requires { ⌜ NodeOf Truth (now table) (now index) (now variables) condition
         × NodeOf Numeric (now table) (now index) (now variables) yes × NodeOf Numeric (now table) (now index) (now variables) no ⌝ }
-    ensures { λ r. ⌜ r ≡ cond (truthIn (now (table .entry)) (now (variables .entry)) condition)
+    ensures { λ r. ⌜ r ≡ cond (holdsIn (now (table .entry)) (now (variables .entry)) condition)
         (valueIn (now (table .entry)) (now (variables .entry)) yes) (valueIn (now (table .entry)) (now (variables .entry)) no) ⌝ }
 {
     if truth(table, index, variables, condition) {
@@ -92,7 +92,7 @@ pub fn value(table: &[u8], index: &[u16], variables: &[u8], n: usize) -> u32
 // Whether a truth node is false.
 fn is_false(table: &[u8], index: &[u16], variables: &[u8], part: usize) -> bool
     requires { ⌜ NodeOf Truth (now table) (now index) (now variables) part ⌝ }
-    ensures { λ r. ⌜ r ≡ not (truthIn (now (table .entry)) (now (variables .entry)) part) ⌝ }
+    ensures { λ r. ⌜ r ≡ not (holdsIn (now (table .entry)) (now (variables .entry)) part) ⌝ }
 {
     let t = truth(table, index, variables, part);
     !t
@@ -101,7 +101,7 @@ fn is_false(table: &[u8], index: &[u16], variables: &[u8], part: usize) -> bool
 // Whether two truth nodes are both true.
 fn both_true(table: &[u8], index: &[u16], variables: &[u8], left: usize, right: usize) -> bool
     requires { ⌜ NodeOf Truth (now table) (now index) (now variables) left × NodeOf Truth (now table) (now index) (now variables) right ⌝ }
-    ensures { λ r. ⌜ r ≡ (truthIn (now (table .entry)) (now (variables .entry)) left && truthIn (now (table .entry)) (now (variables .entry)) right) ⌝ }
+    ensures { λ r. ⌜ r ≡ (holdsIn (now (table .entry)) (now (variables .entry)) left && holdsIn (now (table .entry)) (now (variables .entry)) right) ⌝ }
 {
     if truth(table, index, variables, left) {
         truth(table, index, variables, right)
@@ -113,7 +113,7 @@ fn both_true(table: &[u8], index: &[u16], variables: &[u8], left: usize, right: 
 // The value of a truth node.
 pub fn truth(table: &[u8], index: &[u16], variables: &[u8], n: usize) -> bool
     requires { ⌜ NodeOf Truth (now table) (now index) (now variables) n ⌝ }
-    ensures { λ r. ⌜ r ≡ truthIn (now (table .entry)) (now (variables .entry)) n ⌝ }
+    ensures { λ r. ⌜ r ≡ holdsIn (now (table .entry)) (now (variables .entry)) n ⌝ }
 {
     let node = truth_at(table, index, n);
     match node {

@@ -11,7 +11,7 @@ use Rattle.awhile.specs.Nodes.{sortOf}
 use Rattle.awhile.proofs.Unnamed.{never-numeric, never-truth}
 use Rattle.reader.proofs.Index.{Parts}
 use Rattle.awhile.specs.declared.Node.{Node}
-use Rattle.interpreter.specs.Evaluation.{valueIn, truthIn}
+use Rattle.interpreter.specs.Evaluation.{valueIn, holdsIn}
 use Rattle.interpreter.proofs.Evaluation.{asked-parts, call-child, call-pair, call-choice}
 use Rattle.interpreter.proofs.Evaluation.{value-number, value-variable, value-add, value-subtract, value-multiply, value-choice}
 use Rattle.interpreter.proofs.Evaluation.{truth-constant, truth-equal, truth-less, truth-not, truth-and}
@@ -111,7 +111,7 @@ pub +both-true+both-values+chosen+is-false+truth+value-spec : {M : Type 1} → s
     (λ c κs. let start = c .before .before .before in (omega (arith, start .pre .0), start .pre .1 .0))
     (λ c κs. let start = c .before .before .before .before .before in (omega (arith, start .pre .0), start .pre .1 .1))
     (λ c. both-second (c .before .before .truth .ensures) (c .before .if1 .taken) (c .truth2 .ensures))
-    (λ c. let args = c .before .before .before .before .before .args in both-first (c .before .truth .ensures) (truthIn (now (args .table)) (now (args .variables)) (args .right)) (c .if1 .left)))
+    (λ c. let args = c .before .before .before .before .before .args in both-first (c .before .truth .ensures) (holdsIn (now (args .table)) (now (args .variables)) (args .right)) (c .if1 .left)))
     (λ t. both-values-lts.spec (both-values-calls t) (at both-values-kinds.ps μ-both-values both-values.Pre t) both-values.Post
     (λ c κs. let start = c .before .before .before in (omega (arith, start .pre .0), start .pre .1 .0))
     (λ c κs. let start = c .before .before .before .before in (omega (arith, start .pre .0), start .pre .1 .1))
