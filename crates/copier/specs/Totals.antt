@@ -55,7 +55,7 @@ pub record OverThree (first second third answer : ℕ) : Type 0 where
       → Totals (copy ++ (next ++ (last ++ (n ∷ [])))) answer
 
 -- a slice has a total for a node, and it is no larger than any can be
-pub record Holds (totals : List ℕ) (n : ℕ) : Type 0 where
+pub record HasTotal (totals : List ℕ) (n : ℕ) : Type 0 where
   pub inside : n < length totals
   pub small : getD totals n 0 ≤ largest
 

@@ -3,7 +3,7 @@
 ghost use Prim.Native.Nat.{_+_, _^_, _<_};
 ghost use mathlib.Core.Path.{_≡_};
 ghost use lib.ListN.{getD};
-ghost use Rattle.copier.specs.Totals.{total, bytesTold, OverOne, OverTwo, OverThree, Holds};
+ghost use Rattle.copier.specs.Totals.{total, bytesTold, OverOne, OverTwo, OverThree, HasTotal};
 
 // One node, in a total.
 pub const NODE: u32 = 65536;
@@ -25,21 +25,21 @@ pub fn bytes_told(total: u32) -> usize
 
 // A node over one part: a record of 6 bytes. And over two and three parts.
 pub fn over_one(totals: &[u32], first: usize) -> u32
-    requires { ⌜ Holds (now totals) first ⌝ }
+    requires { ⌜ HasTotal (now totals) first ⌝ }
     ensures { λ r. ⌜ OverOne (getD (now (totals .entry)) first 0) r ⌝ }
 {
     more(totals[first], 1, 6)
 }
 
 pub fn over_two(totals: &[u32], first: usize, second: usize) -> u32
-    requires { ⌜ Holds (now totals) first × Holds (now totals) second ⌝ }
+    requires { ⌜ HasTotal (now totals) first × HasTotal (now totals) second ⌝ }
     ensures { λ r. ⌜ OverTwo (getD (now (totals .entry)) first 0) (getD (now (totals .entry)) second 0) r ⌝ }
 {
     more(totals[first] + totals[second], 1, 8)
 }
 
 pub fn over_three(totals: &[u32], first: usize, second: usize, third: usize) -> u32
-    requires { ⌜ Holds (now totals) first × Holds (now totals) second × Holds (now totals) third ⌝ }
+    requires { ⌜ HasTotal (now totals) first × HasTotal (now totals) second × HasTotal (now totals) third ⌝ }
     ensures { λ r. ⌜ OverThree (getD (now (totals .entry)) first 0) (getD (now (totals .entry)) second 0) (getD (now (totals .entry)) third 0) r ⌝ }
 {
     more(totals[first] + totals[second] + totals[third], 1, 10)

@@ -22,7 +22,7 @@ use Rattle.masks.proofs.Growth.{hardened-most, nodesOf-mapped}
 use Rattle.masking.specs.Deciding.{decisionIn, decidedIn}
 use Rattle.masking.specs.InMemory.{hardenedAt}
 use Rattle.copier.specs.Sizes.{bytesOf}
-use Rattle.copier.specs.Totals.{total, totalOf, Totals, OverTwo, Holds, NumericTotal, TruthTotal}
+use Rattle.copier.specs.Totals.{total, totalOf, Totals, OverTwo, HasTotal, NumericTotal, TruthTotal}
 use Rattle.copier.proofs.Lengths.{counted-C, bytes-A, bytes-B, bytes-C}
 use Rattle.copier.proofs.NodeTotals.{counted-total-A, counted-total-B, numeric-node, truth-node, command-node, totals-every-copy}
 use Rattle.hardener.specs.Sizes.{Sizable, NodeSize, SizesBelow, AllSized}
@@ -103,7 +103,7 @@ module _ {table ds totals : List ℕ} {n : ℕ} (t : SizesBelow table ds totals 
 
   -- ---- the totals of parts are there, and small: the tree of node i has at most i + 1 nodes
   module _ {index : List ℕ} (bytes : Below 256 table) (s : Sizable table index ds) {c : ℕ} where
-    pub holds-A : Child table Numeric n c → Holds totals c
+    pub holds-A : Child table Numeric n c → HasTotal totals c
     holds-A h =
         record {
           inside = omega (arith, h .inside, t .room);
@@ -117,7 +117,7 @@ module _ {table ds totals : List ℕ} {n : ℕ} (t : SizesBelow table ds totals 
           );
         }
 
-    pub holds-B : Child table Truth n c → Holds totals c
+    pub holds-B : Child table Truth n c → HasTotal totals c
     holds-B h =
         record {
           inside = omega (arith, h .inside, t .room);
@@ -131,7 +131,7 @@ module _ {table ds totals : List ℕ} {n : ℕ} (t : SizesBelow table ds totals 
           );
         }
 
-    pub holds-C : Child table Command n c → Holds totals c
+    pub holds-C : Child table Command n c → HasTotal totals c
     unfolding hardenedAt decidedIn
     holds-C h =
         record {

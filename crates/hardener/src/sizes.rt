@@ -16,7 +16,7 @@ ghost use mathlib.Core.Path.{_≡_};
 ghost use lib.ListN.{length, getD};
 ghost use Rattle.reader.specs.Index.{nodesIn};
 ghost use Rattle.masking.specs.Deciding.{decisionIn};
-ghost use Rattle.copier.specs.Totals.{total, Holds};
+ghost use Rattle.copier.specs.Totals.{total, HasTotal};
 ghost use Rattle.hardener.specs.Sizes.{Sizable, NodeSize, SizesBelow, AllSized};
 
 // So many nodes and bytes more where something is masked.
@@ -29,7 +29,7 @@ fn with_mask(part: u32, mask: bool, nodes: u32, bytes: u32) -> u32
 
 // A condition, with (flag = 0) and .. where command n masks it.
 fn condition_size(decisions: &[u8], totals: &[u32], n: usize, condition: usize) -> u32
-    requires { ⌜ (n < length (now decisions)) × Holds (now totals) condition ⌝ }
+    requires { ⌜ (n < length (now decisions)) × HasTotal (now totals) condition ⌝ }
     ensures { λ r. ⌜ r ≡ getD (now (totals .entry)) condition 0 + cond (decisionIn (now (decisions .entry)) n .maskCondition) (total 4 30) 0 ⌝ }
 {
     let mask = masks_condition(decisions, n);
@@ -38,7 +38,7 @@ fn condition_size(decisions: &[u8], totals: &[u32], n: usize, condition: usize) 
 
 // An index, with (flag = 1) ? 0 : .. where command n masks it.
 fn index_size(decisions: &[u8], totals: &[u32], n: usize, place: usize) -> u32
-    requires { ⌜ (n < length (now decisions)) × Holds (now totals) place ⌝ }
+    requires { ⌜ (n < length (now decisions)) × HasTotal (now totals) place ⌝ }
     ensures { λ r. ⌜ r ≡ getD (now (totals .entry)) place 0 + cond (decisionIn (now (decisions .entry)) n .maskIndex) (total 5 40) 0 ⌝ }
 {
     let mask = masks_index(decisions, n);
@@ -47,7 +47,7 @@ fn index_size(decisions: &[u8], totals: &[u32], n: usize, place: usize) -> u32
 
 // An assignment of a value.
 fn assign_size(totals: &[u32], value: usize) -> u32
-    requires { ⌜ Holds (now totals) value ⌝ }
+    requires { ⌜ HasTotal (now totals) value ⌝ }
     ensures { λ r. ⌜ r ≡ getD (now (totals .entry)) value 0 + total 1 8 ⌝ }
 {
     more(totals[value], 1, 8)
@@ -62,7 +62,7 @@ fn if_size(
     yes: usize,
     no: usize,
 ) -> u32
-    requires { ⌜ (n < length (now decisions)) × Holds (now totals) condition × Holds (now totals) yes × Holds (now totals) no ⌝ }
+    requires { ⌜ (n < length (now decisions)) × HasTotal (now totals) condition × HasTotal (now totals) yes × HasTotal (now totals) no ⌝ }
     ensures { λ r. ⌜ r ≡ 3 * (getD (now (totals .entry)) condition 0 + cond (decisionIn (now (decisions .entry)) n .maskCondition) (total 4 30) 0)
         + getD (now (totals .entry)) yes 0
         + getD (now (totals .entry)) no 0
@@ -74,7 +74,7 @@ fn if_size(
 
 // A loop likewise: one update stands in its body, the other after it.
 fn while_size(decisions: &[u8], totals: &[u32], n: usize, condition: usize, body: usize) -> u32
-    requires { ⌜ (n < length (now decisions)) × Holds (now totals) condition × Holds (now totals) body ⌝ }
+    requires { ⌜ (n < length (now decisions)) × HasTotal (now totals) condition × HasTotal (now totals) body ⌝ }
     ensures { λ r. ⌜ r ≡ 3 * (getD (now (totals .entry)) condition 0 + cond (decisionIn (now (decisions .entry)) n .maskCondition) (total 4 30) 0)
         + getD (now (totals .entry)) body 0
         + total 11 88 ⌝ }
@@ -85,7 +85,7 @@ fn while_size(decisions: &[u8], totals: &[u32], n: usize, condition: usize, body
 
 // A read from an index; where command n hides its value, the mask of it is joined on by a sequence.
 fn read_size(decisions: &[u8], totals: &[u32], n: usize, place: usize) -> u32
-    requires { ⌜ (n < length (now decisions)) × Holds (now totals) place ⌝ }
+    requires { ⌜ (n < length (now decisions)) × HasTotal (now totals) place ⌝ }
     ensures { λ r. ⌜ r ≡ getD (now (totals .entry)) place 0
         + cond (decisionIn (now (decisions .entry)) n .maskIndex) (total 5 40) 0
         + cond (decisionIn (now (decisions .entry)) n .maskValue) (total 8 62) 0
@@ -98,7 +98,7 @@ fn read_size(decisions: &[u8], totals: &[u32], n: usize, place: usize) -> u32
 
 // A write of a value to an index.
 fn write_size(decisions: &[u8], totals: &[u32], n: usize, place: usize, value: usize) -> u32
-    requires { ⌜ (n < length (now decisions)) × Holds (now totals) place × Holds (now totals) value ⌝ }
+    requires { ⌜ (n < length (now decisions)) × HasTotal (now totals) place × HasTotal (now totals) value ⌝ }
     ensures { λ r. ⌜ r ≡ getD (now (totals .entry)) place 0
         + cond (decisionIn (now (decisions .entry)) n .maskIndex) (total 5 40) 0
         + getD (now (totals .entry)) value 0

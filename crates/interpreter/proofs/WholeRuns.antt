@@ -61,9 +61,9 @@ module _ (table index list : List ℕ) (header : Header) (bytes : Below 256 tabl
     pending-same = rw root (length-sets (m₀ .pending) 0 (le 4 (header .nodes - 1)))
 
     -- all is ready for the first step
-    pub run-begins : (starts : List ℕ) → Starts (tableOf table .counts) starts → length starts ≡ 17 → (budget room : ℕ) → Begun table index starts list budget room (memoryAt (m₀ .variables) (m₀ .cells) ps)
+    pub begun-at-root : (starts : List ℕ) → Starts (tableOf table .counts) starts → length starts ≡ 17 → (budget room : ℕ) → Begun table index starts list budget room (memoryAt (m₀ .variables) (m₀ .cells) ps)
     unfolding startState
-    run-begins starts begins long budget room =
+    begun-at-root starts begins long budget room =
         record {
           between =
               record {

@@ -12,7 +12,7 @@ use Rattle.reader.specs.Index.{numericIn, truthIn}
 use Rattle.reader.proofs.Index.{Child, Parts}
 use Rattle.reader.proofs.NodeKinds.{node-parts}
 use Rattle.masking.specs.InMemory.{hardenedAt}
-use Rattle.copier.specs.Totals.{totalOf, Holds, NumericTotal, TruthTotal}
+use Rattle.copier.specs.Totals.{totalOf, HasTotal, NumericTotal, TruthTotal}
 use Rattle.copier.proofs.NodeTotals.{total-number, total-variable, total-add, total-subtract, total-multiply, total-choice, numeric-as}
 use Rattle.copier.proofs.NodeTotals.{total-constant, total-equal, total-less, total-not, total-and, truth-as}
 use Rattle.hardener.specs.Sizes.{NodeSize}
@@ -34,13 +34,13 @@ module _ (d : tie.After-node-at) where
   parts = node-parts bytes (start .pre .0 .indexed) (start .pre .1) (d .node-at .ensures)
 
   -- their totals are there, and its decisions
-  held-A : {e : ℕ} → Child (now (start .args .table)) Numeric (start .args .n) e → Holds (now (start .args .totals)) e
+  held-A : {e : ℕ} → Child (now (start .args .table)) Numeric (start .args .n) e → HasTotal (now (start .args .totals)) e
   held-A h = holds-A (start .pre .2) bytes (start .pre .0) h
 
-  held-B : {b : ℕ} → Child (now (start .args .table)) Truth (start .args .n) b → Holds (now (start .args .totals)) b
+  held-B : {b : ℕ} → Child (now (start .args .table)) Truth (start .args .n) b → HasTotal (now (start .args .totals)) b
   held-B h = holds-B (start .pre .2) bytes (start .pre .0) h
 
-  held-C : {k : ℕ} → Child (now (start .args .table)) Command (start .args .n) k → Holds (now (start .args .totals)) k
+  held-C : {k : ℕ} → Child (now (start .args .table)) Command (start .args .n) k → HasTotal (now (start .args .totals)) k
   held-C h = holds-C (start .pre .2) bytes (start .pre .0) h
 
   decided : start .args .n < length (now (start .args .decisions))

@@ -5,7 +5,7 @@ use Prim.Native.Nat.{_*_, _≤_}
 use native.Mathlib.Omega.{arith}
 use lib.ListN.{length}
 use Rattle.bytes_le.proofs.Numbers.{slice-bytes}
-use Rattle.interpreter.proofs.WholeRuns.{asked-header, root-below, run-begins, pending-within, run-leaves}
+use Rattle.interpreter.proofs.WholeRuns.{asked-header, root-below, begun-at-root, pending-within, run-leaves}
 use borrow.Author.Needs.{needs}
 use Rattle.interpreter.proofs.run.run.Statement.{statement}
 use Rattle.interpreter.proofs.run.run.Tie as tie
@@ -30,7 +30,7 @@ put32-requires : tie.Need-put32-requires
 put32-requires c κs = root-below _ _ _ _ (slice-bytes _ (c .before .before .before .before .before .before .before .before .before .before .shared-slice-known .given)) _ (c .before .before .before .before .before .before .before .before .before .before .before .pre) .2
 
 go-on-requires : tie.Need-go-on-requires
-go-on-requires c κs = run-begins _ _ _ _ (slice-bytes _ (c .before .before .before .before .before .before .before .before .before .before .before .before .before .before .before .before .before .before .shared-slice-known .given)) _ (c .before .before .before .before .before .before .before .before .before .before .before .before .before .before .before .before .before .before .before .pre) _ (c .before .before .before .before .before .before .before .put32 .ensures) _ (c .before .before .before .before .before .before .before .before .before .before .find-starts .ensures) (c .before .before .before .before .before .before .before .before .before .before .find-starts .kept .1 .1 .0) _ _
+go-on-requires c κs = begun-at-root _ _ _ _ (slice-bytes _ (c .before .before .before .before .before .before .before .before .before .before .before .before .before .before .before .before .before .before .shared-slice-known .given)) _ (c .before .before .before .before .before .before .before .before .before .before .before .before .before .before .before .before .before .before .before .pre) _ (c .before .before .before .before .before .before .before .put32 .ensures) _ (c .before .before .before .before .before .before .before .before .before .before .find-starts .ensures) (c .before .before .before .before .before .before .before .before .before .before .find-starts .kept .1 .1 .0) _ _
 
 next-word-requires : tie.Need-next-word-requires
 next-word-requires c κs =
