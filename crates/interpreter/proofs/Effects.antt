@@ -7,7 +7,7 @@ use lib.Seq.{sets}
 use Rattle.bytes_le.specs.Numbers.{le}
 use Rattle.bytes_le.proofs.Numbers.{length-le}
 use Rattle.bytes_le.proofs.Stores.{sets-append}
-use Rattle.interpreter.specs.Stepping.{memoryAt}
+use Rattle.stepping.specs.Stepping.{memoryAt}
 use Rattle.interpreter.specs.Effects.{pushed, performed, Performed}
 use Rattle.directives.specs.declared.change.Back.{Back}
 use Rattle.directives.specs.declared.change.Back.the-variants.{Two}

@@ -14,7 +14,7 @@ use Rattle.bytes_le.proofs.Stores.{sets-append}
 use Rattle.awhile.specs.Language.{Com, noteOf}
 use Rattle.reader.specs.Index.{commandIn}
 use Rattle.machine.specs.Memory.{pendingWords, pendingAfter, nextNode}
-use Rattle.interpreter.specs.Stepping.{pendingOf}
+use Rattle.stepping.specs.Stepping.{pendingOf}
 use Rattle.interpreter.specs.Running.{nextWord}
 use Rattle.interpreter.proofs.Stacks.{length-pending}
 

@@ -10,14 +10,14 @@ use lib.ListN.{length}
 use lib.Seq.{sets, length-sets}
 use Rattle.bytes_le.specs.Numbers.{le, leAt}
 use Rattle.reader.specs.Index.{commandIn}
-use Rattle.interpreter.specs.Actions.{backOn, CommandAt, BackFits}
+use Rattle.stepping.specs.Actions.{backOn, CommandAt, BackFits}
 use Rattle.directives.specs.Changes.{heightOf}
-use Rattle.interpreter.specs.Stepping.{pendingOf}
+use Rattle.stepping.specs.Stepping.{pendingOf}
 use Rattle.interpreter.specs.Effects.{PushFits, pushed}
 use Rattle.directives.specs.declared.change.Back.{Back}
 use Rattle.directives.specs.declared.change.Back.the-variants.{Nothing, One, Two}
 use Rattle.directives.specs.declared.change.Change.the-variants.{PutBack}
-use Rattle.interpreter.proofs.Words.{leAt-outside, leAt-stored}
+use Rattle.stepping.proofs.Words.{leAt-outside, leAt-stored}
 
 -- the first so many entries are commands of the table
 abbrev pub Entries : (table pending : List ℕ) → (count : ℕ) → Type 0

@@ -19,11 +19,11 @@ use Rattle.awhile.proofs.Size.{root-size}
 use Rattle.machine.specs.Observations.{Observation, observationBytes, shownBytes}
 use Rattle.machine.specs.Runs.{Outcome, bytes, Machine, run, started}
 use Rattle.machine.specs.Memory.{writtenOver}
-use Rattle.interpreter.specs.Evaluation.{variablesIn}
-use Rattle.interpreter.specs.Actions.{backOn, changed, observationOf, BackFits}
+use Rattle.stepping.specs.Evaluation.{variablesIn}
+use Rattle.stepping.specs.Actions.{backOn, changed, observationOf, BackFits}
 use Rattle.directives.specs.Changes.{heightOf}
 use Rattle.directives.specs.Guiding.{guideOf}
-use Rattle.interpreter.specs.Stepping.{Memory, startState, pendingOf, cellsIn, machineOf, seenList, ChangeFits, steppedTo, Between, RunEnds, Advances}
+use Rattle.stepping.specs.Stepping.{Memory, startState, pendingOf, cellsIn, machineOf, seenList, ChangeFits, steppedTo, Between, RunEnds, Advances}
 use Rattle.interpreter.specs.Effects.{PushFits, pushed, PerformFits, performed, WordFits, Performed, seenBytes}
 use Rattle.interpreter.specs.Running.{runOf, Begun}
 use Rattle.machine.specs.declared.Board.{Board}
@@ -32,11 +32,11 @@ use Rattle.directives.specs.declared.change.Back.{Back}
 use Rattle.directives.specs.declared.change.Back.the-variants.{Nothing, One, Two}
 use Rattle.directives.specs.declared.change.Change.{Change}
 use Rattle.directives.specs.declared.change.Change.the-variants.{PutBack, Assign, Store}
-use Rattle.interpreter.specs.declared.step.Seen.{Seen}
-use Rattle.interpreter.specs.declared.step.Seen.the-variants.{Observed}
-use Rattle.interpreter.specs.declared.step.Seen.the-variants.{Nothing as NothingSeen}
-use Rattle.interpreter.specs.declared.state.MachineState.{MachineState}
-use Rattle.interpreter.proofs.Words.{words-stored}
+use Rattle.stepping.specs.declared.step.Seen.{Seen}
+use Rattle.stepping.specs.declared.step.Seen.the-variants.{Observed}
+use Rattle.stepping.specs.declared.step.Seen.the-variants.{Nothing as NothingSeen}
+use Rattle.stepping.specs.declared.state.MachineState.{MachineState}
+use Rattle.stepping.proofs.Words.{words-stored}
 use Rattle.machine.proofs.Runs.{run-goes}
 use Rattle.machine.proofs.PendingRoom.{Fits, fits-length, look-fits, AfterNext, next-after}
 use Rattle.interpreter.proofs.Stacks.{Entries, length-pending, back-pending, back-entries}

@@ -14,15 +14,15 @@ use Rattle.reader.specs.Index.{tableOf, nodesIn, HasHeader}
 use Rattle.reader.proofs.Ready.{header-nodes}
 use Rattle.reader.proofs.Index.{indexed-few, indexed-some, indexed-root-sort, indexed-note}
 use Rattle.machine.specs.Observations.{shownBytes}
-use Rattle.interpreter.specs.Evaluation.{variablesIn}
-use Rattle.interpreter.specs.Actions.{CommandAt}
+use Rattle.stepping.specs.Evaluation.{variablesIn}
+use Rattle.stepping.specs.Actions.{CommandAt}
 use Rattle.directives.specs.Fitting.{Starts}
-use Rattle.interpreter.specs.Stepping.{Memory, memoryAt, startState, cellsIn, machineOf}
+use Rattle.stepping.specs.Stepping.{Memory, memoryAt, startState, cellsIn, machineOf}
 use Rattle.interpreter.specs.Running.{runOf, Begun, StoppedAs, nextWord, reportWith, reportOf, RunAsked, RunLeaves}
 use Rattle.machine.specs.declared.Board.{Board}
 use Rattle.interpreter.specs.declared.run.Stopped.{Stopped}
 use Rattle.interpreter.specs.declared.run.Report.{Report}
-use Rattle.interpreter.proofs.Words.{leAt-stored}
+use Rattle.stepping.proofs.Words.{leAt-stored}
 use Rattle.interpreter.proofs.Underway.{drop-sets}
 use Rattle.interpreter.proofs.Leavings.{Noted, pending-left, next-noted}
 

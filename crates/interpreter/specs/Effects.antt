@@ -6,15 +6,15 @@ use lib.ListN.{length}
 use lib.Seq.{sets}
 use Rattle.bytes_le.specs.Numbers.{le}
 use Rattle.machine.specs.Observations.{observationBytes}
-use Rattle.interpreter.specs.Actions.{observationOf}
-use Rattle.interpreter.specs.Stepping.{Memory, memoryAt}
+use Rattle.stepping.specs.Actions.{observationOf}
+use Rattle.stepping.specs.Stepping.{Memory, memoryAt}
 use Rattle.directives.specs.declared.change.Back.{Back}
 use Rattle.directives.specs.declared.change.Back.the-variants.{One, Two}
 use Rattle.directives.specs.declared.change.Back.the-variants.{Nothing as NoBack}
 use Rattle.directives.specs.declared.change.Change.{Change}
 use Rattle.directives.specs.declared.change.Change.the-variants.{PutBack, Assign, Store}
-use Rattle.interpreter.specs.declared.step.Seen.{Seen}
-use Rattle.interpreter.specs.declared.step.Seen.the-variants.{Nothing, Observed}
+use Rattle.stepping.specs.declared.step.Seen.{Seen}
+use Rattle.stepping.specs.declared.step.Seen.the-variants.{Nothing, Observed}
 
 -- there is room for what is put back, and its numbers fit words
 abbrev pub PushFits : Back → (rest long : ℕ) → Type 0

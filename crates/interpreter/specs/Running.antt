@@ -14,10 +14,10 @@ use Rattle.reader.specs.Index.{Indexed, tableOf, nodesIn}
 use Rattle.machine.specs.Observations.{Observation, shownBytes}
 use Rattle.machine.specs.Runs.{Outcome, bytes, run, started}
 use Rattle.machine.specs.Memory.{pendingAfter, writtenOver, nextNode}
-use Rattle.interpreter.specs.Evaluation.{variablesIn}
+use Rattle.stepping.specs.Evaluation.{variablesIn}
 use Rattle.directives.specs.Guiding.{Readable, guideOf}
-use Rattle.interpreter.specs.Stepping.{Memory, startState, cellsIn, machineOf, Between}
-use Rattle.interpreter.specs.Actions.{CommandAt}
+use Rattle.stepping.specs.Stepping.{Memory, startState, cellsIn, machineOf, Between}
+use Rattle.stepping.specs.Actions.{CommandAt}
 use Rattle.machine.specs.declared.Board.{Board}
 use Rattle.interpreter.specs.declared.run.Stopped.{Stopped}
 use Rattle.interpreter.specs.declared.run.Report.{Report}

@@ -1,7 +1,3 @@
-// Runs a table on the plain and on the guessing machine.
-pub mod action;
-pub mod evaluate;
+// Runs a table in memory, on any board: makes the changes of the steps that are decided, and shows what they show.
 pub mod memory;
 pub mod run;
-pub mod state;
-pub mod step;

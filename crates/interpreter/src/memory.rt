@@ -1,10 +1,10 @@
 // What a step does to the lent memory.
-use crate::step::Seen;
 use bytes_le::put::put16;
 use bytes_le::put::put32;
 use directives::change::Back;
 use directives::change::Change;
 use directives::change::Shown;
+use stepping::step::Seen;
 ghost use Prim.Native.Nat.{_+_, _*_, _^_, _≤_, _<_};
 ghost use mathlib.Core.Bool.{cond};
 ghost use mathlib.Core.Path.{_≡_};
@@ -13,8 +13,8 @@ ghost use lib.ListN.{length};
 ghost use lib.Seq.{sets};
 ghost use Rattle.bytes_le.specs.Numbers.{le};
 ghost use Rattle.machine.specs.Observations.{observationBytes};
-ghost use Rattle.interpreter.specs.Actions.{observationOf};
-ghost use Rattle.interpreter.specs.Stepping.{memoryAt};
+ghost use Rattle.stepping.specs.Actions.{observationOf};
+ghost use Rattle.stepping.specs.Stepping.{memoryAt};
 ghost use Rattle.interpreter.specs.Effects.{PushFits, pushed, PerformFits, Performed, seenBytes};
 
 // Puts a command on the pending list, above so many others.

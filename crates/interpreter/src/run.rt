@@ -4,19 +4,19 @@ ghost use mathlib.Core.Path.{_≡_};
 ghost use lib.ListN.{length, replicate};
 ghost use lib.Seq.{sets};
 ghost use Rattle.bytes_le.specs.Numbers.{words};
-ghost use Rattle.interpreter.specs.Stepping.{memoryAt};
+ghost use Rattle.stepping.specs.Stepping.{memoryAt};
 ghost use Rattle.interpreter.specs.Running.{Begun, StoppedAs, nextWord, reportWith, RunAsked, runOf, RunLeaves};
 use crate::memory::perform;
 use crate::memory::show;
-use crate::state::MachineState;
-use crate::step::Next;
-use crate::step::next_step;
 use awhile::Header;
 use bytes_le::get::u32_at;
 use bytes_le::put::put32;
 use directives::places::find_starts;
 use machine::Board;
 use machine::End;
+use stepping::state::MachineState;
+use stepping::step::Next;
+use stepping::step::next_step;
 
 // Why a run is over, and the state in which its last step left it.
 pub struct Stopped {

@@ -1,4 +1,4 @@
-// The plain and the guessing machine: the definitions and their theorems. The code is crates `directives` and `interpreter`.
+// The plain and the guessing machine: the definitions and their theorems. The code is crates `directives`, `stepping` and `interpreter`.
 
 // The boards that a table runs on: the plain one takes every step as the program has it, the guessing one takes a directive for each shown step.
 pub enum Board {

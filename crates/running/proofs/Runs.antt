@@ -27,8 +27,8 @@ use Rattle.machine.specs.Directives.{readDirectives, directivesIn}
 use Rattle.directives.specs.Listed.{isSome}
 use Rattle.machine.specs.Runs.{endNumber}
 use Rattle.machine.specs.Memory.{runNumbers}
-use Rattle.interpreter.specs.Evaluation.{variablesIn}
-use Rattle.interpreter.specs.Stepping.{memoryAt, cellsIn}
+use Rattle.stepping.specs.Evaluation.{variablesIn}
+use Rattle.stepping.specs.Stepping.{memoryAt, cellsIn}
 use Rattle.directives.specs.Guiding.{orNone, directivesFrom, guideOf}
 use Rattle.interpreter.specs.Running.{runOf, reportOf, RunAsked, RunLeaves}
 use Rattle.interpreter.specs.declared.run.Report.{Report}

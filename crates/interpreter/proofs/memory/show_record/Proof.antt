@@ -1,6 +1,6 @@
 -- `show_record` tells the observations apart.
 use Rattle.bytes_le.specs.Numbers.{le}
-use Rattle.interpreter.specs.Actions.{observationOf}
+use Rattle.stepping.specs.Actions.{observationOf}
 use Rattle.machine.specs.Observations.{observationBytes}
 use borrow.Author.Needs.{needs}
 use Rattle.interpreter.proofs.memory.show_record.Statement.{statement}

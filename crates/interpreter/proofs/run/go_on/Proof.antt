@@ -6,13 +6,13 @@ use denote.Ref.{now}
 use borrow.Author.Needs.{needs}
 use lib.ListN.{length}
 use Rattle.bytes_le.proofs.Numbers.{Below, slice-bytes}
-use Rattle.interpreter.specs.Stepping.{Memory, memoryAt, RunEnds, Advances}
+use Rattle.stepping.specs.Stepping.{Memory, memoryAt, RunEnds, Advances}
 use Rattle.interpreter.specs.Running.{runOf}
 use Rattle.machine.specs.declared.End.{End}
 use Rattle.directives.specs.declared.change.Change.{Change}
-use Rattle.interpreter.specs.declared.state.MachineState.{MachineState}
-use Rattle.interpreter.specs.declared.step.Seen.{Seen}
-use Rattle.interpreter.specs.declared.step.Next.the-variants.{Over, Goes}
+use Rattle.stepping.specs.declared.state.MachineState.{MachineState}
+use Rattle.stepping.specs.declared.step.Seen.{Seen}
+use Rattle.stepping.specs.declared.step.Next.the-variants.{Over, Goes}
 use Rattle.interpreter.proofs.Underway.{Underway, underway-start, underway-over, underway-next, underway-room, perform-fits, show-fits}
 use Rattle.interpreter.proofs.run.go_on.Statement.{statement}
 use Rattle.interpreter.proofs.run.go_on.Tie as tie

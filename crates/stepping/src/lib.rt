@@ -1,0 +1,5 @@
+// The next step of a table in memory, on any board: decided before anything is changed.
+pub mod action;
+pub mod evaluate;
+pub mod state;
+pub mod step;
