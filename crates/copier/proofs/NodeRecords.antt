@@ -8,16 +8,16 @@ use lib.ListN.{length}
 use Rattle.bytes_le.specs.Numbers.{le}
 use Rattle.awhile.specs.Lists.{sum}
 use Rattle.awhile.specs.Nodes.{Field, word, form, fieldBytes, fieldSize, sizeOf, nodeBytes}
-use Rattle.reader.specs.Reader.{fieldOf, fieldsOf, formOf}
-use Rattle.reader.proofs.RecordForms.{two-bytes, same-size}
+use Rattle.record.specs.RecordRead.{fieldOf, fieldsOf, formOf}
+use Rattle.record.proofs.RecordForms.{two-bytes, same-size}
 use Rattle.copier.specs.Records.{numberOf, recordOf, recordBytes, recordSize}
 use Rattle.copier.specs.declared.Record.{Record}
 use Rattle.copier.specs.declared.Record.the-variants.{Bare, One, Two, Three}
-use Rattle.reader.specs.declared.forms.Field.{Field as FieldRead}
-use Rattle.reader.specs.declared.forms.Field.the-variants.{Constant, Variable, Array, Child}
-use Rattle.reader.specs.declared.forms.Fields.{Fields}
-use Rattle.reader.specs.declared.forms.Fields.the-variants.{Nothing, Word, One as OneField, Two as TwoFields, Three as ThreeFields}
-use Rattle.reader.specs.declared.forms.Form.{Form}
+use Rattle.record.specs.declared.forms.Field.{Field as FieldRead}
+use Rattle.record.specs.declared.forms.Field.the-variants.{Constant, Variable, Array, Child}
+use Rattle.record.specs.declared.forms.Fields.{Fields}
+use Rattle.record.specs.declared.forms.Fields.the-variants.{Nothing, Word, One as OneField, Two as TwoFields, Three as ThreeFields}
+use Rattle.record.specs.declared.forms.Form.{Form}
 use Rattle.awhile.specs.declared.Node.{Node}
 
 -- the four bytes of a number are those of its two halves

@@ -13,8 +13,8 @@ use Rattle.awhile.specs.declared.Node.{Node}
 use Rattle.copier.specs.Sizes.{Sized}
 use Rattle.copier.specs.Records.{recordOf, recordBytes, recordSize}
 use Rattle.copier.specs.Written.{Appended, AppendedRecord, Wrote, SpaceFor}
-use Rattle.reader.specs.Reader.{formOf}
-use Rattle.reader.specs.declared.forms.Form.{Form}
+use Rattle.record.specs.RecordRead.{formOf}
+use Rattle.record.specs.declared.forms.Form.{Form}
 use Rattle.copier.specs.declared.Record.{Record}
 use Rattle.copier.specs.declared.Size.{Size}
 use Rattle.copier.proofs.Lengths.{Counted, counted-node, counted-append}

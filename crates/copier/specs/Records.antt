@@ -3,10 +3,10 @@
 use Prim.Native.Nat.{ℕ, _/_, _%_}
 use mathlib.Core.List.{List, _++_}
 use Rattle.bytes_le.specs.Numbers.{le}
-use Rattle.reader.specs.declared.forms.Field.{Field}
-use Rattle.reader.specs.declared.forms.Field.the-variants.{Constant, Variable, Array, Child}
-use Rattle.reader.specs.declared.forms.Fields.{Fields}
-use Rattle.reader.specs.declared.forms.Fields.the-variants.{Nothing, Word, One as OneField, Two as TwoFields, Three as ThreeFields}
+use Rattle.record.specs.declared.forms.Field.{Field}
+use Rattle.record.specs.declared.forms.Field.the-variants.{Constant, Variable, Array, Child}
+use Rattle.record.specs.declared.forms.Fields.{Fields}
+use Rattle.record.specs.declared.forms.Fields.the-variants.{Nothing, Word, One as OneField, Two as TwoFields, Three as ThreeFields}
 use Rattle.copier.specs.declared.Record.{Record}
 use Rattle.copier.specs.declared.Record.the-variants.{Bare, One, Two, Three}
 

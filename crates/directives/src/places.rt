@@ -1,7 +1,7 @@
 // Where the cells of each array stand: "cells (array after array by number)".
 use awhile::Header;
 use bytes_le::get::u16_at;
-use reader::layout::count_start;
+use record::layout::count_start;
 ghost use Prim.Native.Nat.{ℕ, _+_};
 ghost use mathlib.Core.Path.{_≡_};
 ghost use mathlib.Core.List.{List};

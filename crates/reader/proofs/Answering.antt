@@ -13,7 +13,7 @@ use Rattle.awhile.specs.Nodes.{sizeOf, sortOf}
 use Rattle.awhile.specs.Tables.{Table, headerOf, declarationsOf, labelsStart, countsStart, nodesStart, offsetOf}
 use Rattle.awhile.specs.Tables.{readHeader, readLabels, readCounts, readNodes, readRecords}
 use Rattle.awhile.specs.Tables.{allInOrder, checkWhole, readTable}
-use Rattle.reader.specs.Reader.{headerAs, labelsAs, SortAt, Kept, OrderSearched}
+use Rattle.record.specs.RecordRead.{headerAs, labelsAs, SortAt, Kept, OrderSearched}
 use Rattle.reader.specs.Index.{tableOf, nodesIn, Indexed, Ready, readAs, Answers, Finishes}
 use Rattle.reader.specs.Walk.{NodesLeft, Declared, Counted}
 use Rattle.reader.proofs.Walking.{nodes-done}
@@ -30,9 +30,9 @@ use Rattle.reader.specs.declared.Read.{Read}
 use Rattle.reader.specs.declared.Read.the-variants.{Refused, Accepted}
 use Rattle.awhile.specs.declared.Refusal.{Refusal}
 use Rattle.awhile.specs.declared.Refusal.the-variants.{NotATree, ExtraBytes}
-use Rattle.reader.specs.declared.declarations.HeaderRead.the-variants.{Refused as HeaderRefused, Header as HeaderGot}
-use Rattle.reader.specs.declared.declarations.LabelsRead.the-variants.{Refused as LabelsRefused, Labels as LabelsGot}
-use Rattle.reader.specs.declared.uses.Broken.the-variants.{At, Nowhere}
+use Rattle.record.specs.declared.declarations.HeaderRead.the-variants.{Refused as HeaderRefused, Header as HeaderGot}
+use Rattle.record.specs.declared.declarations.LabelsRead.the-variants.{Refused as LabelsRefused, Labels as LabelsGot}
+use Rattle.record.specs.declared.uses.Broken.the-variants.{At, Nowhere}
 
 -- the table that accepted bytes read as
 table-of : (s : List ℕ) (t : Table) → readTable s ≡ got t → tableOf s ≡ t

@@ -10,21 +10,21 @@ use denote.Enum.Declared.{tagOf}
 use Rattle.awhile.specs.Refusals.{got}
 use Rattle.awhile.specs.Tables.{maxArrays, maxNodes, labelsStart, nodesStart, readHeader, readLabels, readCount}
 use Rattle.awhile.proofs.Accepted.{HeaderFits, header-fits}
-use Rattle.reader.specs.Reader.{headerAs, labelsAs, countAs, Heads}
+use Rattle.record.specs.RecordRead.{headerAs, labelsAs, countAs, Heads}
 use Rattle.reader.specs.Index.{Answers, Finishes}
 use Rattle.reader.specs.Walk.{begun, doneWith, headerDue, labelsDue, countDue, nodeDue, CountsLeft, NodesLeft, Long, Fresh, Declared, Counted, Walking, atHeader, atLabels, atArray, atNode, atEnd}
 use Rattle.reader.specs.Walk.{Turned, Ends, BodyDue, NodeReady, NodeTurned, nodeRefused, nodeRead}
-use Rattle.reader.proofs.Declaring.{counts-start, counts-more, counts-stop, counts-done}
+use Rattle.reader.proofs.Counting.{counts-start, counts-more, counts-stop, counts-done}
 use Rattle.reader.proofs.Walking.{nodes-start, offset-small, heads-before}
 use Rattle.reader.proofs.Answering.{header-stop, header-got, labels-got, labels-stop, arrays-stop, nodes-stopped, nodes-finished}
 use Rattle.reader.specs.declared.Read.{Read}
 use Rattle.reader.specs.declared.Read.the-variants.{Refused}
-use Rattle.reader.specs.declared.declarations.HeaderRead.{HeaderRead}
-use Rattle.reader.specs.declared.declarations.HeaderRead.the-variants.{Refused as HeaderRefused, Header as HeaderGot}
-use Rattle.reader.specs.declared.declarations.LabelsRead.{LabelsRead}
-use Rattle.reader.specs.declared.declarations.LabelsRead.the-variants.{Refused as LabelsRefused, Labels as LabelsGot}
-use Rattle.reader.specs.declared.declarations.CountRead.{CountRead}
-use Rattle.reader.specs.declared.declarations.CountRead.the-variants.{Refused as CountRefused, Count as CountGot}
+use Rattle.record.specs.declared.declarations.HeaderRead.{HeaderRead}
+use Rattle.record.specs.declared.declarations.HeaderRead.the-variants.{Refused as HeaderRefused, Header as HeaderGot}
+use Rattle.record.specs.declared.declarations.LabelsRead.{LabelsRead}
+use Rattle.record.specs.declared.declarations.LabelsRead.the-variants.{Refused as LabelsRefused, Labels as LabelsGot}
+use Rattle.record.specs.declared.declarations.CountRead.{CountRead}
+use Rattle.record.specs.declared.declarations.CountRead.the-variants.{Refused as CountRefused, Count as CountGot}
 use Rattle.reader.specs.declared.records.Progress.{Progress}
 use Rattle.reader.specs.declared.records.Due.{Due}
 use Rattle.reader.specs.declared.records.Due.the-variants.{Header as HeaderDue, Labels as LabelsDue, Body, Done}

@@ -11,22 +11,22 @@ use Rattle.awhile.specs.Lists.{sum, all, occurrences}
 use Rattle.awhile.specs.Refusals.{refused, got}
 use Rattle.awhile.specs.Nodes.{sizeOf, decodeAt, fieldInRange, inRange, fieldChildren, childrenOf}
 use Rattle.awhile.specs.Tables.{maxNodes, nodesStart, readNode, readNodes, usesOf}
-use Rattle.reader.specs.Reader.{fieldsOf, tally, allBelow, CountsBelow, Heads, Kept, NodeKnown, NodeChecked}
+use Rattle.record.specs.RecordRead.{fieldsOf, tally, allBelow, CountsBelow, Heads, Kept, NodeKnown, NodeChecked}
 use Rattle.reader.specs.Walk.{NodesLeft}
 use Rattle.awhile.proofs.Lists.{sum-append, occurrences-append, flatMap-append}
 use Rattle.awhile.proofs.Cases.{nodes-next, nodes-refused}
 use Rattle.awhile.proofs.Records.{sizes-most}
 use Rattle.awhile.proofs.Accepted.{NodeRead, node-read}
-use Rattle.reader.proofs.RecordForms.{fields-few}
-use Rattle.reader.proofs.Searching.{up-to}
-use Rattle.reader.proofs.Tally.{getD-tally, occurrences-most, fields-children, fields-below, below-weaken}
+use Rattle.record.proofs.RecordForms.{fields-few}
+use Rattle.record.proofs.Searching.{up-to}
+use Rattle.record.proofs.Tally.{getD-tally, occurrences-most, fields-children, fields-below, below-weaken}
 use Rattle.awhile.specs.declared.Header.{Header}
 use Rattle.awhile.specs.declared.Node.{Node}
 use Rattle.awhile.specs.declared.Node.the-variants.{Skip}
 use Rattle.awhile.specs.declared.Decoded.the-variants.{Known}
 use Rattle.awhile.specs.declared.Refusal.{Refusal}
-use Rattle.reader.specs.declared.forms.Fields.{Fields}
-use Rattle.reader.specs.declared.walk.NodeRead.the-variants.{Refused as NodeRefused, Node as NodeGot}
+use Rattle.record.specs.declared.forms.Fields.{Fields}
+use Rattle.record.specs.declared.node.NodeRead.the-variants.{Refused as NodeRefused, Node as NodeGot}
 
 -- ---- what is kept of one node more
 module _ (ns : List Node) (m : Node) where

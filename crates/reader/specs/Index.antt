@@ -5,7 +5,7 @@ use mathlib.Core.Path.{_≡_}
 use lib.ListN.{length, getD}
 use Rattle.awhile.specs.Tables.{Table, headerOf, declarationsOf, readTable, offsetOf, nodesStart, readRecords}
 use Rattle.awhile.specs.Refusals.{Answer, refused, got}
-use Rattle.reader.specs.Reader.{Kept}
+use Rattle.record.specs.RecordRead.{Kept}
 use Rattle.awhile.specs.Language.{AExp, BExp, Com}
 use Rattle.awhile.specs.Trees.{Tree, treeAt, trees, asNumeric, asTruth, asCommand}
 use Rattle.awhile.specs.declared.Declarations.{Declarations}

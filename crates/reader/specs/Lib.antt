@@ -1,4 +1,3 @@
 -- What reading a table in memory answers, and what the index of its records says.
-pub mod Reader
 pub mod Index
 pub mod Walk

@@ -7,7 +7,7 @@ use Rattle.awhile.specs.Lists.{sum}
 use Rattle.awhile.specs.Refusals.{refused, got}
 use Rattle.awhile.specs.Nodes.{sizeOf, childrenOf}
 use Rattle.awhile.specs.Tables.{maxArrays, maxCells, maxNodes, headerSize, labelsSize, arraySize, labelsStart, countsStart, nodesStart, readHeader, readLabels, readCounts, readNodes}
-use Rattle.reader.specs.Reader.{Kept, CountsBelow}
+use Rattle.record.specs.RecordRead.{Kept, CountsBelow}
 use Rattle.reader.specs.Index.{Answers}
 use Rattle.awhile.specs.declared.Declarations.{Declarations}
 use Rattle.awhile.specs.declared.Header.{Header}
@@ -16,12 +16,12 @@ use Rattle.awhile.specs.declared.Node.{Node}
 use Rattle.awhile.specs.declared.Refusal.{Refusal}
 use Rattle.reader.specs.declared.Read.{Read}
 use Rattle.reader.specs.declared.Read.the-variants.{Refused}
-use Rattle.reader.specs.declared.declarations.HeaderRead.{HeaderRead}
-use Rattle.reader.specs.declared.declarations.HeaderRead.the-variants.{Refused as HeaderRefused, Header as HeaderGot}
-use Rattle.reader.specs.declared.declarations.LabelsRead.{LabelsRead}
-use Rattle.reader.specs.declared.declarations.LabelsRead.the-variants.{Refused as LabelsRefused, Labels as LabelsGot}
-use Rattle.reader.specs.declared.declarations.CountRead.{CountRead}
-use Rattle.reader.specs.declared.declarations.CountRead.the-variants.{Refused as CountRefused, Count as CountGot}
+use Rattle.record.specs.declared.declarations.HeaderRead.{HeaderRead}
+use Rattle.record.specs.declared.declarations.HeaderRead.the-variants.{Refused as HeaderRefused, Header as HeaderGot}
+use Rattle.record.specs.declared.declarations.LabelsRead.{LabelsRead}
+use Rattle.record.specs.declared.declarations.LabelsRead.the-variants.{Refused as LabelsRefused, Labels as LabelsGot}
+use Rattle.record.specs.declared.declarations.CountRead.{CountRead}
+use Rattle.record.specs.declared.declarations.CountRead.the-variants.{Refused as CountRefused, Count as CountGot}
 use Rattle.reader.specs.declared.records.Progress.{Progress}
 use Rattle.reader.specs.declared.records.Due.{Due}
 use Rattle.reader.specs.declared.records.Due.the-variants.{Header as HeaderDue, Labels as LabelsDue, Body, Done}

@@ -2,17 +2,10 @@
 use awhile::Declarations;
 use awhile::Refusal;
 
-pub mod checks;
-pub mod declarations;
-pub mod decode;
-pub mod forms;
-pub mod layout;
 pub mod lookup;
 pub mod reader;
 pub mod records;
 pub mod tables;
-pub mod uses;
-pub mod walk;
 
 // What reading a table answers: why it is refused, or what it declares.
 pub enum Read {

@@ -2,25 +2,25 @@
 ghost use Prim.Native.Nat.{_+_, _^_, _≤_, _<_};
 ghost use mathlib.Core.Path.{_≡_};
 ghost use Rattle.awhile.specs.Tables.{maxVariables, maxArrays, maxCells, labelsStart, arraySize, readHeader, readLabels, readCount};
-ghost use Rattle.reader.specs.Reader.{headerAs, labelsAs, countAs};
+ghost use Rattle.record.specs.RecordRead.{headerAs, labelsAs, countAs};
 ghost use Rattle.reader.specs.Walk.{undeclaredWith, begun, doneWith, headerDue, labelsDue, countDue, Walking, Turned, NodeReady, NodeTurned, BodyDue};
 use crate::Read;
-use crate::declarations;
-use crate::declarations::CountRead;
-use crate::declarations::HeaderRead;
-use crate::declarations::LabelsRead;
-use crate::layout::ARRAY_BYTES;
-use crate::layout::HEADER_BYTES;
-use crate::layout::LABELS_BYTES;
 use crate::tables;
-use crate::uses;
-use crate::walk;
-use crate::walk::NodeRead;
 use awhile::Declarations;
 use awhile::Header;
 use awhile::Labelling;
 use awhile::MAX_ARRAYS;
 use awhile::MAX_NODES;
+use record::declarations;
+use record::declarations::CountRead;
+use record::declarations::HeaderRead;
+use record::declarations::LabelsRead;
+use record::layout::ARRAY_BYTES;
+use record::layout::HEADER_BYTES;
+use record::layout::LABELS_BYTES;
+use record::node;
+use record::node::NodeRead;
+use record::uses;
 
 // What is due: the header, the labels, an array or node or the end, or nothing any more.
 pub enum Due {
@@ -157,7 +157,7 @@ fn node_due(
 {
     let declared = progress.declared;
     let header = declared.header;
-    match walk::read_node(table, &*index, header.variables, header.arrays, n, at) {
+    match node::read_node(table, &*index, header.variables, header.arrays, n, at) {
         NodeRead::Refused { refusal } => done(Read::Refused { refusal }),
         NodeRead::Node { size, fields } => {
             index[n] = at as u16;

@@ -2,17 +2,17 @@
 ghost use Prim.Native.Nat.{_≤_, _<_};
 ghost use lib.ListN.{length};
 ghost use Rattle.awhile.specs.Tables.{maxNodes};
-ghost use Rattle.reader.specs.Reader.{Heads};
+ghost use Rattle.record.specs.RecordRead.{Heads};
 ghost use Rattle.reader.specs.Index.{Answers, Finishes};
 use crate::Read;
 use crate::reader;
 use crate::records::Due;
-use crate::uses;
-use crate::uses::Broken;
-use crate::walk;
 use awhile::Declarations;
 use awhile::MAX_NODES;
 use awhile::Refusal;
+use record::node;
+use record::uses;
+use record::uses::Broken;
 
 // After the last record: 6, then 7.
 pub fn finish(table: &[u8], index: &[u16], uses: &[u16], declared: Declarations, end: usize) -> Read
@@ -20,11 +20,11 @@ pub fn finish(table: &[u8], index: &[u16], uses: &[u16], declared: Declarations,
     ensures { λ r. ⌜ Finishes (now (table .entry)) (now (index .entry)) (now (uses .entry)) declared end r ⌝ }
 {
     let nodes = declared.header.nodes;
-    let root = walk::sort_at(table, walk::offset_at(index, nodes - 1));
+    let root = node::sort_at(table, node::offset_at(index, nodes - 1));
     if let Broken::At { node } = uses::find_broken(uses, nodes, root) {
         return Read::Refused {
             refusal: Refusal::NotATree {
-                at: walk::offset_at(index, node),
+                at: node::offset_at(index, node),
             },
         };
     }

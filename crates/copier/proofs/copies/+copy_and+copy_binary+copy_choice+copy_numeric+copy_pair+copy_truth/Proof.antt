@@ -13,8 +13,8 @@ use Rattle.awhile.specs.declared.Node.the-variants.{Add, Subtract, Multiply, Co
 use Rattle.awhile.proofs.Unnamed.{never-numeric, never-truth}
 use Rattle.reader.specs.Index.{numericIn, truthIn}
 use Rattle.reader.proofs.Index.{Parts}
-use Rattle.reader.specs.declared.forms.Field.the-variants.{Child}
-use Rattle.reader.specs.declared.forms.Fields.the-variants.{Two}
+use Rattle.record.specs.declared.forms.Field.the-variants.{Child}
+use Rattle.record.specs.declared.forms.Fields.the-variants.{Two}
 use Rattle.awhile.specs.declared.Sort.the-variants.{Numeric}
 use Rattle.copier.specs.Records.{recordSize}
 use Rattle.copier.specs.Sizes.{bytesOfA, bytesOfB}

@@ -7,7 +7,7 @@ use Rattle.bytes_le.proofs.Numbers.{slice-bytes}
 use Rattle.awhile.proofs.Records.{NodeAt}
 use Rattle.reader.specs.Index.{nodeIn}
 use Rattle.reader.proofs.Index.{indexed-node}
-use Rattle.reader.proofs.RecordKinds.{head-there, command-kind}
+use Rattle.record.proofs.RecordKinds.{head-there, command-kind}
 use Rattle.reader.proofs.lookup.is_command.Statement.{statement}
 use Rattle.reader.proofs.lookup.is_command.Tie as tie
 

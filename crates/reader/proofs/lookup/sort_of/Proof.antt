@@ -8,7 +8,7 @@ use Rattle.awhile.proofs.Records.{NodeAt}
 use Rattle.awhile.specs.declared.Sort.the-variants.{Numeric, Truth, Command}
 use Rattle.reader.specs.Index.{nodeIn}
 use Rattle.reader.proofs.Index.{indexed-node}
-use Rattle.reader.proofs.RecordKinds.{head-there, kind-tells}
+use Rattle.record.proofs.RecordKinds.{head-there, kind-tells}
 use Rattle.reader.proofs.lookup.sort_of.Statement.{statement}
 use Rattle.reader.proofs.lookup.sort_of.Tie as tie
 

@@ -10,7 +10,7 @@ use Rattle.awhile.specs.Nodes.{form, fieldSize, sizeOf, nodeOf}
 use Rattle.awhile.proofs.Records.{NodeAt}
 use Rattle.reader.specs.Index.{nodeIn}
 use Rattle.reader.proofs.Index.{indexed-node}
-use Rattle.reader.proofs.RecordKinds.{StoredAs, stored, head-there, last-kind}
+use Rattle.record.proofs.RecordKinds.{StoredAs, stored, head-there, last-kind}
 use Rattle.awhile.specs.declared.Sort.the-variants.{Truth}
 use Rattle.reader.proofs.lookup.truth_at.Statement.{statement}
 use Rattle.reader.proofs.lookup.truth_at.Tie as tie

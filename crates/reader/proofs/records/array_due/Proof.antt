@@ -3,7 +3,7 @@ use native.Mathlib.Omega.{arith}
 use mathlib.Core.Path.{sym, ap, _∙_}
 use Rattle.reader.specs.Walk.{countDue}
 use Rattle.awhile.proofs.Accepted.{count-fits}
-use Rattle.reader.proofs.Declaring.{count-got}
+use Rattle.record.proofs.Declaring.{count-got}
 use borrow.Author.Needs.{needs}
 use Rattle.reader.proofs.records.array_due.Statement.{statement}
 use Rattle.reader.proofs.records.array_due.Tie as tie

@@ -2,7 +2,7 @@
 use native.Mathlib.Omega.{arith}
 use mathlib.Core.Path.{refl}
 use Rattle.reader.specs.Walk.{atHeader}
-use Rattle.reader.proofs.Tally.{zeros-below}
+use Rattle.record.proofs.Tally.{zeros-below}
 use Rattle.reader.proofs.Turns.{ends-answers, never-due}
 use borrow.Author.Needs.{needs}
 use Rattle.reader.proofs.tables.read.Statement.{statement}

@@ -1,0 +1,2 @@
+-- What reading one record of a table answers.
+pub mod RecordRead
