@@ -45,12 +45,12 @@ pub fn guide(list: &[u8], board: Board, at: usize) -> Guided
     requires { ⌜ Readable (now list) at ⌝ }
     ensures { λ r. ⌜ GuidedAs board (now (list .entry)) at r ⌝ }
 {
-    match board {
-        Board::Plain => Guided::By {
+    let Board::Guessing = board else {
+        return Guided::By {
             directive: Directive::Step,
             size: 0,
             used: 0,
-        },
-        Board::Guessing => next_listed(list, at),
-    }
+        };
+    };
+    next_listed(list, at)
 }

@@ -1,6 +1,6 @@
 // Runs of a table, on the plain machine and on the guessing one.
-use running::machines::run_guessing;
-use running::machines::run_plain;
+use run_entries::machines::run_guessing;
+use run_entries::machines::run_plain;
 ghost use Rattle.entries.specs.Promises.{lentAt, Runs, Guesses};
 
 // Runs a table on the plain machine.

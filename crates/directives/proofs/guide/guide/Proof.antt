@@ -10,6 +10,6 @@ guide-spec =
     (tie.spec
     (λ c. search needs)
     (λ c. search needs)
+    (λ c. rw (c .enum-told2 .given .1) (goes-plainly _ _ (c .before .before .before .pre)))
     (λ c κs. search needs)
-    (λ c. rw (c .enum-told .given .1) (goes-plainly _ _ (c .before .before .before .pre)))
-    (λ c. rw (c .before .enum-told2 .given .1) (c .next-listed .ensures)))
+    (λ c. rw (c .before .enum-told .given .1) (c .next-listed .ensures)))

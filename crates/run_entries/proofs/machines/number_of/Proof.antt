@@ -1,8 +1,8 @@
 -- `number_of` gives each end document 01's number.
 use Rattle.machine.specs.Runs.{endNumber}
 use borrow.Author.Needs.{needs}
-use Rattle.running.proofs.machines.number_of.Statement.{statement}
-use Rattle.running.proofs.machines.number_of.Tie as tie
+use Rattle.run_entries.proofs.machines.number_of.Statement.{statement}
+use Rattle.run_entries.proofs.machines.number_of.Tie as tie
 
 pub number-of-spec : {M : Type 1} → statement M
 unfolding endNumber

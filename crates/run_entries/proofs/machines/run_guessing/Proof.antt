@@ -1,8 +1,8 @@
 -- `run_guessing` promises what `guessEntry` defines: the table is read and run under the directives.
-use Rattle.running.proofs.Runs.{guess-promise}
+use Rattle.run_entries.proofs.Runs.{guess-promise}
 use borrow.Author.Needs.{needs}
-use Rattle.running.proofs.machines.run_guessing.Statement.{statement}
-use Rattle.running.proofs.machines.run_guessing.Tie as tie
+use Rattle.run_entries.proofs.machines.run_guessing.Statement.{statement}
+use Rattle.run_entries.proofs.machines.run_guessing.Tie as tie
 
 returns : tie.Need-returns
 returns c =

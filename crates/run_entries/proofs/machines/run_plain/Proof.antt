@@ -1,9 +1,9 @@
 -- `run_plain` promises what `runEntry` defines: the table is read and run without directives.
-use Rattle.running.proofs.Runs.{run-promise}
+use Rattle.run_entries.proofs.Runs.{run-promise}
 use mathlib.Core.Path.{refl}
 use borrow.Author.Needs.{needs}
-use Rattle.running.proofs.machines.run_plain.Statement.{statement}
-use Rattle.running.proofs.machines.run_plain.Tie as tie
+use Rattle.run_entries.proofs.machines.run_plain.Statement.{statement}
+use Rattle.run_entries.proofs.machines.run_plain.Tie as tie
 
 returns : tie.Need-returns
 returns c =

@@ -17,8 +17,8 @@ use Rattle.interpreter.specs.Running.{reportOf}
 use Rattle.interpreter.specs.declared.run.Report.{Report}
 use Rattle.entries.specs.Answers.{refusalNumbers}
 use Rattle.entries.specs.Running.{Lent, lentFor, runIn, ranAll}
-use Rattle.running.specs.declared.machines.Done.{Done}
-use Rattle.running.specs.declared.machines.Done.the-variants.{Refused, Ended}
+use Rattle.run_entries.specs.declared.machines.Done.{Done}
+use Rattle.run_entries.specs.declared.machines.Done.the-variants.{Refused, Ended}
 
 -- the answer's numbers of a run's report: "this end, steps, directives used, observation bytes, flag, and the next node"
 unfoldable pub reportNumbers : Report → List ℕ

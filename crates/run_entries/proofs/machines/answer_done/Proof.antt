@@ -1,8 +1,8 @@
 -- `answer_done` writes the numbers of a refusal or of a run's report.
-use Rattle.running.proofs.Runs.{refused-answered, run-answered}
+use Rattle.run_entries.proofs.Runs.{refused-answered, run-answered}
 use borrow.Author.Needs.{needs}
-use Rattle.running.proofs.machines.answer_done.Statement.{statement}
-use Rattle.running.proofs.machines.answer_done.Tie as tie
+use Rattle.run_entries.proofs.machines.answer_done.Statement.{statement}
+use Rattle.run_entries.proofs.machines.answer_done.Tie as tie
 
 returns : tie.Need-returns
 returns c = refused-answered _ _ _ _ _ (c .before .before .before .before .before .done .given .1) (c .before .before .answer-refusal .ensures)

@@ -1,12 +1,12 @@
 -- `run_read` makes the tests 10 and 20 to 22 in their order, and runs what passes them.
-use Rattle.running.proofs.Runs.{ready-small, bad-list, wrong-variables, wrong-cells, short-pending, run-asked, run-done}
+use Rattle.run_entries.proofs.Runs.{ready-small, bad-list, wrong-variables, wrong-cells, short-pending, run-asked, run-done}
 use Rattle.bytes_le.proofs.Numbers.{slice-bytes}
 use borrow.Author.Tests.{not-true, not-false}
 use denote.Ref.{now}
 use native.Mathlib.Omega.{arith}
 use borrow.Author.Needs.{needs}
-use Rattle.running.proofs.machines.run_read.Statement.{statement}
-use Rattle.running.proofs.machines.run_read.Tie as tie
+use Rattle.run_entries.proofs.machines.run_read.Statement.{statement}
+use Rattle.run_entries.proofs.machines.run_read.Tie as tie
 
 returns : tie.Need-returns
 returns c = bad-list _ _ _ _ (c .before .before .before .before .before .before .before .before .before .before .pre) _ _ _ _ _ _ _ (c .before .reads .ensures) (not-true _ (c .if1 .taken))

@@ -35,9 +35,9 @@ use Rattle.interpreter.specs.declared.run.Report.{Report}
 use Rattle.entries.specs.Answers.{answered, refusalNumbers}
 use Rattle.entries.specs.Running.{Lent, Ran, notRun, lentFor, ranAll, runIn, running, runEntry, guessWith, guessEntry}
 use Rattle.entries.specs.Promises.{lentAt, ranAt, Runs, Guesses}
-use Rattle.running.specs.Runs.{reportNumbers, resultOf, numbersOf, runnable, CameTo, not-run, has-run, DoneAs, ReadDone}
-use Rattle.running.specs.declared.machines.Done.{Done}
-use Rattle.running.specs.declared.machines.Done.the-variants.{Refused, Ended}
+use Rattle.run_entries.specs.Runs.{reportNumbers, resultOf, numbersOf, runnable, CameTo, not-run, has-run, DoneAs, ReadDone}
+use Rattle.run_entries.specs.declared.machines.Done.{Done}
+use Rattle.run_entries.specs.declared.machines.Done.the-variants.{Refused, Ended}
 
 -- ---- a table that was read
 module _ (table index list : List ℕ) (declared : Declarations) (ready : Ready table index declared) where

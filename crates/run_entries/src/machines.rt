@@ -16,7 +16,7 @@ ghost use mathlib.Core.Path.{_≡_};
 ghost use Rattle.machine.specs.Runs.{endNumber};
 ghost use Rattle.reader.specs.Index.{Ready};
 ghost use Rattle.entries.specs.Answers.{answered};
-ghost use Rattle.running.specs.Runs.{resultOf, numbersOf, DoneAs, ReadDone};
+ghost use Rattle.run_entries.specs.Runs.{resultOf, numbersOf, DoneAs, ReadDone};
 ghost use Rattle.entries.specs.Promises.{lentAt, Runs, Guesses};
 
 // What a call that runs came to.
