@@ -13,7 +13,7 @@ use Rattle.reader.proofs.Index.{Child, child-of-sort}
 use Rattle.awhile.specs.declared.Sort.the-variants.{Command}
 use Rattle.masks.specs.Decisions.{decision}
 use Rattle.masks.specs.Hardening.{harden}
-use Rattle.masking.specs.Deciding.{decisionIn, decidedIn}
+use Rattle.deciding.specs.Deciding.{decisionIn, decidedIn}
 use Rattle.masking.specs.InMemory.{hardenedAt, flagUpdate, testIn, sideIn, ifIn, loopIn, whileIn, Hardenable}
 use Rattle.copier.specs.Sizes.{bytesOf}
 use Rattle.copier.specs.Written.{SpaceFor, Wrote}

@@ -19,7 +19,7 @@ use Rattle.reader.specs.Index.{nodesIn, nodeIn, numericIn, truthIn, commandIn}
 use Rattle.reader.proofs.Index.{Child, Parts, numeric-size, truth-size, command-size}
 use Rattle.masks.specs.Hardening.{Origin}
 use Rattle.masks.proofs.Growth.{hardened-most, nodesOf-mapped}
-use Rattle.masking.specs.Deciding.{decisionIn, decidedIn}
+use Rattle.deciding.specs.Deciding.{decisionIn, decidedIn}
 use Rattle.masking.specs.InMemory.{hardenedAt}
 use Rattle.copier.specs.Sizes.{bytesOf}
 use Rattle.copier.specs.Totals.{total, totalOf, Totals, OverTwo, HasTotal, NumericTotal, TruthTotal}

@@ -16,7 +16,7 @@ use Rattle.reader.specs.Index.{numericIn, OfSort}
 use Rattle.reader.proofs.Index.{Parts, child-of-sort}
 use Rattle.masks.specs.Decisions.{decision}
 use Rattle.masks.specs.Hardening.{harden}
-use Rattle.masking.specs.Deciding.{decisionIn}
+use Rattle.deciding.specs.Deciding.{decisionIn}
 use Rattle.masking.specs.InMemory.{hardenedAt, ifIn, loopIn, whileIn, Hardenable}
 use Rattle.masking.proofs.AccessWrites.{wrote-C, room-C}
 use Rattle.copier.specs.Sizes.{bytesOf}

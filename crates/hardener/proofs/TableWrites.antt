@@ -26,7 +26,7 @@ use Rattle.awhile.proofs.Reading.{length-headerBytes, length-labelsBytes, lengt
 use Rattle.masks.specs.Decisions.{Decision}
 use Rattle.masks.specs.Growth.{MasksLargeConditions}
 use Rattle.masks.specs.Hardening.{Origin, hardenedProgram, tableOfHardened, hardenedTable}
-use Rattle.masking.specs.Deciding.{decisionIn, decidedIn}
+use Rattle.deciding.specs.Deciding.{decisionIn, decidedIn}
 use Rattle.masking.specs.InMemory.{hardenedAt, Hardenable}
 use Rattle.masking.proofs.DecidedProgram.{program-hardened, program-large}
 use Rattle.hardener.specs.Output.{Measurable, Writable, WroteTable}

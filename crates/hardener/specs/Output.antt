@@ -8,7 +8,7 @@ use Rattle.awhile.specs.Encoding.{tableBytes}
 use Rattle.reader.specs.Index.{Ready, tableOf, nodesIn}
 use Rattle.awhile.specs.declared.Declarations.{Declarations}
 use Rattle.masks.specs.Hardening.{hardenedTable, maxHardened}
-use Rattle.masking.specs.Deciding.{Decides}
+use Rattle.deciding.specs.Deciding.{Decides}
 
 -- what measuring requires
 pub record Measurable (table index decisions : List ℕ) (declared : Declarations) : Type 0 where

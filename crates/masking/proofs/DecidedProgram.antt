@@ -7,7 +7,7 @@ use Rattle.labels.specs.Sheet.{annotated}
 use Rattle.masks.specs.Growth.{MasksLargeConditions}
 use Rattle.masks.specs.Hardening.{harden, hardenedProgram}
 use Rattle.masks.proofs.Growth.{decide-large}
-use Rattle.masking.specs.Deciding.{decidedIn, Decides}
+use Rattle.deciding.specs.Deciding.{decidedIn, Decides}
 use Rattle.masking.specs.InMemory.{hardenedAt}
 
 module _ {table ds : List ℕ} (decided : Decides table ds) where

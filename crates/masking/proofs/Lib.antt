@@ -1,6 +1,4 @@
--- Laws for what masks and flag updates write, and where masks stand.
-pub mod NotedLabels
-pub mod DecidedBytes
+-- Laws for what masks and flag updates write.
 pub mod DecidedProgram
 pub mod TwoParts
 pub mod AppendedNodes

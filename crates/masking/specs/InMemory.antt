@@ -11,7 +11,7 @@ use Rattle.awhile.specs.declared.Sort.the-variants.{Command}
 use Rattle.awhile.specs.declared.Node.{Node}
 use Rattle.awhile.specs.declared.Node.the-variants.{Number}
 use Rattle.masks.specs.Hardening.{Origin, maskedCondition, flagIfTrue, flagIfFalse, harden}
-use Rattle.masking.specs.Deciding.{decidedIn}
+use Rattle.deciding.specs.Deciding.{decidedIn}
 
 -- what comes out for a node
 unfoldable pub hardenedAt : (table decisions : List ℕ) → (f node : ℕ) → Com Origin

@@ -1,3 +1,2 @@
--- Decisions on masks in memory, and hardened commands of a table by them.
-pub mod Deciding
+-- Hardened commands of a table, by the decisions that stand in memory.
 pub mod InMemory

@@ -4,7 +4,7 @@ use denote.Ref.{now}
 use Rattle.bytes_le.proofs.Numbers.{slice-bytes}
 use Rattle.reader.proofs.Ready.{ready-nodes, ready-labels}
 use Rattle.analysis.proofs.WholeProgram.{fresh-zeros}
-use Rattle.masking.proofs.DecidedBytes.{all-decided}
+use Rattle.deciding.proofs.DecidedBytes.{all-decided}
 use borrow.Author.Needs.{needs}
 use Rattle.harden_entry.proofs.harden.decide_program.Statement.{statement}
 use Rattle.harden_entry.proofs.harden.decide_program.Tie as tie

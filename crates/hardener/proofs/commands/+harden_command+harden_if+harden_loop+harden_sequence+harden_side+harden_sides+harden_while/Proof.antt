@@ -55,7 +55,7 @@ use Rattle.copier.proofs.copies.last.Reads as last-reads
 use Rattle.copier.proofs.records.append.Reads as append-reads
 use Rattle.hardener.proofs.commands.harden_single.Reads as harden-single-reads
 use Rattle.masking.proofs.accesses.append_sequence.Reads as append-sequence-reads
-use Rattle.masking.proofs.decisions.masks_condition.Reads as masks-condition-reads
+use Rattle.deciding.proofs.decisions.masks_condition.Reads as masks-condition-reads
 use Rattle.masking.proofs.masked.copy_condition.Reads as copy-condition-reads
 use Rattle.masking.proofs.masked.put_flag_update.Reads as put-flag-update-reads
 use Rattle.hardener.proofs.commands.+harden_command+harden_if+harden_loop+harden_sequence+harden_side+harden_sides+harden_while.{

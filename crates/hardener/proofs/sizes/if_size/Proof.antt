@@ -2,7 +2,7 @@
 use native.Mathlib.Omega.{arith}
 use denote.Ref.{now}
 use borrow.Author.Needs.{needs}
-use Rattle.masking.specs.Deciding.{decisionIn}
+use Rattle.deciding.specs.Deciding.{decisionIn}
 use Rattle.copier.specs.Totals.{total}
 use Rattle.hardener.proofs.CommandSizes.{mask-most}
 use Rattle.hardener.proofs.sizes.if_size.Statement.{statement}

@@ -4,7 +4,7 @@ use mathlib.Core.Bool.{cond}
 use mathlib.Core.Path.{ap}
 use denote.Ref.{now}
 use borrow.Author.Needs.{needs}
-use Rattle.masking.specs.Deciding.{decisionIn}
+use Rattle.deciding.specs.Deciding.{decisionIn}
 use Rattle.copier.specs.Totals.{total}
 use Rattle.hardener.proofs.CommandSizes.{mask-most}
 use Rattle.hardener.proofs.sizes.read_size.Statement.{statement}

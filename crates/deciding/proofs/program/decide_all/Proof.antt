@@ -10,10 +10,10 @@ use Rattle.awhile.proofs.Children.{sameSort-true}
 use Rattle.awhile.specs.Nodes.{sortOf}
 use Rattle.awhile.specs.declared.Sort.the-variants.{Command}
 use Rattle.reader.specs.Index.{nodesIn, nodeIn}
-use Rattle.masking.specs.Deciding.{DecidedBelow}
-use Rattle.masking.proofs.DecidedBytes.{next-decided, next-passed}
-use Rattle.masking.proofs.deciding.decide_all.Statement.{statement}
-use Rattle.masking.proofs.deciding.decide_all.Tie as tie
+use Rattle.deciding.specs.Deciding.{DecidedBelow}
+use Rattle.deciding.proofs.DecidedBytes.{next-decided, next-passed}
+use Rattle.deciding.proofs.program.decide_all.Statement.{statement}
+use Rattle.deciding.proofs.program.decide_all.Tie as tie
 
 abbrev Inv-loop : tie.InvT-loop
 Inv-loop table index named notes count decisions₀ n₀ decisions n =

@@ -8,10 +8,10 @@ use Rattle.awhile.specs.declared.Labelling.{Labelling}
 use Rattle.labels.specs.Labellings.{arrayMark, labelOf}
 use Rattle.analysis.specs.Conditions.{labelAt}
 use Rattle.analysis.specs.Notes.{noteIn}
-use Rattle.masking.proofs.NotedLabels.{index-secret, array-secret, both-public}
+use Rattle.deciding.proofs.NotedLabels.{index-secret, array-secret, both-public}
 use borrow.Author.Needs.{needs}
-use Rattle.masking.proofs.deciding.mask_value.Statement.{statement}
-use Rattle.masking.proofs.deciding.mask_value.Tie as tie
+use Rattle.deciding.proofs.program.mask_value.Statement.{statement}
+use Rattle.deciding.proofs.program.mask_value.Tie as tie
 
 -- labels found under the labelling that was noted
 index-noted : {l m : Labelling} (named : List ℕ) (e : ℕ) {b : Bool} → l ≡ m → b ≡ labelAt named l e → b ≡ labelAt named m e

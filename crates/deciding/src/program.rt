@@ -1,4 +1,4 @@
-// What is masked, decided once for each command by the labels noted for it. Nothing else of this crate looks at notes.
+// What is masked, decided once for each command of a program by the labels noted for it. Nothing after it looks at notes.
 use analysis::labelling::array_label;
 use analysis::noting::noted_context;
 use analysis::noting::noted_labelling;
@@ -17,7 +17,7 @@ ghost use Rattle.labels.specs.Labellings.{arrayMark, labelOf};
 ghost use Rattle.variables.specs.Named.{Named};
 ghost use Rattle.analysis.specs.Conditions.{labelAt, NoteRoom};
 ghost use Rattle.analysis.specs.Notes.{noteIn};
-ghost use Rattle.masking.specs.Deciding.{digitsIn, Decidable, DecidedBelow};
+ghost use Rattle.deciding.specs.Deciding.{digitsIn, Decidable, DecidedBelow};
 
 // Whether a condition or an index is masked: the expression at node e is secret where command `at` is entered.
 fn mask_secret(named: &[u64], notes: &[u64], e: usize, at: usize) -> bool

@@ -8,10 +8,10 @@ use Rattle.awhile.specs.declared.Node.{Node}
 use Rattle.reader.specs.Index.{nodeIn}
 use Rattle.reader.proofs.Index.{Parts}
 use Rattle.reader.proofs.NodeKinds.{node-parts}
-use Rattle.masking.proofs.DecidedBytes.{child-asked, digits-fit, if-digits, while-digits, read-digits, write-digits, unnamed-digits}
+use Rattle.deciding.proofs.DecidedBytes.{child-asked, digits-fit, if-digits, while-digits, read-digits, write-digits, unnamed-digits}
 use borrow.Author.Needs.{needs}
-use Rattle.masking.proofs.deciding.decide_command.Statement.{statement}
-use Rattle.masking.proofs.deciding.decide_command.Tie as tie
+use Rattle.deciding.proofs.program.decide_command.Statement.{statement}
+use Rattle.deciding.proofs.program.decide_command.Tie as tie
 
 module _ (d : tie.After-command-at) where
   abbrev start : tie.Start

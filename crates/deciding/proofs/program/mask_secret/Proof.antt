@@ -3,8 +3,8 @@ use mathlib.Core.Path.{ap, _∙_}
 use denote.Ref.{now}
 use Rattle.analysis.specs.Conditions.{labelAt}
 use borrow.Author.Needs.{needs}
-use Rattle.masking.proofs.deciding.mask_secret.Statement.{statement}
-use Rattle.masking.proofs.deciding.mask_secret.Tie as tie
+use Rattle.deciding.proofs.program.mask_secret.Statement.{statement}
+use Rattle.deciding.proofs.program.mask_secret.Tie as tie
 
 pub mask-secret-spec : {M : Type 1} → statement M
 mask-secret-spec =

@@ -35,7 +35,7 @@ use Rattle.analysis.specs.Notes.{noteIn, notedProgram}
 use Rattle.reader.proofs.NodeKinds.{command-kinds}
 use Rattle.analysis.proofs.NotedPrograms.{labelled-program}
 use Rattle.masks.specs.Decisions.{Decision, decision, decide}
-use Rattle.masking.specs.Deciding.{maskDigits, decisionIn, decidedIn, Decides, annotatedIn, digitsIn, DecidedBelow}
+use Rattle.deciding.specs.Deciding.{maskDigits, decisionIn, decidedIn, Decides, annotatedIn, digitsIn, DecidedBelow}
 
 -- ---- a byte tells its decision
 digits-tell : (n : ℕ) (c i v : Bool)

@@ -1,9 +1,9 @@
 -- `masks_condition` is the byte's digit.
 use Rattle.labels.specs.Masks.{bit}
-use Rattle.masking.specs.Deciding.{decisionIn}
+use Rattle.deciding.specs.Deciding.{decisionIn}
 use borrow.Author.Needs.{needs}
-use Rattle.masking.proofs.decisions.masks_condition.Statement.{statement}
-use Rattle.masking.proofs.decisions.masks_condition.Tie as tie
+use Rattle.deciding.proofs.decisions.masks_condition.Statement.{statement}
+use Rattle.deciding.proofs.decisions.masks_condition.Tie as tie
 
 returns : tie.Need-returns
 unfolding decisionIn bit

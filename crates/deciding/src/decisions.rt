@@ -2,7 +2,7 @@
 ghost use Prim.Native.Nat.{_<_};
 ghost use mathlib.Core.Path.{_≡_};
 ghost use lib.ListN.{length};
-ghost use Rattle.masking.specs.Deciding.{decisionIn};
+ghost use Rattle.deciding.specs.Deciding.{decisionIn};
 
 // Whether the condition of an if or of a loop is masked.
 pub fn masks_condition(decisions: &[u8], n: usize) -> bool

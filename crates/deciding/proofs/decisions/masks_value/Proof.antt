@@ -6,10 +6,10 @@ use denote.Ref.{now}
 use lib.Dec.{eqb}
 use lib.ListN.{getD}
 use Rattle.labels.specs.Masks.{bit}
-use Rattle.masking.specs.Deciding.{decisionIn}
+use Rattle.deciding.specs.Deciding.{decisionIn}
 use borrow.Author.Needs.{needs}
-use Rattle.masking.proofs.decisions.masks_value.Statement.{statement}
-use Rattle.masking.proofs.decisions.masks_value.Tie as tie
+use Rattle.deciding.proofs.decisions.masks_value.Statement.{statement}
+use Rattle.deciding.proofs.decisions.masks_value.Tie as tie
 
 quarter : (m : ℕ) → m / 4 ≡ m / 2 / 2
 quarter m = omega arith

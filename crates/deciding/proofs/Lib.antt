@@ -1,0 +1,3 @@
+-- Laws for where masks stand.
+pub mod NotedLabels
+pub mod DecidedBytes

@@ -1,0 +1,2 @@
+-- Decisions on masks in memory.
+pub mod Deciding

@@ -1,0 +1,3 @@
+// Which masks the labels ask for, decided once: a byte for each command, and what it says.
+pub mod decisions;
+pub mod program;
