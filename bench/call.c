@@ -99,6 +99,32 @@ uint64_t call_answer(const struct call *call, unsigned number)
     return answer->length >= 8 * (number + 1) ? get64(answer->bytes + 8 * number) : 0;
 }
 
+/* Does this observation of a read or write show an index below the array's cell count? */
+static bool shows_in_bounds(const struct call *call, const uint8_t *shown)
+{
+    const uint8_t *first_array = call->slices[SLICE_TABLE].bytes + 20;
+    return get32(shown + 6) < get16(first_array + 6 * get16(shown + 4) + 4);
+}
+
+void call_led(const struct call *call, struct led *led)
+{
+    const uint8_t *directive = call->slices[SLICE_DIRECTIVES].bytes;
+    const uint8_t *shown = call->slices[SLICE_OBSERVATIONS].bytes; /* one for each directive used */
+    bool flag = false;
+    for (uint64_t left = call_answer(call, 3); left > 0; left--) {
+        unsigned kind = get16(directive + 2);
+        if (kind == FLOW_FORCE) {
+            led->forces++;
+            flag = true;
+        } else if (kind != FLOW_STEP && shows_in_bounds(call, shown))
+            led->in_bounds[flag]++;
+        else if (kind != FLOW_STEP)
+            led->out_of_bounds++;
+        directive += get16(directive);
+        shown += get16(shown);
+    }
+}
+
 void print_hex(FILE *to, const uint8_t *bytes, size_t length)
 {
     if (length == 0)

@@ -51,6 +51,16 @@ uint64_t call_reference(struct call *call);
 /* A number of the answer slice; 0 if the slice does not hold it whole. */
 uint64_t call_answer(const struct call *call, unsigned number);
 
+/* Which directives led the runs of guessing calls. */
+struct led {
+    uint64_t forces;
+    uint64_t out_of_bounds; /* loads and stores that led to the cell that they name */
+    uint64_t in_bounds[2];  /* those that met an index in bounds, with the flag clear and with it set */
+};
+
+/* Counts, on top of what is there, the directives that a call has used: of one that was accepted, by what its slices hold after. */
+void call_led(const struct call *call, struct led *led);
+
 void print_hex(FILE *to, const uint8_t *bytes, size_t length);
 
 #endif

@@ -350,10 +350,10 @@ static size_t guess_bounds_check(const uint8_t *table, size_t length, uint32_t i
     return answered(4);
 }
 
-/* branch 0, read 0 4, read 1 and the last index */
-static bool shows_bounds_check(const uint8_t *seen, size_t length, uint8_t last)
+/* branch whether i<4, read 0 i, read 1 and the last index */
+static bool shows_bounds_check(const uint8_t *seen, size_t length, uint8_t i, uint8_t last)
 {
-    const uint8_t shown[26] = {6, 0, 64, 0, 0, 0, 10, 0, 65, 0, 0, 0, 4, 0, 0, 0, 10, 0, 65, 0, 1, 0, last};
+    const uint8_t shown[26] = {6, 0, 64, 0, i < 4, 0, 10, 0, 65, 0, 0, 0, i, 0, 0, 0, 10, 0, 65, 0, 1, 0, last};
     return length == sizeof shown && memcmp(seen, shown, sizeof shown) == 0;
 }
 
@@ -366,11 +366,11 @@ static void case_bounds_check(void)
     assemble_redirect(&list, FLOW_LOAD, 2, 0);
     assemble_directive(&list, FLOW_STEP);
     size_t length = guess_bounds_check(t.bytes, t.length, 4, &list, seen);
-    expect(shows_bounds_check(seen, length, 77), "bounds check, plain: branch 0, read 0 4, read 1 77");
+    expect(shows_bounds_check(seen, length, 4, 77), "bounds check, plain: branch 0, read 0 4, read 1 77");
     expect(harden(&t) == FLOW_ACCEPTED, "the bounds check hardens");
     size_t hardened = answered(1);
     length = guess_bounds_check(output, hardened, 4, &list, seen);
-    expect(shows_bounds_check(seen, length, 0), "bounds check, hardened: branch 0, read 0 4, read 1 0");
+    expect(shows_bounds_check(seen, length, 4, 0), "bounds check, hardened: branch 0, read 0 4, read 1 0");
     assemble_directive(&short_list, FLOW_FORCE);
     assemble_redirect(&short_list, FLOW_LOAD, 2, 0);
     length = guess_bounds_check(t.bytes, t.length, 3, &short_list, seen);
@@ -379,6 +379,40 @@ static void case_bounds_check(void)
     buffer_free(&t);
     buffer_free(&list);
     buffer_free(&short_list);
+}
+
+/* A step or force for the branch, then load 2 0 and load 9 9: a cell that exists and one that does not. */
+static void redirecting_script(struct buffer *list, unsigned branch)
+{
+    assemble_directive(list, branch);
+    assemble_redirect(list, FLOW_LOAD, 2, 0);
+    assemble_redirect(list, FLOW_LOAD, 9, 9);
+}
+
+static void case_redirects_in_bounds(void)
+{
+    struct buffer t = {0}, step = {0}, force = {0}, missing = {0};
+    uint8_t seen[60];
+    bounds_check_table(&t);
+    redirecting_script(&step, FLOW_STEP);
+    redirecting_script(&force, FLOW_FORCE);
+    assemble_directive(&missing, FLOW_FORCE);
+    assemble_redirect(&missing, FLOW_LOAD, 9, 9);
+    size_t length = guess_bounds_check(t.bytes, t.length, 3, &step, seen);
+    expect(shows_bounds_check(seen, length, 3, 0) && answered(1) == FLOW_FINISHED && answered(3) == 3 && answered(5) == 0,
+           "i = 3 with step, load 2 0, load 9 9: the program's own cells, the flag clear, three directives used");
+    length = guess_bounds_check(t.bytes, t.length, 4, &force, seen);
+    expect(shows_bounds_check(seen, length, 4, 77) && answered(1) == FLOW_FINISHED && answered(3) == 3 && answered(5) == 1,
+           "i = 4 with force, load 2 0, load 9 9: the secret cell, then array 1's own, the flag set");
+    length = guess_bounds_check(t.bytes, t.length, 4, &missing, seen);
+    expect(length == 6 && answered(1) == FLOW_STUCK && answered(3) == 1, "i = 4 with force, load 9 9: stuck, one directive used");
+    expect(harden(&t) == FLOW_ACCEPTED, "the bounds check hardens");
+    length = guess_bounds_check(output, answered(1), 4, &force, seen);
+    expect(shows_bounds_check(seen, length, 4, 0), "i = 4 with force, load 2 0, load 9 9, hardened: branch 0, read 0 4, read 1 0");
+    buffer_free(&t);
+    buffer_free(&step);
+    buffer_free(&force);
+    buffer_free(&missing);
 }
 
 static void case_budget_zero(void)
@@ -415,6 +449,7 @@ bool cases_hold(void)
     case_questions_of_loops();
     case_questions_refused();
     case_bounds_check();
+    case_redirects_in_bounds();
     case_budget_zero();
     case_skip();
     return all_hold;

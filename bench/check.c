@@ -26,6 +26,7 @@ struct tally {
     uint64_t refusals[ENTRIES][MOST_REFUSAL + 1]; /* 0: accepted */
     uint64_t ends[ENTRIES][MOST_END + 1];
     uint64_t alone; /* pairs of lists of questions that were asked alone too */
+    struct led led; /* directives that calls of flow_guess used */
     struct plays plays;
 };
 
@@ -62,6 +63,8 @@ static void count_call(struct tally *tally, const struct call *reference, uint64
     bool machine = reference->entry == ENTRY_RUN || reference->entry == ENTRY_GUESS;
     if (machine && result == FLOW_ACCEPTED && reference->slices[SLICE_ANSWER].length >= 16)
         tally->ends[reference->entry][call_answer(reference, 1)]++;
+    if (reference->entry == ENTRY_GUESS && result == FLOW_ACCEPTED)
+        call_led(reference, &tally->led);
 }
 
 static bool compare_call(const struct call *call, struct tally *tally)
@@ -179,6 +182,13 @@ static void print_counts(const char *heading, const uint64_t *counts, unsigned f
     printf("\n");
 }
 
+static void print_led(const struct led *led)
+{
+    printf("    used      %" PRIu64 " forces; loads and stores: %" PRIu64 " out of bounds, in bounds %" PRIu64
+           " with the flag set and %" PRIu64 " with it clear\n",
+           led->forces, led->out_of_bounds, led->in_bounds[true], led->in_bounds[false]);
+}
+
 static void print_tally(const struct tally *tally)
 {
     for (unsigned entry = 0; entry < ENTRIES; entry++) {
@@ -189,14 +199,16 @@ static void print_tally(const struct tally *tally)
         print_counts("refusals", tally->refusals[entry], 1, MOST_REFUSAL);
         if (entry == ENTRY_RUN || entry == ENTRY_GUESS)
             print_counts("ends    ", tally->ends[entry], 1, MOST_END);
+        if (entry == ENTRY_GUESS)
+            print_led(&tally->led);
         if (entry == ENTRY_QUESTIONS)
             printf("    %" PRIu64 " pairs asked alone too, with the byte that each got in its list\n", tally->alone);
     }
     const struct plays *plays = &tally->plays;
     printf("  demand 2: %" PRIu64 " runs of hardened programs without guessing, as the original's\n", plays->same_runs);
-    printf("  demand 3: %" PRIu64 " pairs of states, %" PRIu64 " with related plain runs; %" PRIu64 " scripts played to these, "
-           "with %" PRIu64 " forces and %" PRIu64 " loads and stores\n",
-           plays->pairs, plays->related, plays->scripts, plays->forced, plays->redirected);
+    printf("  demand 3: %" PRIu64 " pairs of states, %" PRIu64 " with related plain runs; %" PRIu64 " scripts played to these\n",
+           plays->pairs, plays->related, plays->scripts);
+    print_led(&plays->led);
     printf("    (%" PRIu64 " scripts told the states apart on the program before hardening)\n", plays->leaks_before);
 }
 

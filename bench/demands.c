@@ -24,7 +24,7 @@ struct scene {
 struct shown {
     struct slice bytes, variables, cells;
     uint64_t end;
-    unsigned forced, redirected;
+    struct led led;
 };
 
 static void free_shown(struct shown *shown)
@@ -156,17 +156,6 @@ static struct call make_run(const struct scene *scene, const uint8_t *table, siz
     return call;
 }
 
-static void count_directives(const struct call *call, struct shown *shown)
-{
-    const uint8_t *at = call->slices[SLICE_DIRECTIVES].bytes;
-    for (uint64_t left = call_answer(call, 3); left > 0; left--) {
-        unsigned kind = get16(at + 2);
-        shown->forced += kind == FLOW_FORCE;
-        shown->redirected += kind == FLOW_LOAD || kind == FLOW_STORE;
-        at += get16(at);
-    }
-}
-
 /* Runs without guessing where `list` is NULL. */
 static struct shown show(const struct scene *scene, const uint8_t *table, size_t length, unsigned state,
                          const struct buffer *list, uint32_t budget)
@@ -183,7 +172,7 @@ static struct shown show(const struct scene *scene, const uint8_t *table, size_t
         slice_from(&shown.bytes, call.slices[SLICE_OBSERVATIONS].bytes, call_answer(&call, 4));
         slice_from(&shown.variables, variables->bytes, variables->length);
         slice_from(&shown.cells, cells->bytes, cells->length);
-        count_directives(&call, &shown);
+        call_led(&call, &shown.led);
     }
     call_free(&call);
     return shown;
@@ -255,12 +244,13 @@ static bool play_same_run(const struct scene *scene, unsigned state, struct play
 
 /* ---- Demand 3 ----------------------------------------------------------------------------------------------------------- */
 
+/* A script that is written for one of the states; it is played to both. */
 static void write_script(struct random *r, const struct scene *scene, const uint8_t *table, size_t length, struct buffer *list)
 {
     if (random_percent(r, 85)) {
         struct call call = make_run(scene, table, length, random_below(r, 2), MOST_STEPS);
         call.entry = ENTRY_GUESS;
-        generate_script(r, &call, 1 + random_below(r, 25), 10 + random_below(r, 70), list);
+        generate_script(r, &call, 1 + random_below(r, 25), 10 + random_below(r, 70), random_below(r, 60), list);
         call_free(&call);
     }
     if (random_percent(r, 30))
@@ -281,6 +271,14 @@ static void print_scene(const struct scene *scene, const struct buffer *list, co
     }
 }
 
+static void add_led(const struct led *led, struct led *sum)
+{
+    sum->forces += led->forces;
+    sum->out_of_bounds += led->out_of_bounds;
+    sum->in_bounds[false] += led->in_bounds[false];
+    sum->in_bounds[true] += led->in_bounds[true];
+}
+
 static bool play_script(struct random *r, const struct scene *scene, struct plays *plays)
 {
     struct buffer list = {0};
@@ -295,12 +293,12 @@ static bool play_script(struct random *r, const struct scene *scene, struct play
         shown[state] = show(scene, scene->hardened.bytes, scene->hardened.length, state, &list, budgets[state]);
     bool same = one_begins(&shown[0].bytes, &shown[1].bytes);
     plays->scripts++;
-    plays->forced += shown[0].forced + shown[1].forced;
-    plays->redirected += shown[0].redirected + shown[1].redirected;
     if (!same)
         print_scene(scene, &list, budgets, shown);
-    for (unsigned state = 0; state < 2; state++)
+    for (unsigned state = 0; state < 2; state++) {
+        add_led(&shown[state].led, &plays->led);
         free_shown(&shown[state]);
+    }
     buffer_free(&list);
     return same;
 }

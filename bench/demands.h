@@ -8,6 +8,7 @@
 #include <stdbool.h>
 #include <stdint.h>
 
+#include "call.h"
 #include "generate.h"
 
 struct plays {
@@ -15,8 +16,7 @@ struct plays {
     uint64_t same_runs;      /* runs without guessing compared with the original's */
     uint64_t related;        /* pairs whose plain runs are related, so that demand 3 speaks of them */
     uint64_t scripts;        /* scripts played to the hardened program from such a pair */
-    uint64_t forced;         /* directives by which these runs were led: forces */
-    uint64_t redirected;     /* .. and loads and stores */
+    struct led led;          /* directives by which these runs were led */
     uint64_t leaks_before;   /* scripts that tell the two states apart on the program before hardening: demand 3 bites */
 };
 

@@ -734,16 +734,19 @@ static void find_layout(const struct slice *table, struct layout *layout)
         layout->counts[array] = get16(table->bytes + 20 + 6 * array + RECORD_HEAD);
 }
 
-/* A load at a read, a store at a write; seldom the other one, or a cell that does not exist. */
-static void append_redirect(struct random *r, const struct layout *layout, unsigned access, struct buffer *list)
+/* A load at a read, a store at a write; seldom the other one.  `missing`: percent that name a cell or array that does not exist. */
+static void append_redirect(struct random *r, const struct layout *layout, unsigned access, unsigned missing, struct buffer *list)
 {
     bool load = (access == FLOW_READ) != random_percent(r, 6);
     unsigned array = random_below(r, layout->arrays);
     uint32_t index = random_below(r, layout->counts[array]);
-    if (random_percent(r, 8))
-        index = layout->counts[array] + random_below(r, 2);
-    if (random_percent(r, 8))
-        array = layout->arrays + random_below(r, 2);
+    if (random_percent(r, missing))
+        switch (random_below(r, 4)) {
+        case 0: index = layout->counts[array] + random_below(r, 2); break;
+        case 1: index += (uint32_t)1 << (14 + random_below(r, 18)); break; /* one that exists, but for a high bit */
+        case 2: array = layout->arrays + random_below(r, 2); break;
+        default: array += 256u << random_below(r, 8); break; /* likewise */
+        }
     assemble_redirect(list, load ? FLOW_LOAD : FLOW_STORE, array, index);
 }
 
@@ -765,11 +768,13 @@ static struct outcome try_script(const struct call *call, const struct buffer *l
     return outcome;
 }
 
-void generate_script(struct random *r, const struct call *call, unsigned most, unsigned forces, struct buffer *list)
+void generate_script(struct random *r, const struct call *call, unsigned most, unsigned forces, unsigned redirects,
+                     struct buffer *list)
 {
     struct layout layout;
     bool read_yet = false;
-    bool redirected = false;
+    bool again = false;
+    size_t fits = 0; /* bytes of the list before the last directive */
     for (unsigned count = 0; count < 2 * most; count++) {
         struct outcome outcome = try_script(call, list);
         if (outcome.refusal != FLOW_ACCEPTED)
@@ -781,15 +786,16 @@ void generate_script(struct random *r, const struct call *call, unsigned most, u
         unsigned kind = get16(node + 2);
         bool branch = kind == FLOW_IF || kind == FLOW_WHILE;
         if (outcome.end == FLOW_OUT_OF_DIRECTIVES && outcome.used < most) {
-            redirected = !branch && random_percent(r, 4); /* before it is known whether the index is out of bounds */
-            if (redirected)
-                append_redirect(r, &layout, kind, list);
+            fits = list->length;
+            again = false;
+            if (!branch && random_percent(r, redirects)) /* in bounds this fits, whatever it names */
+                append_redirect(r, &layout, kind, 40, list);
             else
                 assemble_directive(list, branch && random_percent(r, forces) ? FLOW_FORCE : FLOW_STEP);
-        } else if (outcome.end == FLOW_STUCK && !redirected && !branch) {
-            list->length -= 4; /* the step that did not fit */
-            append_redirect(r, &layout, kind, list);
-            redirected = true;
+        } else if (outcome.end == FLOW_STUCK && !again && !branch) {
+            list->length = fits; /* without the directive that did not fit */
+            append_redirect(r, &layout, kind, 15, list);
+            again = true;
         } else
             return;
     }
@@ -1056,12 +1062,20 @@ static void lend_questions(struct random *r, struct call *call)
     buffer_free(&list);
 }
 
-/* The last step of a list that fits becomes a directive that may not: a load in bounds, a force at a read. */
+/* The last directive of a list that fits becomes one that may not: a store at a read, a load at a branch, a force at a write. */
 static void spoil_last_directive(struct random *r, struct buffer *list)
 {
-    if (list->length < 4 || get16(list->bytes + list->length - 4) != 4 || get16(list->bytes + list->length - 2) != FLOW_STEP)
+    size_t last = 0;
+    for (size_t at = 0; at < list->length; at += get16(list->bytes + at))
+        last = at;
+    if (list->length == 0)
         return;
-    list->length -= 4;
+    unsigned kind = get16(list->bytes + last + 2);
+    if (kind == FLOW_LOAD || kind == FLOW_STORE) {
+        put16(list->bytes + last + 2, kind == FLOW_LOAD ? FLOW_STORE : FLOW_LOAD);
+        return;
+    }
+    list->length = last;
     if (random_percent(r, 30))
         assemble_directive(list, FLOW_FORCE);
     else
@@ -1072,7 +1086,7 @@ static void lend_directives(struct random *r, struct call *call)
 {
     struct buffer list = {0};
     if (random_percent(r, 70))
-        generate_script(r, call, random_below(r, 30), random_below(r, 60), &list);
+        generate_script(r, call, random_below(r, 30), random_below(r, 60), random_below(r, 60), &list);
     if (random_percent(r, 8))
         spoil_last_directive(r, &list);
     if (random_percent(r, 30))
@@ -1101,6 +1115,53 @@ static void lend_state(struct random *r, const struct plan *plan, struct call *c
     call->budget = generate_budget(r);
     if (call->entry == ENTRY_GUESS)
         lend_directives(r, call);
+}
+
+/* A variable, or a number that as an index of the array is mostly in bounds. */
+static unsigned put_index(struct random *r, const struct plan *plan, unsigned array, struct buffer *t)
+{
+    if (random_percent(r, 25))
+        return assemble_node1(t, FLOW_VARIABLE, random_below(r, plan->variables));
+    return assemble_node1(t, FLOW_NUMBER, random_below(r, plan->counts[array] + (random_percent(r, 25) ? 2u : 0u)));
+}
+
+static unsigned put_access(struct random *r, const struct plan *plan, struct buffer *t)
+{
+    unsigned array = random_below(r, plan->arrays), variable = random_below(r, plan->variables);
+    unsigned index = put_index(r, plan, array, t);
+    if (random_percent(r, 55))
+        return assemble_node3(t, FLOW_READ, variable, array, index);
+    return assemble_node3(t, FLOW_WRITE, array, index, assemble_node1(t, FLOW_VARIABLE, variable));
+}
+
+/* if x<n then access else access */
+static unsigned put_branch(struct random *r, const struct plan *plan, struct buffer *t)
+{
+    unsigned x = assemble_node1(t, FLOW_VARIABLE, random_below(r, plan->variables));
+    unsigned condition = assemble_node2(t, FLOW_LESS, x, assemble_node1(t, FLOW_NUMBER, random_below(r, 6)));
+    unsigned one = put_access(r, plan, t);
+    return assemble_node3(t, FLOW_IF, condition, one, put_access(r, plan, t));
+}
+
+/* Guessing on reads and writes one after another, some behind branches, so that redirects of each sort are used. */
+static void lend_accesses(struct random *r, struct call *call)
+{
+    struct plan plan = {.variables = 1 + random_below(r, 4), .arrays = 1 + random_below(r, 3)};
+    struct buffer table = {0};
+    for (unsigned array = 0; array < plan.arrays; array++)
+        plan.counts[array] = (uint16_t)(1 + random_below(r, 5));
+    assemble_table(&table, plan.variables, plan.arrays, plan.counts, 0, 0);
+    unsigned all = put_branch(r, &plan, &table);
+    for (unsigned more = random_below(r, 12); more > 0; more--) {
+        unsigned next = random_percent(r, 30) ? put_branch(r, &plan, &table) : put_access(r, &plan, &table);
+        all = assemble_node2(&table, FLOW_SEQUENCE, all, next);
+    }
+    plan.nodes = all + 1;
+    for (unsigned i = 0; i < SLICE_ANSWER; i++)
+        slice_free(&call->slices[i]);
+    slice_from(&call->slices[SLICE_TABLE], table.bytes, table.length);
+    buffer_free(&table);
+    lend_state(r, &plan, call);
 }
 
 /* Any table, and the plan of the state that goes with it. */
@@ -1140,4 +1201,6 @@ void generate_call(struct random *r, bool small, struct call *call)
         lend_state(r, &plan, call);
     if (call->entry == ENTRY_HARDEN && random_percent(r, 20)) /* last, so that a seed's other calls stay as they were */
         lend_large_expressions(r, small, call);
+    if (call->entry == ENTRY_GUESS && random_percent(r, 30)) /* likewise */
+        lend_accesses(r, call);
 }

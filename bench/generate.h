@@ -65,9 +65,11 @@ void generate_words(struct random *r, uint8_t *words, size_t count);
 
 /*
  * Puts a list of at most `most` directives that fits, step by step, a run of the guessing call (whose own list is ignored).
- * `forces`: percent of branches that are guessed wrong.
+ * `forces`: percent of branches that are guessed wrong.  `redirects`: percent of reads and writes in bounds that get a load or
+ * store; out of bounds all do.
  */
-void generate_script(struct random *r, const struct call *call, unsigned most, unsigned forces, struct buffer *list);
+void generate_script(struct random *r, const struct call *call, unsigned most, unsigned forces, unsigned redirects,
+                     struct buffer *list);
 
 /* Puts a list of directives by chance. */
 void generate_directives(struct random *r, unsigned most, struct buffer *list);

@@ -755,14 +755,17 @@ static end_or_none step_branch(struct machine *m, unsigned node)
     return 0;
 }
 
-/* Finds the cell that a read (other = load) or write (other = store) uses.  False: index or directive does not fit. */
+/*
+ * Finds the cell that a read (other = load) or write (other = store) uses: in bounds its own, whatever the directive names.
+ * False: index or directive does not fit.
+ */
 static bool find_cell(const struct machine *m, unsigned array, uint32_t index, unsigned other, uint32_t *cell)
 {
     const struct program *p = m->program;
     unsigned directive = directive_kind(m);
     if (index < p->counts[array]) {
         *cell = p->first_cell[array] + index;
-        return directive == FLOW_STEP;
+        return directive == FLOW_STEP || directive == other;
     }
     if (directive != other || !m->flag)
         return false;

@@ -119,8 +119,10 @@ enum flow_kind {
     FLOW_STEP = 72,            /* go on as the program says; length 4 */
     FLOW_FORCE = 73,           /* at a branch: go the other way and set the flag; length 4 */
     FLOW_LOAD = 74,            /* at a read: array, index (4 bytes) of the cell to use; length 10 */
-    FLOW_STORE = 75,           /* at a write: array, index (4 bytes) of the cell to use; length 10.  Load and store fit only with
-                                  the flag set and the program's own index out of bounds, and the named cell must exist */
+    FLOW_STORE = 75,           /* at a write: array, index (4 bytes) of the cell to use; length 10.  Where the program's own
+                                  index is in bounds, load and store are a step: its own cell is used, with the flag set or
+                                  clear, and the named one need not exist.  Out of bounds the named cell is used, which must
+                                  exist, and only with the flag set; else the run is stuck */
     /* label sheets: the header, then by node number; label 1 is secret */
     FLOW_SHEET = 128,          /* version, N, final variable mask (4 bytes), final array mask */
     FLOW_SHEET_SEQUENCE = 129, /* node, variable mask (4 bytes) and array mask after its first part */
@@ -184,8 +186,10 @@ uint64_t flow_run(const uint8_t *table, size_t table_len,
 
 /*
  * Runs a table on the guessing machine: as flow_run, but each shown step (if, while, read, write) takes one directive of the list,
- * and the machine's flag (0 at the start) is set by the first force.  The whole list is checked before the first step.  A cell or
- * array that does not exist is no cause of refusal: the run ends FLOW_STUCK there.  Refusals: 1 to 7, 10, 20, 21, 22.
+ * and the machine's flag (0 at the start) is set by the first force.  A list may be written once and played to several states: a
+ * load at a read and a store at a write fit wherever the program's own index is in bounds.  The whole list is checked before the
+ * first step.  A cell or array that does not exist is no cause of refusal: where it would be used the run ends FLOW_STUCK.
+ * Refusals: 1 to 7, 10, 20, 21, 22.
  */
 uint64_t flow_guess(const uint8_t *table, size_t table_len,
                     const uint8_t *directives, size_t directives_len,

@@ -131,7 +131,7 @@ def small_runs():
         guess(tab, FORCE + STEP, [i, 7, 0], FIVE, variables_left=words([i, 10, 1]), shown=branch(1) + shown_read(0, 0) + [170])
         tab = hardened(flat(table(2, 1, [2, 3], 0, ('if', ('const', 1), skip, ('write', 0, v(0), v(1))))))
         guess(tab, FORCE + STEP, [i, 7, 0], FIVE, cells_left=words([7, 11, 20, 21, 22]), shown=branch(1) + shown_write(0, 0) + [170])
-        guess(tab, FORCE + store(0, 1), [i, 7, 0], FIVE, cells_left=words(FIVE), shown=branch(1) + [170])
+        guess(tab, FORCE + store(0, 1), [i, 7, 0], FIVE, want=[0, FINISHED, 4, 2, 16, 1, 0], cells_left=words([7, 11, 20, 21, 22]), shown=branch(1) + shown_write(0, 0) + [170])
     # stuck as the original is
     tab = hardened(flat(table(2, 1, [2, 3], 0, ('read', 1, 0, v(0)))))
     run(tab, [1, 7, 0], FIVE, variables_left=words([1, 11, 0])); run(tab, [2, 7, 0], FIVE, want=[0, STUCK, 0, 0, 0, 0, 6]); guess(tab, STEP, [2, 7, 0], FIVE, want=[0, STUCK, 0, 0, 0, 0, 6])
@@ -141,9 +141,42 @@ def whole_runs():
         run(tab, [0, 0, 9, 1, 0], FIVE, room=80, pending=4 * un(tab[8:10]))
     tab = hardened(every(15, 3))
     run(tab, [7, 21, 9, 1, 0], FIVE, room=80)
-    for script in (STEP * 9, FORCE + STEP * 8, STEP + FORCE + STEP * 7, FORCE + load(1, 2) + FORCE + store(0, 1) + STEP * 5, FORCE * 9, []):
-        guess(tab, script, [7, 0, 9, 4, 0], FIVE, room=80)
+    for script in (STEP * 9, FORCE + STEP * 8, STEP + FORCE + STEP * 7): guess(tab, script, [7, 0, 9, 4, 0], FIVE, room=80)
+    # every index is masked to 0, which is in bounds: a0[0] is read, then written, whatever is named
+    guess(tab, FORCE + load(1, 2) + FORCE + store(0, 1) + STEP * 5, [7, 0, 9, 4, 0], FIVE, room=80, want=[0, FINISHED, 16, 6, 48, 1, 0], variables_left=words([20, 1, 10, 4, 1]),
+          cells_left=words([0, 11, 20, 21, 22]), shown=branch(0) + shown_read(0, 0) + branch(0) + shown_write(0, 0) + shown_read(1, 0) + branch(0) + [170])
+    for script in (FORCE * 9, []): guess(tab, script, [7, 0, 9, 4, 0], FIVE, room=80)
+# ---- P4: one script with redirects that may be in bounds, played to two states
+def redirects_in_bounds():
+    tab = hardened(BOUNDS)
+    def alike(script, i, **more):
+        """with the secret cell 77 and 78"""
+        for secret in (77, 78): guess(tab, script, [i, 0, 0, 0], CELLS[:-1] + [secret], **more)
+    # i = 4 forced in: j is masked to 0, then the load meets a1[0], in bounds; before hardening it meets a1[77] or a1[78]
+    script = FORCE + load(2, 0) + load(9, 9)
+    for secret in (77, 78):
+        guess(BOUNDS, script, [4, 0, 0], CELLS[:-1] + [secret], want=[0, FINISHED, 4, 3, 26, 1, 0], variables_left=words([4, secret, 1000 + secret]),
+              shown=branch(0) + shown_read(0, 4) + shown_read(1, secret) + [170])
+    alike(script, 4, want=[0, FINISHED, 10, 3, 26, 1, 0], variables_left=words([4, 0, 0, 1]),
+          shown=branch(0) + shown_read(0, 4) + shown_read(1, 0) + [170])
+    # i = 3 forced out: nothing is read; i = 3 and a step: both own cells with the flag clear; i = 4 and a step: nothing is read
+    alike(script, 3, want=[0, FINISHED, 4, 1, 6, 1, 0], variables_left=words([3, 0, 0, 1]), shown=branch(1) + [170])
+    script = STEP + load(2, 0) + load(9, 9)
+    alike(script, 3, want=[0, FINISHED, 10, 3, 26, 0, 0], variables_left=words([3, 8, 1008, 0]),
+          shown=branch(1) + shown_read(0, 3) + shown_read(1, 8) + [170])
+    alike(script, 4, want=[0, FINISHED, 4, 1, 6, 0, 0], variables_left=words([4, 0, 0, 0]), shown=branch(0) + [170])
+    # a secret index, in bounds from one state and out of bounds from the other: before hardening both runs go on and tell them apart; hardened, it is 0
+    secret_read = flat(table(2, 1, [2, 3], 0, ('if', ('const', 1), skip, ('read', 1, 0, v(0)))))
+    for i, value in ((1, 11), (2, 22)):
+        guess(secret_read, FORCE + load(1, 2), [i, 7], FIVE, want=[0, FINISHED, 2, 2, 16, 1, 0], variables_left=words([i, value]), shown=branch(1) + shown_read(0, i) + [170])
+        guess(hardened(secret_read), FORCE + load(1, 2), [i, 7, 0], FIVE, want=[0, FINISHED, 4, 2, 16, 1, 0], variables_left=words([i, 10, 1]),
+              shown=branch(1) + shown_read(0, 0) + [170])
+    secret_write = flat(table(2, 1, [2, 3], 0, ('if', ('const', 1), skip, ('write', 0, v(0), v(1)))))
+    for i, left in ((1, [10, 7, 20, 21, 22]), (2, [10, 11, 20, 21, 7])):
+        guess(secret_write, FORCE + store(1, 2), [i, 7], FIVE, want=[0, FINISHED, 2, 2, 16, 1, 0], cells_left=words(left), shown=branch(1) + shown_write(0, i) + [170])
+        guess(hardened(secret_write), FORCE + store(1, 2), [i, 7, 0], FIVE, want=[0, FINISHED, 4, 2, 16, 1, 0], cells_left=words([7, 11, 20, 21, 22]),
+              shown=branch(1) + shown_write(0, 0) + [170])
 def add_harden_cases():
     for group in (document, by_hand, all_kinds, limits, refused): group()
 def add_hardened_runs():
-    for group in (bounds_check, small_runs, whole_runs): group()
+    for group in (bounds_check, small_runs, whole_runs, redirects_in_bounds): group()

@@ -77,17 +77,23 @@ def directives_that_fit():
         guess(FORCED, FORCE + d, [3, 7], FIVE, want=[0, STUCK, 1, 1, 6, 1, 3], variables_left=words([3, 7]), shown=branch(1) + [170])
     for d in (STEP, FORCE, load(0, 0), store(0, 2), store(1, 3), store(2, 0), store(65535, 0), store(0, MOST)):
         guess(FORCED_WRITE, FORCE + d, [2, 7], FIVE, want=[0, STUCK, 1, 1, 6, 1, 4], cells_left=words(FIVE), shown=branch(1) + [170])
-    # in bounds with the flag set: only a step
-    guess(FORCED, FORCE + STEP, [2, 7], FIVE, want=took, variables_left=words([2, 22]))
-    guess(FORCED_WRITE, FORCE + STEP, [1, 7], FIVE, want=took, cells_left=words([10, 7, 20, 21, 22]))
-    for d in (FORCE, load(1, 2), store(1, 2)):
-        guess(FORCED, FORCE + d, [2, 7], FIVE, want=[0, STUCK, 1, 1, 6, 1, 3])
-        guess(FORCED_WRITE, FORCE + d, [1, 7], FIVE, want=[0, STUCK, 1, 1, 6, 1, 4])
-    # with the flag not set, nothing fits out of bounds, and only a step in bounds
-    for d in (FORCE, load(0, 0), store(0, 0)):
-        for i in (0, 9):
-            guess(READ, d, [i, 7], FIVE, want=[0, STUCK, 0, 0, 0, 0, 1])
-            guess(WRITE, d, [i, 7], FIVE, want=[0, STUCK, 0, 0, 0, 0, 2])
+    # in bounds with the flag set: a step, a load at a read, a store at a write
+    read, wrote = dict(want=took, variables_left=words([2, 22])), dict(want=took, cells_left=words([10, 7, 20, 21, 22]))
+    no_read, no_write = dict(want=[0, STUCK, 1, 1, 6, 1, 3]), dict(want=[0, STUCK, 1, 1, 6, 1, 4])
+    guess(FORCED, FORCE + STEP, [2, 7], FIVE, **read)
+    guess(FORCED_WRITE, FORCE + STEP, [1, 7], FIVE, **wrote)
+    for d, at_read, at_write in ((FORCE, no_read, no_write), (load(1, 2), read, no_write), (store(1, 2), no_read, wrote)):
+        guess(FORCED, FORCE + d, [2, 7], FIVE, **at_read)
+        guess(FORCED_WRITE, FORCE + d, [1, 7], FIVE, **at_write)
+    # with the flag not set, nothing fits out of bounds, and in bounds what fits with it set
+    took = [0, FINISHED, 1, 1, 10, 0, 0]
+    read, wrote = dict(want=took, variables_left=words([0, 20])), dict(want=took, cells_left=words([7, 11, 20, 21, 22]))
+    no_read, no_write = dict(want=[0, STUCK, 0, 0, 0, 0, 1]), dict(want=[0, STUCK, 0, 0, 0, 0, 2])
+    for d, at_read, at_write in ((FORCE, no_read, no_write), (load(0, 0), read, no_write), (store(0, 0), no_read, wrote)):
+        guess(READ, d, [0, 7], FIVE, **at_read)
+        guess(WRITE, d, [0, 7], FIVE, **at_write)
+        guess(READ, d, [9, 7], FIVE, **no_read)
+        guess(WRITE, d, [9, 7], FIVE, **no_write)
     # a branch takes no load and no store
     for d in (load(0, 0), store(0, 0)): guess(FORCED, d, [0, 7], FIVE, want=[0, STUCK, 0, 0, 0, 0, 4], shown=[170])
     # a cell that is not there sticks though the buffer is full too; one that is there is full
@@ -208,5 +214,83 @@ def refused_states():
         both(FORCED, [3, 7], FIVE, [0, FINISHED, 2, 1, 6, 0, 0], answer=size)
     for size in (0, 7, 8, 15, 16, 17, 64):
         run(READ + [9], [0, 7], FIVE, answer=size, want=[7, 48]); guess(READ, [0], [0, 7], FIVE, answer=size, want=[10, 0])
+# ---- P4: in bounds, a load at a read and a store at a write take the program's own cell, whatever they name
+ANY_CELL = ((0, 0), (0, 1), (1, 0), (1, 1), (1, 2),                                   # those of READ and WRITE that exist
+            (0, 2), (1, 3), (1, 4), (0, MOST), (1, MOST), (2, 0), (256, 1), (257, 1), (65535, 0), (65535, MOST))
+def own_cells():
+    # v1 := a1[1] gives 21, and a0[1] := 7 changes that cell alone, whatever cell is named
+    for array, index in ANY_CELL:
+        read = dict(variables_left=words([1, 21]), cells_left=words(FIVE))
+        guess(READ, load(array, index), [1, 7], FIVE, want=[0, FINISHED, 1, 1, 10, 0, 0], shown=shown_read(1, 1) + [170], **read)
+        guess(FORCED, FORCE + load(array, index), [1, 7], FIVE, want=[0, FINISHED, 2, 2, 16, 1, 0], shown=branch(1) + shown_read(1, 1) + [170], **read)
+        wrote = dict(variables_left=words([1, 7]), cells_left=words([10, 7, 20, 21, 22]))
+        guess(WRITE, store(array, index), [1, 7], FIVE, want=[0, FINISHED, 1, 1, 10, 0, 0], shown=shown_write(0, 1) + [170], **wrote)
+        guess(FORCED_WRITE, FORCE + store(array, index), [1, 7], FIVE, want=[0, FINISHED, 2, 2, 16, 1, 0], shown=branch(1) + shown_write(0, 1) + [170], **wrote)
+    # one script, and every index up to the bound and beyond: the own cells, then the named one, which must exist; without the flag, none
+    for i, value in ((0, 20), (1, 21), (2, 22), (3, 10), (4, 10), (MOST, 10)):
+        guess(FORCED, FORCE + load(0, 0), [i, 7], FIVE, want=[0, FINISHED, 2, 2, 16, 1, 0], variables_left=words([i, value]), shown=branch(1) + shown_read(1, i) + [170])
+        guess(FORCED, FORCE + load(2, 0), [i, 7], FIVE, want=[0, FINISHED, 2, 2, 16, 1, 0] if i < 3 else [0, STUCK, 1, 1, 6, 1, 3],
+              variables_left=words([i, value if i < 3 else 7]))
+        guess(READ, load(0, 0), [i, 7], FIVE, want=[0, FINISHED, 1, 1, 10, 0, 0] if i < 3 else [0, STUCK, 0, 0, 0, 0, 1], variables_left=words([i, value if i < 3 else 7]))
+    for i, left in ((0, [7, 11, 20, 21, 22]), (1, [10, 7, 20, 21, 22]), (2, [10, 11, 7, 21, 22]), (3, [10, 11, 7, 21, 22]), (MOST, [10, 11, 7, 21, 22])):
+        guess(FORCED_WRITE, FORCE + store(1, 0), [i, 7], FIVE, want=[0, FINISHED, 2, 2, 16, 1, 0], cells_left=words(left), shown=branch(1) + shown_write(0, i) + [170])
+        guess(FORCED_WRITE, FORCE + store(1, 3), [i, 7], FIVE, want=[0, FINISHED, 2, 2, 16, 1, 0] if i < 2 else [0, STUCK, 1, 1, 6, 1, 4],
+              cells_left=words(left if i < 2 else FIVE))
+        guess(WRITE, store(1, 0), [i, 7], FIVE, want=[0, FINISHED, 1, 1, 10, 0, 0] if i < 2 else [0, STUCK, 0, 0, 0, 0, 2], cells_left=words(left if i < 2 else FIVE))
+def other_directives():
+    # in bounds still stuck, with the flag set and clear: the other access's redirect, be it of the own cell, and force
+    same = dict(variables_left=words([1, 7]), cells_left=words(FIVE))
+    for d in (store(1, 1), store(0, 0), store(2, 0), store(65535, MOST), FORCE):
+        guess(READ, d, [1, 7], FIVE, want=[0, STUCK, 0, 0, 0, 0, 1], shown=[170], **same)
+        guess(FORCED, FORCE + d, [1, 7], FIVE, want=[0, STUCK, 1, 1, 6, 1, 3], shown=branch(1) + [170], **same)
+    for d in (load(0, 1), load(1, 0), load(2, 0), load(65535, MOST), FORCE):
+        guess(WRITE, d, [1, 7], FIVE, want=[0, STUCK, 0, 0, 0, 0, 2], shown=[170], **same)
+        guess(FORCED_WRITE, FORCE + d, [1, 7], FIVE, want=[0, STUCK, 1, 1, 6, 1, 4], shown=branch(1) + [170], **same)
+def in_order():
+    # spent comes first, whether the directive fits or not
+    for d in (load(9, 9), store(9, 9)):
+        guess(READ, d, [1, 7], FIVE, budget=0, want=[0, SPENT, 0, 0, 0, 0, 1], shown=[170])
+        guess(FORCED_WRITE, FORCE + d, [1, 7], FIVE, budget=1, want=[0, SPENT, 1, 1, 6, 1, 4], cells_left=words(FIVE))
+    guess(READ, load(9, 9), [1, 7], FIVE, budget=1, want=[0, FINISHED, 1, 1, 10, 0, 0])
+    # full comes last: a byte short and the directive is not used; what does not fit is stuck though there is no room
+    for room in (0, 9):
+        guess(READ, load(9, 9), [1, 7], FIVE, room=room, want=[0, FULL, 0, 0, 0, 0, 1], variables_left=words([1, 7]), shown=[170] * room)
+        guess(WRITE, store(9, 9), [1, 7], FIVE, room=room, want=[0, FULL, 0, 0, 0, 0, 2], cells_left=words(FIVE), shown=[170] * room)
+    guess(READ, load(9, 9), [1, 7], FIVE, room=10, want=[0, FINISHED, 1, 1, 10, 0, 0], variables_left=words([1, 21]))
+    guess(WRITE, store(9, 9), [1, 7], FIVE, room=10, want=[0, FINISHED, 1, 1, 10, 0, 0], cells_left=words([10, 7, 20, 21, 22]))
+    guess(FORCED, FORCE + load(9, 9), [1, 7], FIVE, room=15, want=[0, FULL, 1, 1, 6, 1, 3], variables_left=words([1, 7]), shown=branch(1) + [170] * 9)
+    guess(FORCED, FORCE + load(9, 9), [1, 7], FIVE, room=16, want=[0, FINISHED, 2, 2, 16, 1, 0], variables_left=words([1, 21]))
+    guess(WRITE, load(0, 1), [1, 7], FIVE, room=0, want=[0, STUCK, 0, 0, 0, 0, 2], cells_left=words(FIVE))
+    guess(READ, store(1, 1), [1, 7], FIVE, room=0, want=[0, STUCK, 0, 0, 0, 0, 1], variables_left=words([1, 7]))
+    guess(FORCED_WRITE, FORCE + load(0, 1), [1, 7], FIVE, room=15, want=[0, STUCK, 1, 1, 6, 1, 4], cells_left=words(FIVE))
+    # the directive is used up: without another one the next shown step has none; a silent step needs none
+    guess(SMALL, STEP + load(2, 0), [2, 0, 0], FEW, pending=43, want=[0, OUT_OF_DIRECTIVES, 3, 2, 16, 0, 6], variables_left=words([2, 7, 0]),
+          shown=branch(1) + shown_read(0, 2) + [170], pending_left=listed([6], 10) + [170] * 3)
+    guess(SMALL, STEP + load(2, 0) * 2, [2, 0, 0], FEW, want=[0, FINISHED, 4, 3, 26, 0, 0], variables_left=words([2, 7, 1007]))
+    guess(SMALL, STEP + load(2, 0) * 3, [2, 0, 0], FEW, want=[0, FINISHED, 4, 3, 26, 0, 0], variables_left=words([2, 7, 1007]))
+    # j = 8 is out of bounds, and there the flag is asked for
+    guess(SMALL, STEP + load(2, 0) * 2, [3, 0, 0], FEW, pending=43, want=[0, STUCK, 3, 2, 16, 0, 6], variables_left=words([3, 8, 0]), pending_left=listed([6], 10) + [170] * 3)
+def redirects_in_bounds():
+    # the bounds check: one script for i = 3 and i = 4, from step or from force
+    missing = load(2, 0) + load(9, 9)
+    guess(BOUNDS, STEP + load(2, 0) + STEP, [3, 0, 0], CELLS, want=[0, FINISHED, 4, 3, 26, 0, 0], variables_left=words([3, 8, 1008]), cells_left=words(CELLS),
+          pending_left=words([0] * 10) + [170] * 5, shown=branch(1) + shown_read(0, 3) + shown_read(1, 8) + [170])
+    guess(BOUNDS, STEP + missing, [3, 0, 0], CELLS, want=[0, FINISHED, 4, 3, 26, 0, 0], variables_left=words([3, 8, 1008]),
+          shown=branch(1) + shown_read(0, 3) + shown_read(1, 8) + [170])
+    guess(BOUNDS, STEP + missing, [4, 0, 0], CELLS, want=[0, FINISHED, 2, 1, 6, 0, 0], variables_left=words([4, 0, 0]), shown=branch(0) + [170])
+    guess(BOUNDS, FORCE + missing, [3, 0, 0], CELLS, want=[0, FINISHED, 2, 1, 6, 1, 0], variables_left=words([3, 0, 0]), shown=branch(1) + [170])
+    guess(BOUNDS, FORCE + missing, [4, 0, 0], CELLS, want=[0, FINISHED, 4, 3, 26, 1, 0], variables_left=words([4, 77, 1077]), cells_left=words(CELLS),
+          pending_left=words([0] * 10) + [170] * 5, shown=branch(0) + shown_read(0, 4) + shown_read(1, 77) + [170])
+    # out of bounds the named cell must exist, as before
+    for d in (load(2, 5), load(9, 9), load(3, 0)):
+        guess(BOUNDS, FORCE + d, [4, 0, 0], CELLS, want=[0, STUCK, 2, 1, 6, 1, 4], variables_left=words([4, 0, 0]), shown=branch(0) + [170],
+              pending_left=listed([6, 4], 10) + [170] * 5)
+    own_cells(); other_directives(); in_order()
+    # while v0<3 do (v1:=a1[v0]; v0:=v0+1): a load in each turn; forced in once more, v0 is out of bounds and the load is a redirect
+    loop = flat(table(2, 0, [2, 3], 0, ('while', ('lt', v(0), n(3)), ('seq', ('read', 1, 1, v(0)), ('assign', 0, ('add', v(0), n(1)))))))
+    turns = branch(1) + shown_read(1, 0) + branch(1) + shown_read(1, 1) + branch(1) + shown_read(1, 2) + branch(0)
+    guess(loop, (STEP + load(0, 1)) * 3 + STEP, [0, 7], FIVE, room=80, want=[0, FINISHED, 13, 7, 54, 0, 0], variables_left=words([3, 22]), shown=turns + [170])
+    guess(loop, (STEP + load(0, 1)) * 3 + FORCE + load(0, 1) + STEP, [0, 7], FIVE, room=80, want=[0, FINISHED, 17, 9, 70, 1, 0], variables_left=words([4, 11]),
+          shown=turns + shown_read(1, 3) + branch(0) + [170])
 def add_machine_cases():
-    for group in (bounds_check, ends, directives_that_fit, loops, values, lists, refused_states): group()
+    for group in (bounds_check, ends, directives_that_fit, loops, values, lists, refused_states, redirects_in_bounds): group()

@@ -193,11 +193,12 @@ def run(p, vs, cells, room, budget, ds=None):
             a = t[3] if k == 'read' else t[2]
             i = ev(t[4] if k == 'read' else t[3], vs)
             o = le(2,10)+le(2,65 if k == 'read' else 66)+le(2,a)+le(4,i)
-            if i < counts[a]:
-                if d[0] != 72: return res(4)
+            redirect = 74 if k == 'read' else 75
+            if i < counts[a]:   # P4: "takes the normal cell and uses up the directive, with the flag set or clear"
+                if d[0] not in (72, redirect): return res(4)
                 at = start[a] + i
             else:
-                if not (flag and d[0] == (74 if k == 'read' else 75)): return res(4)
+                if not (flag and d[0] == redirect): return res(4)
                 if not (d[1] < len(counts) and d[2] < counts[d[1]]): return res(4)
                 at = start[d[1]] + d[2]
         if len(obs) + len(o) > room: return res(5)

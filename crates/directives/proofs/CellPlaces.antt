@@ -4,7 +4,8 @@ use native.Mathlib.Numerals.{add-one}
 use native.Mathlib.Nat.{eq-or-lt-of-le}
 use mathlib.Core.Logic.{⊎-elim}
 use native.Mathlib.Omega.{arith}
-use mathlib.Core.Bool.{Bool, true, false}
+use mathlib.Core.Bool.{Bool, true, false, cond}
+use mathlib.Core.Option.{Option, some}
 use mathlib.Core.Path.{_≡_, refl, sym, _∙_}
 use mathlib.Core.List.{List}
 use lib.ListN.{length, getD, set, take, List·getD-eq-default, length-set}
@@ -17,8 +18,8 @@ use Rattle.awhile.specs.declared.Header.{Header}
 use Rattle.reader.specs.Index.{tableOf, HasHeader}
 use Rattle.reader.proofs.Ready.{header-arrays}
 use Rattle.awhile.proofs.Accepted.{accepted-well-formed}
-use Rattle.machine.specs.Steps.{inside, cellPlace}
-use Rattle.directives.specs.Fitting.{Starts, cellOf}
+use Rattle.machine.specs.Steps.{inside, cellPlace, onlyIf, cellAt, cellUsed}
+use Rattle.directives.specs.Fitting.{Starts, found, ownOr}
 use Rattle.directives.specs.declared.places.Cell.the-variants.{At, Missing}
 use Rattle.directives.proofs.Counts.{starts-next, starts-within}
 
@@ -27,28 +28,42 @@ module _ (counts starts : List ℕ) (at : Starts counts starts) where
   ends a few = rw add-one (at .begins (suc a) (omega arith) ∙ starts-next counts a)
 
   -- an array that there cannot be
-  pub cell-undeclared : (a i : ℕ) → 16 ≤ a → Missing ≡ cellOf counts a i
-  unfolding cellOf inside
+  pub cell-undeclared : (a i : ℕ) → 16 ≤ a → Missing ≡ found (cellAt counts a i)
+  unfolding found cellAt onlyIf inside
   cell-undeclared a i many =
       let none : getD counts a 0 ≡ 0 = List·getD-eq-default counts 0 (omega (arith, at .few)) in
       rw (none, le-ltb i 0 (omega arith))
 
   module _ (a i : ℕ) (few : a < 16) where
-    pub cell-found : getD starts a 0 + i < getD starts (a + 1) 0 → At (getD starts a 0 + i) ≡ cellOf counts a i
-    unfolding cellOf inside cellPlace
+    pub cell-found : getD starts a 0 + i < getD starts (a + 1) 0 → At (getD starts a 0 + i) ≡ found (cellAt counts a i)
+    unfolding found cellAt onlyIf inside cellPlace
     cell-found below =
         let start = at .begins a (omega arith) in
         let end = ends a few in
         rw (lt-ltb i (getD counts a 0) (omega arith), start)
 
-    pub cell-missing : getD starts (a + 1) 0 ≤ getD starts a 0 + i → Missing ≡ cellOf counts a i
-    unfolding cellOf inside
+    pub cell-missing : getD starts (a + 1) 0 ≤ getD starts a 0 + i → Missing ≡ found (cellAt counts a i)
+    unfolding found cellAt onlyIf inside
     cell-missing past =
         let start = at .begins a (omega arith) in
         let end = ends a few in
         rw (le-ltb i (getD counts a 0) (omega arith))
 
--- the cell counts that code reads from a table's records
+-- ---- the cell that a redirected read or write uses
+module _ (counts : List ℕ) (a i : ℕ) (other : Option ℕ) where
+  pub used-guessing : ownOr (found (cellAt counts a i)) (found other) ≡ found (cellUsed counts true a i other)
+  unfolding ownOr found cellAt onlyIf cellUsed
+  used-guessing = go (inside counts a i)
+    where
+      go : (b : Bool) → ownOr (found (onlyIf b (cellPlace counts a i))) (found other) ≡ found (cond b (some (cellPlace counts a i)) other)
+      go true = refl
+      go false = refl
+
+  pub used-clear : found (cellAt counts a i) ≡ found (cellUsed counts false a i other)
+  unfolding cellAt onlyIf cellUsed
+  used-clear = refl
+
+-- ---- the cell counts that code reads from a table's records
 module _ {table : List ℕ} {header : Header} (has : HasHeader table header) where
   pub undeclared-count : (a : ℕ) → header .arrays ≤ a → 0 ≡ getD (tableOf table .counts) a 0
   undeclared-count a many = sym (List·getD-eq-default (tableOf table .counts) 0 (omega (arith, header-arrays has)))

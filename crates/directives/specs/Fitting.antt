@@ -2,11 +2,12 @@
 use Prim.Native.Nat.{ℕ, _*_, _≤_}
 use mathlib.Core.Bool.{Bool, true, cond}
 use mathlib.Core.Path.{_≡_}
+use mathlib.Core.Option.{Option, none, some}
 use mathlib.Core.List.{List}
 use lib.ListN.{length, getD, take}
 use Rattle.bytes_le.specs.Numbers.{leAt}
 use Rattle.awhile.specs.Lists.{sum}
-use Rattle.machine.specs.Steps.{inside, cellPlace}
+use Rattle.machine.specs.Steps.{cellAt, cellUsed}
 use Rattle.machine.specs.declared.Directive.{Directive}
 use Rattle.machine.specs.declared.Directive.the-variants.{Step, Force, Load, Store}
 use Rattle.directives.specs.declared.change.Back.{Back}
@@ -26,9 +27,10 @@ pub record Starts (counts starts : List ℕ) : Type 0 where
   pub few : length counts ≤ 16
   pub begins : (a : ℕ) → a ≤ 16 → getD starts a 0 ≡ sum (take a counts)
 
--- the cell of an array and an index, if it exists
-unfoldable pub cellOf : (counts : List ℕ) → (array index : ℕ) → Cell
-cellOf counts a i = cond (inside counts a i) (At (cellPlace counts a i)) Missing
+-- a cell, if there is one, as the code has it
+unfoldable pub found : Option ℕ → Cell
+found none = Missing
+found (some p) = At p
 
 -- the cell that a directive asks a read or a write to use
 unfoldable pub loadTarget : Directive → Target
@@ -43,14 +45,16 @@ storeTarget Force = Neither
 storeTarget (Load b j) = Neither
 storeTarget (Store b j) = Named b j
 
-unfoldable pub namedUnless : (own named : Cell) → Cell
-namedUnless (At p) named = Missing
-namedUnless Missing named = named
+-- the program's own cell, or another where that is missing
+unfoldable pub ownOr : (own other : Cell) → Cell
+ownOr (At p) other = At p
+ownOr Missing other = other
 
-unfoldable pub cellFor : (counts : List ℕ) → (flag : Bool) → (array index : ℕ) → Target → Cell
-cellFor counts f a i Own = cellOf counts a i
-cellFor counts f a i (Named b j) = cond f (namedUnless (cellOf counts a i) (cellOf counts b j)) Missing
-cellFor counts f a i Neither = Missing
+-- the cell that a read or a write uses
+unfoldable pub cellFor : (counts : List ℕ) → (flag : Bool) → (array index : ℕ) → Target → Option ℕ
+cellFor counts f a i Own = cellAt counts a i
+cellFor counts f a i (Named b j) = cellUsed counts f a i (cellAt counts b j)
+cellFor counts f a i Neither = none
 
 -- what a branch, a read and a write change, and the flag after it
 unfoldable pub forkFit : (flag value : Bool) → (yes no : Back) → Directive → Fit
@@ -69,5 +73,5 @@ storeFit v f Missing = Unfit
 
 unfoldable pub fitOf : (counts cells : List ℕ) → (flag : Bool) → Shown → Directive → Fit
 fitOf counts cells f (Fork v y n) d = forkFit f v y n d
-fitOf counts cells f (Get x a i) d = loadFit cells x f (cellFor counts f a i (loadTarget d))
-fitOf counts cells f (Put a i v) d = storeFit v f (cellFor counts f a i (storeTarget d))
+fitOf counts cells f (Get x a i) d = loadFit cells x f (found (cellFor counts f a i (loadTarget d)))
+fitOf counts cells f (Put a i v) d = storeFit v f (found (cellFor counts f a i (storeTarget d)))

@@ -11,7 +11,7 @@ ghost use mathlib.Core.Bool.{cond};
 ghost use mathlib.Core.Path.{_≡_};
 ghost use mathlib.Core.List.{List};
 ghost use lib.ListN.{length};
-ghost use Rattle.directives.specs.Fitting.{Starts, loadTarget, storeTarget, namedUnless, cellFor, forkFit, loadFit, storeFit, fitOf};
+ghost use Rattle.directives.specs.Fitting.{Starts, found, loadTarget, storeTarget, ownOr, cellFor, forkFit, loadFit, storeFit, fitOf};
 
 // The cell that a directive asks for: the program's own, another one by name, or none because it does not fit here.
 pub enum Target {
@@ -48,10 +48,10 @@ fn store_target(directive: Directive) -> Target
     }
 }
 
-// The cell that a read or write uses: its own where that exists, and a named one only where the flag is set and its own does not.
+// The cell that a read or write uses: its own where that exists, whatever the directive names; else the named one, only with the flag set.
 fn cell_for(starts: &[u16], flag: bool, array: usize, index: u32, target: Target) -> Cell
     requires { ⌜ length (now starts) ≡ 17 ⌝ }
-    ensures { λ r. ⌜ ((counts : List ℕ) → Starts counts (now (starts .entry)) → r ≡ cellFor counts flag array index target) ⌝ }
+    ensures { λ r. ⌜ ((counts : List ℕ) → Starts counts (now (starts .entry)) → r ≡ found (cellFor counts flag array index target)) ⌝ }
 {
     let own = cell_at(starts, array, index);
     match target {
@@ -61,22 +61,22 @@ fn cell_for(starts: &[u16], flag: bool, array: usize, index: u32, target: Target
             index: place,
         } => {
             if flag {
-                unless(own, cell_at(starts, other, place))
+                own_or(own, cell_at(starts, other, place))
             } else {
-                Cell::Missing
+                own
             }
         }
         Target::Neither => Cell::Missing,
     }
 }
 
-// A named cell, where the program's own is missing.
-fn unless(own: Cell, named: Cell) -> Cell
-    ensures { λ r. ⌜ r ≡ namedUnless own named ⌝ }
+// The program's own cell, or another where that is missing.
+fn own_or(own: Cell, other: Cell) -> Cell
+    ensures { λ r. ⌜ r ≡ ownOr own other ⌝ }
 {
     match own {
-        Cell::At { place: _ } => Cell::Missing,
-        Cell::Missing => named,
+        Cell::At { place } => Cell::At { place },
+        Cell::Missing => other,
     }
 }
 

@@ -6,8 +6,9 @@ ghost use Prim.Native.Nat.{ℕ, _+_};
 ghost use mathlib.Core.Path.{_≡_};
 ghost use mathlib.Core.List.{List};
 ghost use lib.ListN.{length, getD};
+ghost use Rattle.machine.specs.Steps.{cellAt};
 ghost use Rattle.reader.specs.Index.{tableOf, HasHeader};
-ghost use Rattle.directives.specs.Fitting.{Starts, cellOf};
+ghost use Rattle.directives.specs.Fitting.{Starts, found};
 
 // A cell's place among all cells, if it exists.
 pub enum Cell {
@@ -45,7 +46,7 @@ pub fn find_starts(table: &[u8], header: Header, starts: &mut [u16])
 // The cell of an array and an index.
 pub fn cell_at(starts: &[u16], array: usize, index: u32) -> Cell
     requires { ⌜ length (now starts) ≡ 17 ⌝ }
-    ensures { λ r. ⌜ ((counts : List ℕ) → Starts counts (now (starts .entry)) → r ≡ cellOf counts array index) ⌝ }
+    ensures { λ r. ⌜ ((counts : List ℕ) → Starts counts (now (starts .entry)) → r ≡ found (cellAt counts array index)) ⌝ }
 {
     if 16 <= array {
         return Cell::Missing;

@@ -11,3 +11,4 @@ pub mod PlainRuns
 pub mod Closed
 pub mod Pulled
 pub mod Lockstep
+pub mod Redirects

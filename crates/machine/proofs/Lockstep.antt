@@ -1,9 +1,8 @@
 -- Machines abreast stay abreast, on every board, for every relation that is closed; so of two runs under one list one shows what begins
 -- what the other shows.
 use Prim.Native.Nat.{ℕ, zero, suc, _+_}
-use mathlib.Core.Bool.{Bool, true, false, cond, _&&_}
-use mathlib.Core.Bool.{not as negated}
-use mathlib.Core.Option.{Option, none, some}
+use mathlib.Core.Bool.{Bool, true, false, cond}
+use mathlib.Core.Option.{Option, none, some, Option·map}
 use mathlib.Core.List.{List, [], _∷_, _++_}
 use mathlib.Core.Logic.{inl, inr}
 use mathlib.Core.Path.{_≡_, refl, sym, subst, subst₂}
@@ -11,7 +10,7 @@ use lib.ListN.{length}
 use Rattle.awhile.specs.Language.{Com}
 use Rattle.machine.specs.Observations.{Observation, branch, readAt, writeAt, observationBytes, shownBytes}
 use Rattle.machine.specs.Look.{Look}
-use Rattle.machine.specs.Steps.{State, inside, cellPlace, onlyIf, turned, loaded, stored, redirected, atFork, atGet, atPut}
+use Rattle.machine.specs.Steps.{State, inside, cellPlace, onlyIf, cellAt, cellUsed, turned, loaded, stored, atFork, atGet, atPut}
 use Rattle.machine.specs.Runs.{Room, endless, holds, Guide, plain, guessing, Machine, Next, over, goes, Outcome}
 use Rattle.machine.specs.Runs.{moved, shownIf, shownStep, stepOf, nextOf, next, run}
 use Rattle.machine.specs.Prefixes.{Begins, OneBegins}
@@ -98,18 +97,19 @@ module _ {Note : Type 0} where
     after-if true r = both-after (r refl)
     after-if false r = none-after
 
-    -- a test that asks for the flag passes only with the flag set, on both sides alike
-    after-redirected : (s t : State Note) (a i b j : ℕ) {x y : State Note} → s .flag ≡ t .flag → (s .flag ≡ true → R x y)
-        → AfterAlike (onlyIf (redirected counts s a i b j) x) (onlyIf (redirected counts t a i b j) y)
-    unfolding redirected
-    after-redirected s t a i b j {x} {y} flags r =
-        subst (λ (f : Bool). AfterAlike (onlyIf (s .flag && (negated (inside counts a i) && inside counts b j)) x) (onlyIf (f && (negated (inside counts a i) && inside counts b j)) y))
-        flags
-        (after-if _ (λ e. r (flag-set (s .flag) _ e)))
+    -- the cell used on both sides: the own one in bounds, else another one, and only with the flag set
+    cells-alike : (f : Bool) (a i : ℕ) (other : Option ℕ) (x y : ℕ → State Note)
+        → (inside counts a i ≡ true → R (x (cellPlace counts a i)) (y (cellPlace counts a i))) → ((p : ℕ) → f ≡ true → R (x p) (y p))
+        → AfterAlike (Option·map x (cellUsed counts f a i other)) (Option·map y (cellUsed counts f a i other))
+    unfolding cellUsed
+    cells-alike f a i other x y own any = go f (inside counts a i) other refl refl
       where
-        flag-set : (f p : Bool) → (f && p) ≡ true → f ≡ true
-        flag-set true p e = refl
-        flag-set false p e = e
+        go : (g b : Bool) (c : Option ℕ) → f ≡ g → inside counts a i ≡ b
+            → AfterAlike (Option·map x (cond b (some (cellPlace counts a i)) (cond g c none))) (Option·map y (cond b (some (cellPlace counts a i)) (cond g c none)))
+        go g true c set there = both-after (own there)
+        go true false none set there = none-after
+        go true false (some p) set there = both-after (any p set)
+        go false false c set there = none-after
 
     gets-alike : (s t : State Note) (x a i : ℕ) (rest : List (Com Note)) → s .flag ≡ t .flag
         → (inside counts a i ≡ true → R (loaded s x (cellPlace counts a i) rest) (loaded t x (cellPlace counts a i) rest))
@@ -118,7 +118,9 @@ module _ {Note : Type 0} where
     unfolding atGet
     gets-alike s t x a i rest flags own any Step = after-if (inside counts a i) own
     gets-alike s t x a i rest flags own any Force = none-after
-    gets-alike s t x a i rest flags own any (Load b j) = after-redirected s t a i b j flags (any (cellPlace counts b j))
+    gets-alike s t x a i rest flags own any (Load b j) =
+        subst (λ (f : Bool). AfterAlike (atGet counts s x a i rest (Load b j)) (Option·map (λ p. loaded t x p rest) (cellUsed counts f a i (cellAt counts b j)))) flags
+        (cells-alike (s .flag) a i (cellAt counts b j) (λ p. loaded s x p rest) (λ p. loaded t x p rest) own any)
     gets-alike s t x a i rest flags own any (Store b j) = none-after
 
     puts-alike : (s t : State Note) (a i v w : ℕ) (rest : List (Com Note)) → s .flag ≡ t .flag
@@ -129,23 +131,25 @@ module _ {Note : Type 0} where
     puts-alike s t a i v w rest flags own any Step = after-if (inside counts a i) own
     puts-alike s t a i v w rest flags own any Force = none-after
     puts-alike s t a i v w rest flags own any (Load b j) = none-after
-    puts-alike s t a i v w rest flags own any (Store b j) = after-redirected s t a i b j flags (any (cellPlace counts b j))
+    puts-alike s t a i v w rest flags own any (Store b j) =
+        subst (λ (f : Bool). AfterAlike (atPut counts s a i v rest (Store b j)) (Option·map (λ p. stored t p w rest) (cellUsed counts f a i (cellAt counts b j)))) flags
+        (cells-alike (s .flag) a i (cellAt counts b j) (λ p. stored s p v rest) (λ p. stored t p w rest) own any)
 
     -- with the flag clear and the index out of bounds no directive fits
     module _ (s : State Note) (a i : ℕ) (out : inside counts a i ≡ false) (clear : s .flag ≡ false) where
       no-get : (x : ℕ) (rest : List (Com Note)) (d : Directive) → atGet counts s x a i rest d ≡ none
-      unfolding atGet onlyIf redirected
+      unfolding atGet onlyIf cellUsed
       no-get x rest Step = rw out
       no-get x rest Force = refl
-      no-get x rest (Load b j) = rw clear
+      no-get x rest (Load b j) = rw (out, clear)
       no-get x rest (Store b j) = refl
 
       no-put : (v : ℕ) (rest : List (Com Note)) (d : Directive) → atPut counts s a i v rest d ≡ none
-      unfolding atPut onlyIf redirected
+      unfolding atPut onlyIf cellUsed
       no-put v rest Step = rw out
       no-put v rest Force = refl
       no-put v rest (Load b j) = refl
-      no-put v rest (Store b j) = rw clear
+      no-put v rest (Store b j) = rw (out, clear)
 
     -- ---- the next steps, by their looks
     step-abreast : (s t : State Note) (g : Guide) (k u : ℕ) (os : List Observation) → s .flag ≡ t .flag → (l l′ : Look Note) → Alike counts R s t l l′

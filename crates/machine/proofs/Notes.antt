@@ -2,19 +2,29 @@
 use Prim.Native.Nat.{ℕ, _+_}
 use mathlib.Core.Path.{_≡_, refl, sym, ap, _∙_}
 use mathlib.Core.Bool.{Bool, true, false, cond}
-use mathlib.Core.Option.{Option, none, some, Option·map}
+use mathlib.Core.Option.{Option, none, some, Option·map, comp-map}
 use mathlib.Core.List.{List, [], _∷_, map}
 use lib.ListN.{length}
 use Rattle.awhile.specs.Language.{Com, skip, assign, sequence, if, while, read, write, mapNotes}
 use Rattle.machine.specs.Observations.{Observation, branch, readAt, writeAt, observationBytes, shownBytes}
 use Rattle.machine.specs.Look.{Look, quiet, fork, get, put, look}
-use Rattle.machine.specs.Steps.{State, onlyIf, quietly, turned, loaded, stored, redirected, atFork, atGet, atPut}
+use Rattle.machine.specs.Steps.{State, onlyIf, quietly, turned, loaded, stored, cellUsed, cellAt, atFork, atGet, atPut}
 use Rattle.machine.specs.Runs.{Room, holds, Guide, plain, guessing, Machine, Next, over, goes, Outcome}
 use Rattle.machine.specs.Runs.{moved, shownIf, shownStep, stepOf, nextOf, next, endWithout, run, started}
 use Rattle.machine.specs.declared.Directive.{Directive}
 use Rattle.machine.specs.declared.Directive.the-variants.{Step, Force, Load, Store}
 use Rattle.machine.specs.declared.End.the-variants.{Full}
 use Rattle.machine.proofs.Runs.{along-run, run-over, run-goes}
+
+-- a choice between two changed things, and a thing that may be none, are the change of the choice and of the thing
+pub cond-mapped : {X Y : Type 0} (g : X → Y) (b : Bool) (x x′ : X) → cond b (g x) (g x′) ≡ g (cond b x x′)
+cond-mapped g true x x′ = refl
+cond-mapped g false x x′ = refl
+
+pub onlyIf-mapped : {X Y : Type 0} (g : X → Y) (b : Bool) (x : X) → onlyIf b (g x) ≡ Option·map g (onlyIf b x)
+unfolding onlyIf
+onlyIf-mapped g true x = refl
+onlyIf-mapped g false x = refl
 
 -- the same pending list, look, state, machine, next step and outcome with other notes
 module _ {A B : Type 0} (f : A → B) where
@@ -51,16 +61,6 @@ module _ {A B : Type 0} (f : A → B) where
   look-mapped (read n x a i) rest vs = refl
   look-mapped (write n a i e) rest vs = refl
 
-  -- a choice between two changed things is the change of the choice
-  pub cond-mapped : {X Y : Type 0} (g : X → Y) (b : Bool) (x x′ : X) → cond b (g x) (g x′) ≡ g (cond b x x′)
-  cond-mapped g true x x′ = refl
-  cond-mapped g false x x′ = refl
-
-  onlyIf-mapped : (b : Bool) (s : State A) → onlyIf b (mapState s) ≡ Option·map mapState (onlyIf b s)
-  unfolding onlyIf
-  onlyIf-mapped true s = refl
-  onlyIf-mapped false s = refl
-
   module _ (counts : List ℕ) (s : State A) where
     atFork-mapped :
         (v : Bool) (cs ds : List (Com A)) (d : Directive)
@@ -74,20 +74,20 @@ module _ {A B : Type 0} (f : A → B) where
     atGet-mapped :
         (x a i : ℕ) (rest : List (Com A)) (d : Directive)
         → atGet counts (mapState s) x a i (mapPending rest) d ≡ Option·map mapState (atGet counts s x a i rest d)
-    unfolding atGet loaded redirected mapState
-    atGet-mapped x a i rest Step = onlyIf-mapped _ _
+    unfolding atGet loaded mapState
+    atGet-mapped x a i rest Step = onlyIf-mapped mapState _ _
     atGet-mapped x a i rest Force = refl
-    atGet-mapped x a i rest (Load b j) = onlyIf-mapped _ _
+    atGet-mapped x a i rest (Load b j) = comp-map mapState (λ p. loaded s x p rest) (cellUsed counts (s .flag) a i (cellAt counts b j))
     atGet-mapped x a i rest (Store b j) = refl
 
     atPut-mapped :
         (a i v : ℕ) (rest : List (Com A)) (d : Directive)
         → atPut counts (mapState s) a i v (mapPending rest) d ≡ Option·map mapState (atPut counts s a i v rest d)
-    unfolding atPut stored redirected mapState
-    atPut-mapped a i v rest Step = onlyIf-mapped _ _
+    unfolding atPut stored mapState
+    atPut-mapped a i v rest Step = onlyIf-mapped mapState _ _
     atPut-mapped a i v rest Force = refl
     atPut-mapped a i v rest (Load b j) = refl
-    atPut-mapped a i v rest (Store b j) = onlyIf-mapped _ _
+    atPut-mapped a i v rest (Store b j) = comp-map mapState (λ p. stored s p v rest) (cellUsed counts (s .flag) a i (cellAt counts b j))
 
   module _ (counts : List ℕ) (room : Room) (m : Machine A) where
     shownIf-mapped :

@@ -3,7 +3,7 @@ use Prim.Native.Nat.{ℕ, _+_, _≤_, _<_}
 use native.Mathlib.Omega.{arith}
 use mathlib.Core.Path.{subst}
 use mathlib.Core.Bool.{Bool, true, false, cond}
-use mathlib.Core.Option.{Option, none, some}
+use mathlib.Core.Option.{Option, none, some, Option·map}
 use mathlib.Core.List.{List, [], _∷_}
 use lib.ListN.{length}
 use Rattle.awhile.specs.Language.{Com, skip, assign, sequence, if, while, read, write}
@@ -14,7 +14,7 @@ use Rattle.awhile.specs.WellFormed.{WellFormed}
 use Rattle.awhile.proofs.Size.{root-size}
 use Rattle.machine.specs.Observations.{Observation, branch, readAt, writeAt, observationBytes, shownBytes}
 use Rattle.machine.specs.Look.{Look, quiet, fork, get, put, look}
-use Rattle.machine.specs.Steps.{State, inside, cellPlace, onlyIf, quietly, turned, loaded, stored, redirected, atFork, atGet, atPut}
+use Rattle.machine.specs.Steps.{State, inside, cellPlace, onlyIf, quietly, turned, loaded, stored, cellAt, cellUsed, atFork, atGet, atPut}
 use Rattle.machine.specs.Runs.{Room, holds, Guide, plain, guessing, Machine, Next, over, goes}
 use Rattle.machine.specs.Runs.{moved, shownIf, shownStep, stepOf, nextOf, next, run, started}
 use Rattle.machine.specs.declared.Directive.{Directive}
@@ -48,6 +48,10 @@ module _ {Note : Type 0} (P : List (Com Note) → Type 0) where
   onlyIf-after true s p = p
   onlyIf-after false s p = tt
 
+  cell-after : (after : ℕ → State Note) (c : Option ℕ) → ((p : ℕ) → P (after p .pending)) → AfterDirective (Option·map after c)
+  cell-after after none p = tt
+  cell-after after (some c) p = p c
+
   module _ (counts : List ℕ) (s : State Note) where
     fork-after : (v : Bool) (cs ds : List (Com Note)) → P cs → P ds → (d : Directive) → AfterDirective (atFork counts s v cs ds d)
     unfolding atFork turned
@@ -60,7 +64,7 @@ module _ {Note : Type 0} (P : List (Com Note) → Type 0) where
     unfolding atGet loaded
     get-after x a i rest p Step = onlyIf-after (inside counts a i) (loaded s x (cellPlace counts a i) rest) p
     get-after x a i rest p Force = tt
-    get-after x a i rest p (Load b j) = onlyIf-after (redirected counts s a i b j) (loaded s x (cellPlace counts b j) rest) p
+    get-after x a i rest p (Load b j) = cell-after (λ q. loaded s x q rest) (cellUsed counts (s .flag) a i (cellAt counts b j)) (λ q. p)
     get-after x a i rest p (Store b j) = tt
 
     put-after : (a i v : ℕ) (rest : List (Com Note)) → P rest → (d : Directive) → AfterDirective (atPut counts s a i v rest d)
@@ -68,7 +72,7 @@ module _ {Note : Type 0} (P : List (Com Note) → Type 0) where
     put-after a i v rest p Step = onlyIf-after (inside counts a i) (stored s (cellPlace counts a i) v rest) p
     put-after a i v rest p Force = tt
     put-after a i v rest p (Load b j) = tt
-    put-after a i v rest p (Store b j) = onlyIf-after (redirected counts s a i b j) (stored s (cellPlace counts b j) v rest) p
+    put-after a i v rest p (Store b j) = cell-after (λ q. stored s q v rest) (cellUsed counts (s .flag) a i (cellAt counts b j)) (λ q. p)
 
   module _ (room : Room) (m : Machine Note) where
     shownIf-after : (o : Observation) (g : Guide) (u : ℕ) (s : Option (State Note)) → AfterDirective s → AfterNext (shownIf room m o g u s)

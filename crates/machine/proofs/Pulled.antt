@@ -43,8 +43,8 @@ module _ {A B : Type 0} (f : A → B) (counts : List ℕ) (R : State B → State
   alike-pulled s t l l′ (quiets p vs ws) (quiet-alike n us zs r) = quiet-alike p vs ws (record { same = refl; related = r })
   alike-pulled s t l l′ (forks v w x y) (fork-alike u n k r g) =
       fork-alike u x y
-      (record { same = refl; related = subst (λ (q : List (Com B)). R (turned (mapState f s) q (s .flag)) (turned (mapState f t) q (t .flag))) (cond-mapped f (mapPending f) u x y) r })
-      (record { same = refl; related = subst (λ (q : List (Com B)). R (turned (mapState f s) q true) (turned (mapState f t) q true)) (cond-mapped f (mapPending f) u y x) g })
+      (record { same = refl; related = subst (λ (q : List (Com B)). R (turned (mapState f s) q (s .flag)) (turned (mapState f t) q (t .flag))) (cond-mapped (mapPending f) u x y) r })
+      (record { same = refl; related = subst (λ (q : List (Com B)). R (turned (mapState f s) q true) (turned (mapState f t) q true)) (cond-mapped (mapPending f) u y x) g })
   alike-pulled s t l l′ (gets x a i j p) (get-alike y b k n own any) =
       get-alike x a i p (λ h. record { same = refl; related = own h }) (λ place set. record { same = refl; related = any place set })
   alike-pulled s t l l′ (gets x a i j p) (get-out-left y b k m n out clear) = get-out-left x a i j p out clear

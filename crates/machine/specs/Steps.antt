@@ -1,8 +1,7 @@
 -- One step of a machine under a directive (figure 7 of source 004). The plain machine takes every step by the directive `Step`.
 use Prim.Native.Nat.{ℕ, _+_}
-use mathlib.Core.Bool.{Bool, true, cond, _&&_}
-use mathlib.Core.Bool.{not as negated}
-use mathlib.Core.Option.{Option, none, some}
+use mathlib.Core.Bool.{Bool, true, cond}
+use mathlib.Core.Option.{Option, none, some, Option·map}
 use mathlib.Core.List.{List}
 use lib.ListN.{getD, set, take}
 use lib.Dec.{ltb}
@@ -29,6 +28,15 @@ cellPlace counts a i = sum (take a counts) + i
 unfoldable pub onlyIf : {A : Type 0} → Bool → A → Option A
 onlyIf b a = cond b (some a) none
 
+-- the place of a cell, if it exists
+unfoldable pub cellAt : (counts : List ℕ) → (array index : ℕ) → Option ℕ
+cellAt counts a i = onlyIf (inside counts a i) (cellPlace counts a i)
+
+-- the cell that a redirected read or write uses. Figure 15 of source 004: in bounds the program's own, with the flag set or clear and
+-- whatever the other one is. Out of bounds the other one, "only if the flag is set"; a cell that is named "must exist"
+unfoldable pub cellUsed : (counts : List ℕ) → (flag : Bool) → (array index : ℕ) → (other : Option ℕ) → Option ℕ
+cellUsed counts f a i other = cond (inside counts a i) (some (cellPlace counts a i)) (cond f other none)
+
 module _ {Note : Type 0} (s : State Note) where
   -- a silent step
   unfoldable pub quietly : List (Com Note) → List ℕ → State Note
@@ -48,12 +56,9 @@ module _ {Note : Type 0} (s : State Note) where
   stored p v rest = record { pending = rest; variables = s .variables; cells = set (s .cells) p v; flag = s .flag }
 
 module _ {Note : Type 0} (counts : List ℕ) (s : State Note) where
-  -- "only if the flag is set and the program's own index is not below the cell count, use the named cell, which must exist"
-  unfoldable pub redirected : (array index namedArray namedIndex : ℕ) → Bool
-  redirected a i b j = s .flag && (negated (inside counts a i) && inside counts b j)
-
   -- the state after a shown step under a directive, or none where index or directive does not fit.
-  -- "73 force, at a branch, goes the other way and sets the flag"; "In bounds only 72 fits."
+  -- "73 force, at a branch, goes the other way and sets the flag"; a load fits only at a read and a store only at a write, and each is
+  -- used up by its step
   unfoldable pub atFork : (value : Bool) → (onTrue onFalse : List (Com Note)) → Directive → Option (State Note)
   atFork v onTrue onFalse Step = some (turned s (cond v onTrue onFalse) (s .flag))
   atFork v onTrue onFalse Force = some (turned s (cond v onFalse onTrue) true)
@@ -63,11 +68,11 @@ module _ {Note : Type 0} (counts : List ℕ) (s : State Note) where
   unfoldable pub atGet : (variable array index : ℕ) → List (Com Note) → Directive → Option (State Note)
   atGet x a i rest Step = onlyIf (inside counts a i) (loaded s x (cellPlace counts a i) rest)
   atGet x a i rest Force = none
-  atGet x a i rest (Load b j) = onlyIf (redirected a i b j) (loaded s x (cellPlace counts b j) rest)
+  atGet x a i rest (Load b j) = Option·map (λ p. loaded s x p rest) (cellUsed counts (s .flag) a i (cellAt counts b j))
   atGet x a i rest (Store b j) = none
 
   unfoldable pub atPut : (array index value : ℕ) → List (Com Note) → Directive → Option (State Note)
   atPut a i v rest Step = onlyIf (inside counts a i) (stored s (cellPlace counts a i) v rest)
   atPut a i v rest Force = none
   atPut a i v rest (Load b j) = none
-  atPut a i v rest (Store b j) = onlyIf (redirected a i b j) (stored s (cellPlace counts b j) v rest)
+  atPut a i v rest (Store b j) = Option·map (λ p. stored s p v rest) (cellUsed counts (s .flag) a i (cellAt counts b j))

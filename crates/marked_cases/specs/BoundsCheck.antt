@@ -1,4 +1,5 @@
--- `if i<4 then (j:=a0[i]; x:=a1[j]) else skip` on the guessing machine, as it stands and hardened; and the budget 0 on both machines.
+-- `if i<4 then (j:=a0[i]; x:=a1[j]) else skip` on the guessing machine, as it stands and hardened; redirects in bounds; and the budget 0
+-- on both machines.
 use Prim.Native.Nat.{ℕ, _*_, _+_}
 use mathlib.Core.Path.{_≡_, refl}
 use mathlib.Core.List.{List, [], _∷_, _++_}
@@ -127,6 +128,29 @@ forceLoad =
     ∷ 10 ∷ 0 ∷ 74 ∷ 0 ∷ 2 ∷ 0 ∷ 0 ∷ 0 ∷ 0 ∷ 0  -- load 2 0
     ∷ []
 
+-- directives
+abbrev pub stepLoadStep : List ℕ
+stepLoadStep =
+    4 ∷ 0 ∷ 72 ∷ 0  -- step
+    ∷ 10 ∷ 0 ∷ 74 ∷ 0 ∷ 2 ∷ 0 ∷ 0 ∷ 0 ∷ 0 ∷ 0  -- load 2 0
+    ∷ 4 ∷ 0 ∷ 72 ∷ 0  -- step
+    ∷ []
+
+-- directives
+abbrev pub forceLoadLoad : List ℕ
+forceLoadLoad =
+    4 ∷ 0 ∷ 73 ∷ 0  -- force
+    ∷ 10 ∷ 0 ∷ 74 ∷ 0 ∷ 2 ∷ 0 ∷ 0 ∷ 0 ∷ 0 ∷ 0  -- load 2 0
+    ∷ 10 ∷ 0 ∷ 74 ∷ 0 ∷ 9 ∷ 0 ∷ 9 ∷ 0 ∷ 0 ∷ 0  -- load 9 9
+    ∷ []
+
+-- directives
+abbrev pub forceLoadBeyond : List ℕ
+forceLoadBeyond =
+    4 ∷ 0 ∷ 73 ∷ 0  -- force
+    ∷ 10 ∷ 0 ∷ 74 ∷ 0 ∷ 2 ∷ 0 ∷ 5 ∷ 0 ∷ 0 ∷ 0  -- load 2 5
+    ∷ []
+
 -- observations of the table as it stands, i = 4: the last one is the secret cell
 abbrev pub showsSecret : List ℕ
 showsSecret =
@@ -147,6 +171,20 @@ showsNoSecret =
 abbrev pub showsBranch : List ℕ
 showsBranch =
     6 ∷ 0 ∷ 64 ∷ 0 ∷ 1 ∷ 0  -- branch 1
+    ∷ []
+
+-- observations of the table as it stands, i = 3, under step, load 2 0, step
+abbrev pub showsOwn : List ℕ
+showsOwn =
+    6 ∷ 0 ∷ 64 ∷ 0 ∷ 1 ∷ 0  -- branch 1
+    ∷ 10 ∷ 0 ∷ 65 ∷ 0 ∷ 0 ∷ 0 ∷ 3 ∷ 0 ∷ 0 ∷ 0  -- read 0 3
+    ∷ 10 ∷ 0 ∷ 65 ∷ 0 ∷ 1 ∷ 0 ∷ 0 ∷ 0 ∷ 0 ∷ 0  -- read 1 0
+    ∷ []
+
+-- the observation of a branch that goes the wrong way, i = 4
+abbrev pub showsWrongWay : List ℕ
+showsWrongWay =
+    6 ∷ 0 ∷ 64 ∷ 0 ∷ 0 ∷ 0  -- branch 0
     ∷ []
 
 -- what a call answers and leaves, whatever the answer slice
@@ -185,6 +223,29 @@ pub in-bounds-skips :
     (numbers 1 4 1 6 1 0) (lentAfter (replicate 42 0) (3 ∷ 0 ∷ 0 ∷ 1 ∷ []) showsBranch 34)
 unfolding opened
 in-bounds-skips = (λ answer. refl, λ answer. refl)
+
+-- change request P4: i = 3 with step, load 2 0, step. The index 3 is in bounds, so j gets its own cell, 0 and not 77, with the flag clear,
+-- and the load is used up
+pub load-in-bounds-clear :
+    GuessesTo boundsCheck stepLoadStep (lentFrom 10 (3 ∷ 5 ∷ 6 ∷ [])) 100
+    (numbers 1 4 3 26 0 0) (lentAfter (replicate 10 0) (3 ∷ 0 ∷ 0 ∷ []) showsOwn 14)
+unfolding opened
+load-in-bounds-clear answer = refl
+
+-- i = 4 with force, load 2 0, load 9 9. Out of bounds j gets the named cell, 77; that is in bounds of array 1, so x gets its own cell, 0,
+-- with the flag set, and that there is no array 9 does not matter
+pub load-in-bounds-set :
+    GuessesTo boundsCheck forceLoadLoad (lentFrom 10 (4 ∷ 5 ∷ 6 ∷ [])) 100
+    (numbers 1 4 3 26 1 0) (lentAfter (replicate 10 0) (4 ∷ 77 ∷ 0 ∷ []) showsSecret 14)
+unfolding opened
+load-in-bounds-set answer = refl
+
+-- i = 4 with force, load 2 5. Out of bounds the named cell must exist: stuck at the first read, node 4, the load not used
+pub load-out-of-bounds-missing :
+    GuessesTo boundsCheck forceLoadBeyond (lentFrom 10 (4 ∷ 5 ∷ 6 ∷ [])) 100
+    (numbers 4 2 1 6 1 4) (lentAfter (6 ∷ 4 ∷ replicate 8 0) (4 ∷ 5 ∷ 6 ∷ []) showsWrongWay 34)
+unfolding opened
+load-out-of-bounds-missing answer = refl
 
 -- P: budget 0: spent, 0 steps, on both machines. The root, node 9, is still pending
 pub budget-zero :
