@@ -58,7 +58,10 @@ struct led {
     uint64_t in_bounds[2];  /* those that met an index in bounds, with the flag clear and with it set */
 };
 
-/* Counts, on top of what is there, the directives that a call has used: of one that was accepted, by what its slices hold after. */
+/*
+ * Counts, on top of what is there, the directives that an accepted call has used, by what its slices hold after; none where the
+ * answer slice is too short to say how many.
+ */
 void call_led(const struct call *call, struct led *led);
 
 void print_hex(FILE *to, const uint8_t *bytes, size_t length);

@@ -20,7 +20,7 @@
 #include "flow.h"
 #include "generate.h"
 
-enum { DEFAULT_COUNT = 400000, HANGING_SECONDS = 120, MOST_REFUSAL = 23, MOST_END = 5, MOST_ALONE = 8 };
+enum { DEFAULT_COUNT = 400000, ENOUGH_TO_PLAY = 1000, HANGING_SECONDS = 120, MOST_REFUSAL = 23, MOST_END = 5, MOST_ALONE = 8 };
 
 struct tally {
     uint64_t refusals[ENTRIES][MOST_REFUSAL + 1]; /* 0: accepted */
@@ -212,6 +212,15 @@ static void print_tally(const struct tally *tally)
     printf("    (%" PRIu64 " scripts told the states apart on the program before hardening)\n", plays->leaks_before);
 }
 
+/* Have directives of each sort led demand 3's plays?  If not, it was not played with them. */
+static bool all_led(const struct led *led)
+{
+    bool all = led->forces > 0 && led->out_of_bounds > 0 && led->in_bounds[true] > 0 && led->in_bounds[false] > 0;
+    if (!all)
+        printf("demand 3 was not played with forces, and loads and stores out of bounds and in bounds\n");
+    return all;
+}
+
 static bool check_number(uint64_t seed, uint64_t number, struct tally *tally)
 {
     struct random r = random_from(seed, number);
@@ -249,5 +258,5 @@ int main(int argc, char **argv)
     }
     printf("library and reference agree (seed %" PRIu64 ")\n", seed);
     print_tally(&tally);
-    return 0;
+    return count < ENOUGH_TO_PLAY || all_led(&tally.plays.led) ? 0 : 1;
 }

@@ -244,13 +244,14 @@ static bool play_same_run(const struct scene *scene, unsigned state, struct play
 
 /* ---- Demand 3 ----------------------------------------------------------------------------------------------------------- */
 
-/* A script that is written for one of the states; it is played to both. */
+/* Most scripts are written for one of the states; each is played to both. */
 static void write_script(struct random *r, const struct scene *scene, const uint8_t *table, size_t length, struct buffer *list)
 {
     if (random_percent(r, 85)) {
         struct call call = make_run(scene, table, length, random_below(r, 2), MOST_STEPS);
         call.entry = ENTRY_GUESS;
-        generate_script(r, &call, 1 + random_below(r, 25), 10 + random_below(r, 70), random_below(r, 60), list);
+        unsigned most = 1 + random_below(r, 25), forces = 10 + random_below(r, 70), redirects = random_below(r, 60);
+        generate_script(r, &call, most, forces, redirects, list);
         call_free(&call);
     }
     if (random_percent(r, 30))

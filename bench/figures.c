@@ -120,9 +120,8 @@ static void figures_of_nesting(void)
 
 /* ---- Machines ----------------------------------------------------------------------------------------------------------- */
 
-static void figures_of_machine(const char *name, enum entry entry)
+static void figures_of_machine(const char *name, struct call call)
 {
-    struct call call = machine_call(entry);
     struct timing timing = time_calls(both, &call, 1);
     printf("| %s | %.1f | %.1f | %.2f |\n", name, 1e-6 * MACHINE_STEPS / timing.library, 1e-6 * MACHINE_STEPS / timing.other,
            timing.library / timing.other);
@@ -131,10 +130,12 @@ static void figures_of_machine(const char *name, enum entry entry)
 
 static void figures_of_machines(void)
 {
-    printf("\n## Steps a second, on while x<2^32-1 do (x:=x+1; y:=x*3-y)\n\n"
+    printf("\n## Steps a second, on while x<2^32-1 do (x:=x+1; y:=x*3-y) and on while 1 do (x:=a0[i]; a1[i]:=x)\n\n"
            "| machine | library, million steps/s | reference, million steps/s | ratio of times |\n|---|---|---|---|\n");
-    figures_of_machine("plain", ENTRY_RUN);
-    figures_of_machine("guessing", ENTRY_GUESS);
+    figures_of_machine("plain machine", machine_call(ENTRY_RUN));
+    figures_of_machine("guessing machine", machine_call(ENTRY_GUESS));
+    for (enum accesses accesses = 0; accesses < ACCESSES; accesses++)
+        figures_of_machine(accesses_names[accesses], access_call(accesses));
 }
 
 /* ---- Stack -------------------------------------------------------------------------------------------------------------- */

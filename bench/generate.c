@@ -1085,8 +1085,10 @@ static void spoil_last_directive(struct random *r, struct buffer *list)
 static void lend_directives(struct random *r, struct call *call)
 {
     struct buffer list = {0};
-    if (random_percent(r, 70))
-        generate_script(r, call, random_below(r, 30), random_below(r, 60), random_below(r, 60), &list);
+    if (random_percent(r, 70)) {
+        unsigned most = random_below(r, 30), forces = random_below(r, 60), redirects = random_below(r, 60);
+        generate_script(r, call, most, forces, redirects, &list);
+    }
     if (random_percent(r, 8))
         spoil_last_directive(r, &list);
     if (random_percent(r, 30))
@@ -1143,7 +1145,10 @@ static unsigned put_branch(struct random *r, const struct plan *plan, struct buf
     return assemble_node3(t, FLOW_IF, condition, one, put_access(r, plan, t));
 }
 
-/* Guessing on reads and writes one after another, some behind branches, so that redirects of each sort are used. */
+/*
+ * In the place of the table, one of reads and writes one after another, some behind branches, and a state for it: most runs of
+ * other tables come to no read or write, and here redirects of each sort are used.
+ */
 static void lend_accesses(struct random *r, struct call *call)
 {
     struct plan plan = {.variables = 1 + random_below(r, 4), .arrays = 1 + random_below(r, 3)};
@@ -1157,8 +1162,7 @@ static void lend_accesses(struct random *r, struct call *call)
         all = assemble_node2(&table, FLOW_SEQUENCE, all, next);
     }
     plan.nodes = all + 1;
-    for (unsigned i = 0; i < SLICE_ANSWER; i++)
-        slice_free(&call->slices[i]);
+    slice_free(&call->slices[SLICE_TABLE]);
     slice_from(&call->slices[SLICE_TABLE], table.bytes, table.length);
     buffer_free(&table);
     lend_state(r, &plan, call);
@@ -1197,10 +1201,10 @@ void generate_call(struct random *r, bool small, struct call *call)
         lend_output(r, call);
     else if (call->entry == ENTRY_QUESTIONS)
         lend_questions(r, call);
+    else if (call->entry == ENTRY_GUESS && random_percent(r, 30))
+        lend_accesses(r, call);
     else
         lend_state(r, &plan, call);
     if (call->entry == ENTRY_HARDEN && random_percent(r, 20)) /* last, so that a seed's other calls stay as they were */
         lend_large_expressions(r, small, call);
-    if (call->entry == ENTRY_GUESS && random_percent(r, 30)) /* likewise */
-        lend_accesses(r, call);
 }

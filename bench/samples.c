@@ -15,6 +15,11 @@ const unsigned asked_sizes[] = {64, 512, 4096, 0};
 const unsigned copied_sizes[] = {8, 64, 512, 0};
 const unsigned nested_depths[] = {1, 2, 5, 10, 20, 30, 40, 50, 60, 0};
 
+const char *const accesses_names[ACCESSES] = {
+    "plain machine, reads and writes", "guessing machine, reads and writes under steps",
+    "guessing machine, reads and writes out of bounds under loads and stores",
+    "guessing machine, reads and writes in bounds under loads and stores"};
+
 const char *const room_names[ROOMS] = {"large buffer", "exact buffer", "one byte short, refused by 23"};
 
 /* ---- Tables ------------------------------------------------------------------------------------------------------------- */
@@ -74,6 +79,21 @@ static void tight_loop_table(struct buffer *t)
     assemble_node2(t, FLOW_WHILE, condition, assemble_node2(t, FLOW_SEQUENCE, first, second));
 }
 
+/* if the constant then skip else while true do (x:=a0[i]; a1[i]:=x), with 16 cells in each array; i is variable 0 */
+static void access_table(struct buffer *t, unsigned constant)
+{
+    const uint16_t counts[] = {ACCESS_CELLS, ACCESS_CELLS};
+    assemble_table(t, 2, 2, counts, 0, 0);
+    unsigned condition = assemble_node1(t, FLOW_CONSTANT, constant);
+    unsigned skip = assemble_node0(t, FLOW_SKIP);
+    unsigned endless = assemble_node1(t, FLOW_CONSTANT, 1);
+    unsigned read = assemble_node3(t, FLOW_READ, 1, 0, assemble_node1(t, FLOW_VARIABLE, 0));
+    unsigned index = assemble_node1(t, FLOW_VARIABLE, 0);
+    unsigned write = assemble_node3(t, FLOW_WRITE, 1, index, assemble_node1(t, FLOW_VARIABLE, 1));
+    unsigned loop = assemble_node2(t, FLOW_WHILE, endless, assemble_node2(t, FLOW_SEQUENCE, read, write));
+    assemble_node3(t, FLOW_IF, condition, skip, loop);
+}
+
 /* ---- Calls -------------------------------------------------------------------------------------------------------------- */
 
 struct call writing_call(enum entry entry, const struct buffer *table, size_t room)
@@ -114,7 +134,8 @@ static void zero_slice(struct slice *s, size_t length)
         memset(s->bytes, 0, length);
 }
 
-struct call running_call(enum entry entry, const struct buffer *table, uint32_t budget, size_t observations)
+/* A run from all zeros, with room for so many bytes of observations. */
+static struct call zeros_call(enum entry entry, const struct buffer *table, uint32_t budget, size_t room)
 {
     struct call call = {.entry = entry, .budget = budget};
     size_t cells = 0;
@@ -124,8 +145,14 @@ struct call running_call(enum entry entry, const struct buffer *table, uint32_t 
     zero_slice(&call.slices[SLICE_VARIABLES], 4 * (size_t)table->bytes[6]);
     zero_slice(&call.slices[SLICE_CELLS], 4 * cells);
     zero_slice(&call.slices[SLICE_PENDING], 4 * (size_t)get16(table->bytes + 8));
-    zero_slice(&call.slices[SLICE_OBSERVATIONS], 6 * observations);
+    zero_slice(&call.slices[SLICE_OBSERVATIONS], room);
     zero_slice(&call.slices[SLICE_ANSWER], FLOW_ANSWER_BYTES);
+    return call;
+}
+
+struct call running_call(enum entry entry, const struct buffer *table, uint32_t budget, size_t observations)
+{
+    struct call call = zeros_call(entry, table, budget, 6 * observations);
     if (entry == ENTRY_GUESS) {
         struct buffer steps = {0};
         for (size_t i = 0; i < observations; i++)
@@ -142,6 +169,39 @@ struct call machine_call(enum entry entry)
     tight_loop_table(&table);
     struct call call = running_call(entry, &table, MACHINE_STEPS, MACHINE_STEPS / 4 + 1);
     buffer_free(&table);
+    return call;
+}
+
+/* A step or a force for the branch, then for each turn a step for the loop, and for its read and write as the accesses have it. */
+static void access_script(enum accesses accesses, struct buffer *list)
+{
+    bool redirected = accesses == ACCESSES_OUT_OF_BOUNDS || accesses == ACCESSES_IN_BOUNDS;
+    assemble_directive(list, redirected ? FLOW_FORCE : FLOW_STEP);
+    for (unsigned turn = 0; turn < MACHINE_STEPS / 4; turn++) {
+        assemble_directive(list, FLOW_STEP);
+        if (redirected) {
+            assemble_redirect(list, FLOW_LOAD, 1, 3);
+            assemble_redirect(list, FLOW_STORE, 0, 3);
+        } else {
+            assemble_directive(list, FLOW_STEP);
+            assemble_directive(list, FLOW_STEP);
+        }
+    }
+}
+
+struct call access_call(enum accesses accesses)
+{
+    struct buffer table = {0}, list = {0};
+    access_script(accesses, &list);
+    access_table(&table, get16(list.bytes + 2) == FLOW_FORCE); /* the branch leads to the loop, by a force or a step */
+    enum entry entry = accesses == ACCESSES_PLAIN ? ENTRY_RUN : ENTRY_GUESS;
+    struct call call = zeros_call(entry, &table, MACHINE_STEPS, 6 + 26 * (MACHINE_STEPS / 4));
+    if (accesses == ACCESSES_OUT_OF_BOUNDS)
+        put32(call.slices[SLICE_VARIABLES].bytes, ACCESS_CELLS);
+    if (entry == ENTRY_GUESS)
+        slice_from(&call.slices[SLICE_DIRECTIVES], list.bytes, list.length);
+    buffer_free(&table);
+    buffer_free(&list);
     return call;
 }
 

@@ -28,6 +28,15 @@ struct call running_call(enum entry entry, const struct buffer *table, uint32_t 
 enum { MACHINE_STEPS = 40000 };
 struct call machine_call(enum entry entry);
 
+/*
+ * So many steps of while true do (x:=a0[i]; a1[i]:=x): 4 steps a turn, three of them shown.  Each run leaves all zeros, so that
+ * the next is the same.  In bounds under loads and stores a library of before P4 is stuck.
+ */
+enum accesses { ACCESSES_PLAIN, ACCESSES_STEPS, ACCESSES_OUT_OF_BOUNDS, ACCESSES_IN_BOUNDS, ACCESSES };
+enum { ACCESS_CELLS = 16 };
+extern const char *const accesses_names[ACCESSES];
+struct call access_call(enum accesses accesses);
+
 /* Hardens loops nested this deep. */
 struct call nested_call(unsigned depth);
 

@@ -118,8 +118,8 @@ enum flow_kind {
     /* directives, read by the guessing machine: one for each shown step */
     FLOW_STEP = 72,            /* go on as the program says; length 4 */
     FLOW_FORCE = 73,           /* at a branch: go the other way and set the flag; length 4 */
-    FLOW_LOAD = 74,            /* at a read: array, index (4 bytes) of the cell to use; length 10 */
-    FLOW_STORE = 75,           /* at a write: array, index (4 bytes) of the cell to use; length 10.  Where the program's own
+    FLOW_LOAD = 74,            /* at a read: array, index (4 bytes) of a cell; length 10 */
+    FLOW_STORE = 75,           /* at a write: array, index (4 bytes) of a cell; length 10.  Where the program's own
                                   index is in bounds, load and store are a step: its own cell is used, with the flag set or
                                   clear, and the named one need not exist.  Out of bounds the named cell is used, which must
                                   exist, and only with the flag set; else the run is stuck */

@@ -152,11 +152,10 @@ def redirects_in_bounds():
     def alike(script, i, **more):
         """with the secret cell 77 and 78"""
         for secret in (77, 78): guess(tab, script, [i, 0, 0, 0], CELLS[:-1] + [secret], **more)
-    # i = 4 forced in: j is masked to 0, then the load meets a1[0], in bounds; before hardening it meets a1[77] or a1[78]
+    # i = 4 forced in: j is masked to 0, then the load meets a1[0], in bounds; before hardening it meets a1[78], or a1[77] (machine_cases)
     script = FORCE + load(2, 0) + load(9, 9)
-    for secret in (77, 78):
-        guess(BOUNDS, script, [4, 0, 0], CELLS[:-1] + [secret], want=[0, FINISHED, 4, 3, 26, 1, 0], variables_left=words([4, secret, 1000 + secret]),
-              shown=branch(0) + shown_read(0, 4) + shown_read(1, secret) + [170])
+    guess(BOUNDS, script, [4, 0, 0], CELLS[:-1] + [78], want=[0, FINISHED, 4, 3, 26, 1, 0], variables_left=words([4, 78, 1078]),
+          shown=branch(0) + shown_read(0, 4) + shown_read(1, 78) + [170])
     alike(script, 4, want=[0, FINISHED, 10, 3, 26, 1, 0], variables_left=words([4, 0, 0, 1]),
           shown=branch(0) + shown_read(0, 4) + shown_read(1, 0) + [170])
     # i = 3 forced out: nothing is read; i = 3 and a step: both own cells with the flag clear; i = 4 and a step: nothing is read

@@ -218,34 +218,34 @@ def refused_states():
 ANY_CELL = ((0, 0), (0, 1), (1, 0), (1, 1), (1, 2),                                   # those of READ and WRITE that exist
             (0, 2), (1, 3), (1, 4), (0, MOST), (1, MOST), (2, 0), (256, 1), (257, 1), (65535, 0), (65535, MOST))
 def own_cells():
-    # v1 := a1[1] gives 21, and a0[1] := 7 changes that cell alone, whatever cell is named
+    # v1 := a1[1] gives 21, and a0[1] := 9 changes that cell alone, whatever cell is named
     for array, index in ANY_CELL:
         read = dict(variables_left=words([1, 21]), cells_left=words(FIVE))
-        guess(READ, load(array, index), [1, 7], FIVE, want=[0, FINISHED, 1, 1, 10, 0, 0], shown=shown_read(1, 1) + [170], **read)
-        guess(FORCED, FORCE + load(array, index), [1, 7], FIVE, want=[0, FINISHED, 2, 2, 16, 1, 0], shown=branch(1) + shown_read(1, 1) + [170], **read)
-        wrote = dict(variables_left=words([1, 7]), cells_left=words([10, 7, 20, 21, 22]))
-        guess(WRITE, store(array, index), [1, 7], FIVE, want=[0, FINISHED, 1, 1, 10, 0, 0], shown=shown_write(0, 1) + [170], **wrote)
-        guess(FORCED_WRITE, FORCE + store(array, index), [1, 7], FIVE, want=[0, FINISHED, 2, 2, 16, 1, 0], shown=branch(1) + shown_write(0, 1) + [170], **wrote)
+        guess(READ, load(array, index), [1, 9], FIVE, want=[0, FINISHED, 1, 1, 10, 0, 0], shown=shown_read(1, 1) + [170], **read)
+        guess(FORCED, FORCE + load(array, index), [1, 9], FIVE, want=[0, FINISHED, 2, 2, 16, 1, 0], shown=branch(1) + shown_read(1, 1) + [170], **read)
+        wrote = dict(variables_left=words([1, 9]), cells_left=words([10, 9, 20, 21, 22]))
+        guess(WRITE, store(array, index), [1, 9], FIVE, want=[0, FINISHED, 1, 1, 10, 0, 0], shown=shown_write(0, 1) + [170], **wrote)
+        guess(FORCED_WRITE, FORCE + store(array, index), [1, 9], FIVE, want=[0, FINISHED, 2, 2, 16, 1, 0], shown=branch(1) + shown_write(0, 1) + [170], **wrote)
     # one script, and every index up to the bound and beyond: the own cells, then the named one, which must exist; without the flag, none
     for i, value in ((0, 20), (1, 21), (2, 22), (3, 10), (4, 10), (MOST, 10)):
-        guess(FORCED, FORCE + load(0, 0), [i, 7], FIVE, want=[0, FINISHED, 2, 2, 16, 1, 0], variables_left=words([i, value]), shown=branch(1) + shown_read(1, i) + [170])
-        guess(FORCED, FORCE + load(2, 0), [i, 7], FIVE, want=[0, FINISHED, 2, 2, 16, 1, 0] if i < 3 else [0, STUCK, 1, 1, 6, 1, 3],
-              variables_left=words([i, value if i < 3 else 7]))
-        guess(READ, load(0, 0), [i, 7], FIVE, want=[0, FINISHED, 1, 1, 10, 0, 0] if i < 3 else [0, STUCK, 0, 0, 0, 0, 1], variables_left=words([i, value if i < 3 else 7]))
-    for i, left in ((0, [7, 11, 20, 21, 22]), (1, [10, 7, 20, 21, 22]), (2, [10, 11, 7, 21, 22]), (3, [10, 11, 7, 21, 22]), (MOST, [10, 11, 7, 21, 22])):
-        guess(FORCED_WRITE, FORCE + store(1, 0), [i, 7], FIVE, want=[0, FINISHED, 2, 2, 16, 1, 0], cells_left=words(left), shown=branch(1) + shown_write(0, i) + [170])
-        guess(FORCED_WRITE, FORCE + store(1, 3), [i, 7], FIVE, want=[0, FINISHED, 2, 2, 16, 1, 0] if i < 2 else [0, STUCK, 1, 1, 6, 1, 4],
+        guess(FORCED, FORCE + load(0, 0), [i, 8], FIVE, want=[0, FINISHED, 2, 2, 16, 1, 0], variables_left=words([i, value]), shown=branch(1) + shown_read(1, i) + [170])
+        guess(FORCED, FORCE + load(2, 0), [i, 8], FIVE, want=[0, FINISHED, 2, 2, 16, 1, 0] if i < 3 else [0, STUCK, 1, 1, 6, 1, 3],
+              variables_left=words([i, value if i < 3 else 8]))
+        guess(READ, load(0, 0), [i, 8], FIVE, want=[0, FINISHED, 1, 1, 10, 0, 0] if i < 3 else [0, STUCK, 0, 0, 0, 0, 1], variables_left=words([i, value if i < 3 else 8]))
+    for i, left in ((0, [8, 11, 20, 21, 22]), (1, [10, 8, 20, 21, 22]), (2, [10, 11, 8, 21, 22]), (3, [10, 11, 8, 21, 22]), (MOST, [10, 11, 8, 21, 22])):
+        guess(FORCED_WRITE, FORCE + store(1, 0), [i, 8], FIVE, want=[0, FINISHED, 2, 2, 16, 1, 0], cells_left=words(left), shown=branch(1) + shown_write(0, i) + [170])
+        guess(FORCED_WRITE, FORCE + store(1, 3), [i, 8], FIVE, want=[0, FINISHED, 2, 2, 16, 1, 0] if i < 2 else [0, STUCK, 1, 1, 6, 1, 4],
               cells_left=words(left if i < 2 else FIVE))
-        guess(WRITE, store(1, 0), [i, 7], FIVE, want=[0, FINISHED, 1, 1, 10, 0, 0] if i < 2 else [0, STUCK, 0, 0, 0, 0, 2], cells_left=words(left if i < 2 else FIVE))
+        guess(WRITE, store(1, 0), [i, 8], FIVE, want=[0, FINISHED, 1, 1, 10, 0, 0] if i < 2 else [0, STUCK, 0, 0, 0, 0, 2], cells_left=words(left if i < 2 else FIVE))
 def other_directives():
     # in bounds still stuck, with the flag set and clear: the other access's redirect, be it of the own cell, and force
-    same = dict(variables_left=words([1, 7]), cells_left=words(FIVE))
+    same = dict(variables_left=words([1, 9]), cells_left=words(FIVE))
     for d in (store(1, 1), store(0, 0), store(2, 0), store(65535, MOST), FORCE):
-        guess(READ, d, [1, 7], FIVE, want=[0, STUCK, 0, 0, 0, 0, 1], shown=[170], **same)
-        guess(FORCED, FORCE + d, [1, 7], FIVE, want=[0, STUCK, 1, 1, 6, 1, 3], shown=branch(1) + [170], **same)
+        guess(READ, d, [1, 9], FIVE, want=[0, STUCK, 0, 0, 0, 0, 1], shown=[170], **same)
+        guess(FORCED, FORCE + d, [1, 9], FIVE, want=[0, STUCK, 1, 1, 6, 1, 3], shown=branch(1) + [170], **same)
     for d in (load(0, 1), load(1, 0), load(2, 0), load(65535, MOST), FORCE):
-        guess(WRITE, d, [1, 7], FIVE, want=[0, STUCK, 0, 0, 0, 0, 2], shown=[170], **same)
-        guess(FORCED_WRITE, FORCE + d, [1, 7], FIVE, want=[0, STUCK, 1, 1, 6, 1, 4], shown=branch(1) + [170], **same)
+        guess(WRITE, d, [1, 9], FIVE, want=[0, STUCK, 0, 0, 0, 0, 2], shown=[170], **same)
+        guess(FORCED_WRITE, FORCE + d, [1, 9], FIVE, want=[0, STUCK, 1, 1, 6, 1, 4], shown=branch(1) + [170], **same)
 def in_order():
     # spent comes first, whether the directive fits or not
     for d in (load(9, 9), store(9, 9)):

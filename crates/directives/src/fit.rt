@@ -48,7 +48,8 @@ fn store_target(directive: Directive) -> Target
     }
 }
 
-// The cell that a read or write uses: its own where that exists, whatever the directive names; else the named one, only with the flag set.
+// The cell that a read or write uses, if its directive fits: its own where that exists, whatever the directive names; else the named one,
+// and only with the flag set.
 fn cell_for(starts: &[u16], flag: bool, array: usize, index: u32, target: Target) -> Cell
     requires { ⌜ length (now starts) ≡ 17 ⌝ }
     ensures { λ r. ⌜ ((counts : List ℕ) → Starts counts (now (starts .entry)) → r ≡ found (cellFor counts flag array index target)) ⌝ }
@@ -112,10 +113,10 @@ fn fork_fit(flag: bool, value: bool, yes: Back, no: Back, directive: Directive) 
 }
 
 // A read gives its variable the word of the cell.
-fn load_fit(cells: &[u8], variable: usize, flag: bool, found: Cell) -> Fit
-    ensures { λ r. ⌜ r ≡ loadFit (now (cells .entry)) variable flag found ⌝ }
+fn load_fit(cells: &[u8], variable: usize, flag: bool, cell: Cell) -> Fit
+    ensures { λ r. ⌜ r ≡ loadFit (now (cells .entry)) variable flag cell ⌝ }
 {
-    match found {
+    match cell {
         Cell::At { place } => {
             let value = u32_at(cells, 4 * (place as usize));
             Fit::Goes {
@@ -127,10 +128,10 @@ fn load_fit(cells: &[u8], variable: usize, flag: bool, found: Cell) -> Fit
     }
 }
 
-fn store_fit(value: u32, flag: bool, found: Cell) -> Fit
-    ensures { λ r. ⌜ r ≡ storeFit value flag found ⌝ }
+fn store_fit(value: u32, flag: bool, cell: Cell) -> Fit
+    ensures { λ r. ⌜ r ≡ storeFit value flag cell ⌝ }
 {
-    match found {
+    match cell {
         Cell::At { place } => Fit::Goes {
             change: Change::Store { place, value },
             flag,
@@ -151,16 +152,16 @@ pub fn fitting(starts: &[u16], cells: &[u8], flag: bool, shown: Shown, directive
             array,
             index,
         } => {
-            let found = cell_for(starts, flag, array, index, load_target(directive));
-            load_fit(cells, variable, flag, found)
+            let cell = cell_for(starts, flag, array, index, load_target(directive));
+            load_fit(cells, variable, flag, cell)
         }
         Shown::Put {
             array,
             index,
             value,
         } => {
-            let found = cell_for(starts, flag, array, index, store_target(directive));
-            store_fit(value, flag, found)
+            let cell = cell_for(starts, flag, array, index, store_target(directive));
+            store_fit(value, flag, cell)
         }
     }
 }

@@ -8,7 +8,7 @@ use lib.ListN.{length}
 use Rattle.awhile.specs.Language.{Com, skip, assign, sequence, if, while, read, write, mapNotes}
 use Rattle.machine.specs.Observations.{Observation, branch, readAt, writeAt, observationBytes, shownBytes}
 use Rattle.machine.specs.Look.{Look, quiet, fork, get, put, look}
-use Rattle.machine.specs.Steps.{State, onlyIf, quietly, turned, loaded, stored, cellUsed, cellAt, atFork, atGet, atPut}
+use Rattle.machine.specs.Steps.{State, inside, cellPlace, onlyIf, quietly, turned, loaded, stored, cellUsed, cellAt, atFork, atGet, atPut}
 use Rattle.machine.specs.Runs.{Room, holds, Guide, plain, guessing, Machine, Next, over, goes, Outcome}
 use Rattle.machine.specs.Runs.{moved, shownIf, shownStep, stepOf, nextOf, next, endWithout, run, started}
 use Rattle.machine.specs.declared.Directive.{Directive}
@@ -25,6 +25,11 @@ pub onlyIf-mapped : {X Y : Type 0} (g : X → Y) (b : Bool) (x : X) → onlyIf b
 unfolding onlyIf
 onlyIf-mapped g true x = refl
 onlyIf-mapped g false x = refl
+
+-- what is done with a cell, if there is one
+pub at-cell : {A : Type 0} (counts : List ℕ) (after : ℕ → A) (a i : ℕ) → onlyIf (inside counts a i) (after (cellPlace counts a i)) ≡ Option·map after (cellAt counts a i)
+unfolding cellAt
+at-cell counts after a i = onlyIf-mapped after (inside counts a i) (cellPlace counts a i)
 
 -- the same pending list, look, state, machine, next step and outcome with other notes
 module _ {A B : Type 0} (f : A → B) where

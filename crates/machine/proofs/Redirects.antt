@@ -12,16 +12,11 @@ use Rattle.machine.specs.Steps.{State, inside, cellPlace, onlyIf, cellAt
 use Rattle.machine.specs.Runs.{Room, guessing, moved, shownIf, shownStep, stepOf, nextOf, next}
 use Rattle.machine.specs.declared.Directive.{Directive}
 use Rattle.machine.specs.declared.Directive.the-variants.{Step, Load, Store}
-use Rattle.machine.proofs.Notes.{onlyIf-mapped}
+use Rattle.machine.proofs.Notes.{at-cell}
 use Rattle.machine.proofs.Lockstep.{at}
 
 -- ---- the state
--- what is done with a cell, if there is one
-pub at-cell : {A : Type 0} (counts : List ℕ) (after : ℕ → A) (a i : ℕ) → onlyIf (inside counts a i) (after (cellPlace counts a i)) ≡ Option·map after (cellAt counts a i)
-unfolding cellAt
-at-cell counts after a i = onlyIf-mapped after (inside counts a i) (cellPlace counts a i)
-
--- with the named cell, if the flag is set and it exists
+-- what is done with the named cell, if the flag is set and it exists
 named-cell : {A : Type 0} (counts : List ℕ) (after : ℕ → A) (b j : ℕ) (f : Bool)
     → Option·map after (cond f (cellAt counts b j) none) ≡ onlyIf (f && inside counts b j) (after (cellPlace counts b j))
 unfolding onlyIf

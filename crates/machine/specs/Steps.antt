@@ -1,4 +1,5 @@
--- One step of a machine under a directive (figure 7 of source 004). The plain machine takes every step by the directive `Step`.
+-- One step of a machine under a directive (figure 7 of source 004, a load or a store as in its figure 15). The plain machine takes every
+-- step by the directive `Step`.
 use Prim.Native.Nat.{ℕ, _+_}
 use mathlib.Core.Bool.{Bool, true, cond}
 use mathlib.Core.Option.{Option, none, some, Option·map}

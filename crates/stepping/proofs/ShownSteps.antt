@@ -16,7 +16,7 @@ use Rattle.directives.specs.Fitting.{found, loadTarget, storeTarget, cellFor, f
 use Rattle.stepping.specs.Stepping.{ChangeFits}
 use Rattle.stepping.proofs.Words.{word-at}
 use Rattle.directives.proofs.Counts.{cell-within}
-use Rattle.machine.proofs.Redirects.{at-cell}
+use Rattle.machine.proofs.Notes.{at-cell}
 use Rattle.machine.specs.declared.Directive.{Directive}
 use Rattle.machine.specs.declared.Directive.the-variants.{Step, Force, Load, Store}
 use Rattle.directives.specs.declared.change.Back.{Back}
@@ -91,19 +91,19 @@ module _ (counts table : List ℕ) (rest : List (Com ℕ)) (s : State ℕ) where
   fork-after v y n (Store b j) = refl
 
   -- a read and a write use the cell that their directive asks for
-  get-after : (x a i : ℕ) (d : Directive) → atGet counts s x a i rest d ≡ Option·map (λ p. loaded s x p rest) (cellFor counts (s .flag) a i (loadTarget d))
+  get-uses : (x a i : ℕ) (d : Directive) → atGet counts s x a i rest d ≡ Option·map (λ p. loaded s x p rest) (cellFor counts (s .flag) a i (loadTarget d))
   unfolding atGet cellFor loadTarget
-  get-after x a i Step = at-cell counts (λ p. loaded s x p rest) a i
-  get-after x a i Force = refl
-  get-after x a i (Load b j) = refl
-  get-after x a i (Store b j) = refl
+  get-uses x a i Step = at-cell counts (λ p. loaded s x p rest) a i
+  get-uses x a i Force = refl
+  get-uses x a i (Load b j) = refl
+  get-uses x a i (Store b j) = refl
 
-  put-after : (a i v : ℕ) (d : Directive) → atPut counts s a i v rest d ≡ Option·map (λ p. stored s p v rest) (cellFor counts (s .flag) a i (storeTarget d))
+  put-uses : (a i v : ℕ) (d : Directive) → atPut counts s a i v rest d ≡ Option·map (λ p. stored s p v rest) (cellFor counts (s .flag) a i (storeTarget d))
   unfolding atPut cellFor storeTarget
-  put-after a i v Step = at-cell counts (λ p. stored s p v rest) a i
-  put-after a i v Force = refl
-  put-after a i v (Load b j) = refl
-  put-after a i v (Store b j) = refl
+  put-uses a i v Step = at-cell counts (λ p. stored s p v rest) a i
+  put-uses a i v Force = refl
+  put-uses a i v (Load b j) = refl
+  put-uses a i v (Store b j) = refl
 
   store-found : (v : ℕ) (c : Option ℕ) → Option·map (λ p. stored s p v rest) c ≡ fitState table rest s (storeFit v (s .flag) (found c))
   unfolding found storeFit stored changed
@@ -127,8 +127,8 @@ module _ (counts table : List ℕ) (rest : List (Com ℕ)) (s : State ℕ) where
     unfolding fitOf
     fit-after (Fork v y n) d = fork-after v y n d
     fit-after (Get x a i) d =
-        get-after x a i d ∙ load-found x (cellFor counts (s .flag) a i (loadTarget d)) (cell-for-within counts (s .flag) a i (loadTarget d))
-    fit-after (Put a i v) d = put-after a i v d ∙ store-found v (cellFor counts (s .flag) a i (storeTarget d))
+        get-uses x a i d ∙ load-found x (cellFor counts (s .flag) a i (loadTarget d)) (cell-for-within counts (s .flag) a i (loadTarget d))
+    fit-after (Put a i v) d = put-uses a i v d ∙ store-found v (cellFor counts (s .flag) a i (storeTarget d))
 
 -- ---- a change that was found can be made
 module _ (table : List ℕ) where

@@ -14,5 +14,5 @@ load-fit-spec =
     (λ c. search needs)
     (λ c κs. search needs)
     (λ c. search needs)
-    (λ c. rw (c .before .before .found .given .1, loadFit, c .u32-at .ensures))
+    (λ c. rw (c .before .before .cell .given .1, loadFit, c .u32-at .ensures))
     (λ c. rw (c .enum-told .given .1, loadFit)))

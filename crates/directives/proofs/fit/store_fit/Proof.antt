@@ -11,5 +11,5 @@ store-fit-spec =
     (tie.spec
     (λ c. search needs)
     (λ c. search needs)
-    (λ c. rw (c .before .found .given .1, storeFit))
+    (λ c. rw (c .before .cell .given .1, storeFit))
     (λ c. rw (c .enum-told .given .1, storeFit)))
