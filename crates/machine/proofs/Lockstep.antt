@@ -98,11 +98,13 @@ module _ {Note : Type 0} where
     after-if false r = none-after
 
     -- the cell used on both sides: the own one in bounds, else another one, and only with the flag set
-    cells-alike : (f : Bool) (a i : ℕ) (other : Option ℕ) (x y : ℕ → State Note)
+    cells-alike : (f f′ : Bool) (a i : ℕ) (other : Option ℕ) (x y : ℕ → State Note) → f ≡ f′
         → (inside counts a i ≡ true → R (x (cellPlace counts a i)) (y (cellPlace counts a i))) → ((p : ℕ) → f ≡ true → R (x p) (y p))
-        → AfterAlike (Option·map x (cellUsed counts f a i other)) (Option·map y (cellUsed counts f a i other))
+        → AfterAlike (Option·map x (cellUsed counts f a i other)) (Option·map y (cellUsed counts f′ a i other))
     unfolding cellUsed
-    cells-alike f a i other x y own any = go f (inside counts a i) other refl refl
+    cells-alike f f′ a i other x y flags own any =
+        subst (λ (g : Bool). AfterAlike (Option·map x (cellUsed counts f a i other)) (Option·map y (cellUsed counts g a i other))) flags
+        (go f (inside counts a i) other refl refl)
       where
         go : (g b : Bool) (c : Option ℕ) → f ≡ g → inside counts a i ≡ b
             → AfterAlike (Option·map x (cond b (some (cellPlace counts a i)) (cond g c none))) (Option·map y (cond b (some (cellPlace counts a i)) (cond g c none)))
@@ -119,8 +121,7 @@ module _ {Note : Type 0} where
     gets-alike s t x a i rest flags own any Step = after-if (inside counts a i) own
     gets-alike s t x a i rest flags own any Force = none-after
     gets-alike s t x a i rest flags own any (Load b j) =
-        subst (λ (f : Bool). AfterAlike (atGet counts s x a i rest (Load b j)) (Option·map (λ p. loaded t x p rest) (cellUsed counts f a i (cellAt counts b j)))) flags
-        (cells-alike (s .flag) a i (cellAt counts b j) (λ p. loaded s x p rest) (λ p. loaded t x p rest) own any)
+        cells-alike (s .flag) (t .flag) a i (cellAt counts b j) (λ p. loaded s x p rest) (λ p. loaded t x p rest) flags own any
     gets-alike s t x a i rest flags own any (Store b j) = none-after
 
     puts-alike : (s t : State Note) (a i v w : ℕ) (rest : List (Com Note)) → s .flag ≡ t .flag
@@ -132,8 +133,7 @@ module _ {Note : Type 0} where
     puts-alike s t a i v w rest flags own any Force = none-after
     puts-alike s t a i v w rest flags own any (Load b j) = none-after
     puts-alike s t a i v w rest flags own any (Store b j) =
-        subst (λ (f : Bool). AfterAlike (atPut counts s a i v rest (Store b j)) (Option·map (λ p. stored t p w rest) (cellUsed counts f a i (cellAt counts b j)))) flags
-        (cells-alike (s .flag) a i (cellAt counts b j) (λ p. stored s p v rest) (λ p. stored t p w rest) own any)
+        cells-alike (s .flag) (t .flag) a i (cellAt counts b j) (λ p. stored s p v rest) (λ p. stored t p w rest) flags own any
 
     -- with the flag clear and the index out of bounds no directive fits
     module _ (s : State Note) (a i : ℕ) (out : inside counts a i ≡ false) (clear : s .flag ≡ false) where

@@ -21,7 +21,7 @@ pub cond-mapped : {X Y : Type 0} (g : X → Y) (b : Bool) (x x′ : X) → cond 
 cond-mapped g true x x′ = refl
 cond-mapped g false x x′ = refl
 
-pub onlyIf-mapped : {X Y : Type 0} (g : X → Y) (b : Bool) (x : X) → onlyIf b (g x) ≡ Option·map g (onlyIf b x)
+onlyIf-mapped : {X Y : Type 0} (g : X → Y) (b : Bool) (x : X) → onlyIf b (g x) ≡ Option·map g (onlyIf b x)
 unfolding onlyIf
 onlyIf-mapped g true x = refl
 onlyIf-mapped g false x = refl
