@@ -28,7 +28,7 @@ unsigned assemble_node1(struct buffer *table, unsigned kind, uint32_t one);
 unsigned assemble_node2(struct buffer *table, unsigned kind, uint32_t one, uint32_t two);
 unsigned assemble_node3(struct buffer *table, unsigned kind, uint32_t one, uint32_t two, uint32_t three);
 
-/* Puts step or force. */
+/* Puts step, force or rollback. */
 void assemble_directive(struct buffer *list, unsigned kind);
 
 /* Puts load or store. */

@@ -7,9 +7,9 @@
 #include "little_endian.h"
 #include "reference.h"
 
-const char *const entry_names[ENTRIES] = {"flow_sheet", "flow_questions", "flow_harden", "flow_run", "flow_guess"};
+const char *const entry_names[ENTRIES] = {"flow_sheet", "flow_questions", "flow_harden", "flow_run", "flow_guess", "flow_rollback"};
 const char *const slice_names[SLICES] = {"table", "questions", "directives", "variables", "cells",
-                                         "pending", "observations", "output", "answer"};
+                                         "pending", "saves", "observations", "output", "answer"};
 
 void slice_new(struct slice *s, size_t length)
 {
@@ -69,9 +69,12 @@ uint64_t call_library(struct call *call)
     case ENTRY_RUN:
         return flow_run(LENT(TABLE), LENT(VARIABLES), LENT(CELLS), LENT(PENDING), LENT(OBSERVATIONS), call->budget,
                         LENT(ANSWER));
-    default:
+    case ENTRY_GUESS:
         return flow_guess(LENT(TABLE), LENT(DIRECTIVES), LENT(VARIABLES), LENT(CELLS), LENT(PENDING), LENT(OBSERVATIONS),
                           call->budget, LENT(ANSWER));
+    default:
+        return flow_rollback(LENT(TABLE), LENT(DIRECTIVES), LENT(VARIABLES), LENT(CELLS), LENT(PENDING), LENT(SAVES),
+                             LENT(OBSERVATIONS), call->budget, LENT(ANSWER));
     }
 }
 
@@ -87,9 +90,12 @@ uint64_t call_reference(struct call *call)
     case ENTRY_RUN:
         return reference_run(LENT(TABLE), LENT(VARIABLES), LENT(CELLS), LENT(PENDING), LENT(OBSERVATIONS), call->budget,
                              LENT(ANSWER));
-    default:
+    case ENTRY_GUESS:
         return reference_guess(LENT(TABLE), LENT(DIRECTIVES), LENT(VARIABLES), LENT(CELLS), LENT(PENDING),
                                LENT(OBSERVATIONS), call->budget, LENT(ANSWER));
+    default:
+        return reference_rollback(LENT(TABLE), LENT(DIRECTIVES), LENT(VARIABLES), LENT(CELLS), LENT(PENDING), LENT(SAVES),
+                                  LENT(OBSERVATIONS), call->budget, LENT(ANSWER));
     }
 }
 
@@ -106,23 +112,72 @@ static bool shows_in_bounds(const struct call *call, const uint8_t *shown)
     return get32(shown + 6) < get16(first_array + 6 * get16(shown + 4) + 4);
 }
 
+/* A directive that was used, and what it showed; answers how many saves are open after it, which is 0 where the flag is clear. */
+static unsigned count_used(const struct call *call, const uint8_t *directive, const uint8_t *shown, unsigned open, struct led *led)
+{
+    switch (get16(directive + 2)) {
+    case FLOW_STEP:
+        break;
+    case FLOW_FORCE:
+        led->forces++;
+        open++;
+        break;
+    case FLOW_ROLLBACK:
+        led->rollbacks++;
+        open--;
+        break;
+    default:
+        if (shows_in_bounds(call, shown))
+            led->in_bounds[open > 0]++;
+        else
+            led->out_of_bounds++;
+    }
+    return open;
+}
+
+/* The directive that would have been the next one, with so many saves open. */
+static void count_next(const struct call *call, const uint8_t *directive, unsigned open, struct led *led)
+{
+    const struct slice *list = &call->slices[SLICE_DIRECTIVES];
+    uint64_t end = call_answer(call, 1);
+    if (list->length == 0 || directive == list->bytes + list->length)
+        return;
+    unsigned kind = get16(directive + 2);
+    if (kind == FLOW_ROLLBACK)
+        led->at_rollback[end]++;
+    if (call->entry == ENTRY_ROLLBACK && kind == FLOW_FORCE && end == FLOW_STUCK && open == FLOW_MAX_SAVES)
+        led->beyond++;
+}
+
 void call_led(const struct call *call, struct led *led)
 {
     const uint8_t *directive = call->slices[SLICE_DIRECTIVES].bytes;
     const uint8_t *shown = call->slices[SLICE_OBSERVATIONS].bytes; /* one for each directive used */
-    bool flag = false;
+    unsigned open = 0;
+    if (call->slices[SLICE_ANSWER].length < FLOW_ANSWER_BYTES)
+        return;
     for (uint64_t left = call_answer(call, 3); left > 0; left--) {
-        unsigned kind = get16(directive + 2);
-        if (kind == FLOW_FORCE) {
-            led->forces++;
-            flag = true;
-        } else if (kind != FLOW_STEP && shows_in_bounds(call, shown))
-            led->in_bounds[flag]++;
-        else if (kind != FLOW_STEP)
-            led->out_of_bounds++;
+        open = count_used(call, directive, shown, open, led);
+        if (open > led->deepest)
+            led->deepest = open;
         directive += get16(directive);
         shown += get16(shown);
     }
+    count_next(call, directive, open, led);
+}
+
+void add_led(const struct led *led, struct led *sum)
+{
+    sum->forces += led->forces;
+    sum->out_of_bounds += led->out_of_bounds;
+    sum->in_bounds[false] += led->in_bounds[false];
+    sum->in_bounds[true] += led->in_bounds[true];
+    sum->rollbacks += led->rollbacks;
+    if (led->deepest > sum->deepest)
+        sum->deepest = led->deepest;
+    for (unsigned end = 0; end < 6; end++)
+        sum->at_rollback[end] += led->at_rollback[end];
+    sum->beyond += led->beyond;
 }
 
 void print_hex(FILE *to, const uint8_t *bytes, size_t length)

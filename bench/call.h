@@ -7,7 +7,7 @@
 #include <stdint.h>
 #include <stdio.h>
 
-enum entry { ENTRY_SHEET, ENTRY_QUESTIONS, ENTRY_HARDEN, ENTRY_RUN, ENTRY_GUESS, ENTRIES };
+enum entry { ENTRY_SHEET, ENTRY_QUESTIONS, ENTRY_HARDEN, ENTRY_RUN, ENTRY_GUESS, ENTRY_ROLLBACK, ENTRIES };
 
 enum slice_name {
     SLICE_TABLE,
@@ -16,6 +16,7 @@ enum slice_name {
     SLICE_VARIABLES,
     SLICE_CELLS,
     SLICE_PENDING,
+    SLICE_SAVES,
     SLICE_OBSERVATIONS,
     SLICE_OUTPUT, /* the sheet, the labels asked for or the hardened table */
     SLICE_ANSWER,
@@ -51,18 +52,20 @@ uint64_t call_reference(struct call *call);
 /* A number of the answer slice; 0 if the slice does not hold it whole. */
 uint64_t call_answer(const struct call *call, unsigned number);
 
-/* Which directives led the runs of guessing calls. */
+/* Which directives led the runs of guessing calls, and at which they ended.  The last four are flow_rollback's alone. */
 struct led {
     uint64_t forces;
     uint64_t out_of_bounds; /* loads and stores that led to the cell that they name */
     uint64_t in_bounds[2];  /* those that met an index in bounds, with the flag clear and with it set */
+    uint64_t rollbacks;
+    uint64_t deepest;       /* the most saves that were open at once */
+    uint64_t at_rollback[6]; /* runs whose next directive was a rollback, by their end */
+    uint64_t beyond;        /* runs stuck at a force with all saves open */
 };
 
-/*
- * Counts, on top of what is there, the directives that an accepted call has used, by what its slices hold after; none where the
- * answer slice is too short to say how many.
- */
+/* Counts, on top of what is there, what led an accepted call, by what its slices hold after; nothing where its answer is cut. */
 void call_led(const struct call *call, struct led *led);
+void add_led(const struct led *led, struct led *sum);
 
 void print_hex(FILE *to, const uint8_t *bytes, size_t length);
 

@@ -415,6 +415,113 @@ static void case_redirects_in_bounds(void)
     buffer_free(&missing);
 }
 
+static uint8_t saves[4 * FLOW_MAX_SAVES * (4 + 261 + 64) + 1]; /* for the bounds check and its hardened table, and a byte more */
+
+static size_t saves_needed(const uint8_t *table)
+{
+    return flow_saves_bytes(table[6], 261, get16(table + 8));
+}
+
+/* The same run on the machine that rolls back, with i = 4 and save words of exact length; `variables` has room for 4. */
+static size_t roll_bounds_check(const uint8_t *table, size_t length, const struct buffer *list, uint8_t *variables, uint8_t *seen)
+{
+    uint8_t cells[4 * 261] = {0}, pending[4 * 64];
+    size_t words = table[6];
+    memset(variables, 0, 4 * words);
+    put32(variables, 4);
+    put32(cells + 4 * 260, 77);
+    memset(saves, UNTOUCHED, sizeof saves);
+    flow_rollback(table, length, list->bytes, list->length, variables, 4 * words, cells, sizeof cells, pending, sizeof pending,
+                  saves, saves_needed(table), seen, 60, 1000, answer, sizeof answer);
+    return answered(4);
+}
+
+static bool answers_run(uint64_t end, uint64_t steps, uint64_t used, uint64_t shown, uint64_t flag, uint64_t next)
+{
+    return answered(0) == FLOW_ACCEPTED && answered(1) == end && answered(2) == steps && answered(3) == used &&
+           answered(4) == shown && answered(5) == flag && answered(6) == next;
+}
+
+/* These words from a place of the save words on, and zeros up to the end of what the table needs; then nothing is written. */
+static bool saves_end(const uint8_t *table, size_t word, const uint32_t *words, size_t count)
+{
+    size_t needed = saves_needed(table);
+    bool same = saves[needed] == UNTOUCHED;
+    for (size_t i = 0; i < count; i++)
+        same = same && get32(saves + 4 * (word + i)) == words[i];
+    for (size_t at = 4 * (word + count); at < needed; at++)
+        same = same && saves[at] == 0;
+    return same;
+}
+
+static void case_rollback(void)
+{
+    static const uint8_t rolled_back[] = {4, 0, 67, 0};
+    struct buffer t = {0}, list = {0};
+    uint8_t variables[16], seen[60];
+    bounds_check_table(&t);
+    assemble_directive(&list, FLOW_FORCE);
+    assemble_redirect(&list, FLOW_LOAD, 2, 0);
+    assemble_directive(&list, FLOW_STEP);
+    size_t length = roll_bounds_check(t.bytes, t.length, &list, variables, seen);
+    expect(shows_bounds_check(seen, length, 4, 77) && answers_run(FLOW_FINISHED, 4, 3, 26, 1, 0) && get32(variables + 4) == 77,
+           "force, load 2 0, step where guesses are undone: finished with the save open");
+    expect(get32(saves) == 4 && get32(saves + 4) == 0 && get32(saves + 4 * 262) == 0 && saves_end(t.bytes, 263, (uint32_t[]){77, 8}, 2),
+           "place 0 holds i = 4, the cells and the skip; all else is zeros");
+    assemble_directive(&list, FLOW_ROLLBACK);
+    length = roll_bounds_check(t.bytes, t.length, &list, variables, seen);
+    expect(length == 30 && shows_bounds_check(seen, 26, 4, 77) && memcmp(seen + 26, rolled_back, 4) == 0 &&
+               answers_run(FLOW_FINISHED, 6, 4, 30, 0, 0),
+           "force, load 2 0, step, rollback: branch 0, read 0 4, read 1 77, rollback");
+    expect(get32(variables) == 4 && get32(variables + 4) == 0 && get32(variables + 8) == 0 && saves_end(t.bytes, 0, NULL, 0),
+           "the guess is undone: variables 4, 0, 0 and no save");
+    expect(harden(&t) == FLOW_ACCEPTED, "the bounds check hardens");
+    length = roll_bounds_check(output, answered(1), &list, variables, seen);
+    expect(length == 30 && shows_bounds_check(seen, 26, 4, 0) && memcmp(seen + 26, rolled_back, 4) == 0 &&
+               answers_run(FLOW_FINISHED, 13, 4, 30, 0, 0),
+           "the same, hardened: branch 0, read 0 4, read 1 0, rollback");
+    guess_bounds_check(t.bytes, t.length, 4, &list, seen);
+    expect(answered(0) == FLOW_BAD_DIRECTIVES && answered(1) == 0, "the guessing machine refuses a rollback by 10");
+    buffer_free(&t);
+    buffer_free(&list);
+}
+
+/* while 0 do x:=x+1, played so many forces; `lent` bytes of save words */
+static uint64_t force_loop(unsigned forces, size_t lent, uint8_t *variables)
+{
+    struct buffer t = {0}, list = {0};
+    uint8_t pending[4 * 6];
+    assemble_table(&t, 1, 0, NULL, 0, 0);
+    unsigned condition = assemble_node1(&t, FLOW_CONSTANT, 0);
+    unsigned x = variable(&t, 0);
+    unsigned sum = assemble_node2(&t, FLOW_ADD, x, number(&t, 1));
+    assemble_node2(&t, FLOW_WHILE, condition, assemble_node2(&t, FLOW_ASSIGN, 0, sum));
+    for (unsigned i = 0; i < forces; i++)
+        assemble_directive(&list, FLOW_FORCE);
+    put32(variables, 0);
+    memset(saves, UNTOUCHED, sizeof saves);
+    uint64_t refusal = flow_rollback(t.bytes, t.length, list.bytes, list.length, variables, 4, NULL, 0, pending, sizeof pending,
+                                     saves, lent, output, sizeof output, 1000, answer, sizeof answer);
+    buffer_free(&t);
+    buffer_free(&list);
+    return refusal;
+}
+
+static void case_nine_forces(void)
+{
+    uint8_t variables[4];
+    size_t needed = flow_saves_bytes(1, 0, 6);
+    expect(force_loop(9, needed, variables) == FLOW_ACCEPTED && answers_run(FLOW_STUCK, 16, 8, 48, 1, 5) && get32(variables) == 8,
+           "nine forces: the ninth is stuck");
+    bool held = saves[needed] == UNTOUCHED;
+    for (unsigned word = 0; word < 8 * 7; word++)
+        held = held && get32(saves + 4 * word) == (word % 7 == 0 ? word / 7 : 0);
+    expect(held, "eight saves, oldest first: x = 0 to 7, with empty lists");
+    expect(force_loop(9, needed - 1, variables) == FLOW_SAVES_SHORT && answered(0) == FLOW_SAVES_SHORT && answered(1) == 0 &&
+               get32(variables) == 0 && saves[0] == UNTOUCHED && saves[needed - 2] == UNTOUCHED,
+           "save words a byte short: 24, and nothing is written");
+}
+
 static void case_budget_zero(void)
 {
     struct buffer t = {0};
@@ -450,6 +557,8 @@ bool cases_hold(void)
     case_questions_refused();
     case_bounds_check();
     case_redirects_in_bounds();
+    case_rollback();
+    case_nine_forces();
     case_budget_zero();
     case_skip();
     return all_hold;

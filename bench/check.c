@@ -1,7 +1,7 @@
 /*
  * Compares libflow.a with the reference on generated calls of all entries: the result, every byte of every slice.  Of lists of
- * questions that are accepted, it asks some pairs alone too.  Every eighth time it plays demands 2 and 3 instead: of the 400,000
- * that it does if no count (or 0) is given, 350,000 are calls compared (by chance, about 70,000 of each entry) and 50,000 programs
+ * questions that are accepted, it asks some pairs alone too.  Every eighth time it plays demands 2 and 3 instead: of the 480,000
+ * that it does if no count (or 0) is given, 420,000 are calls compared (by chance, about 70,000 of each entry) and 60,000 programs
  * played.  That is a number and not a time, so that a seed tries the same on any machine.
  * Usage: check [seed [count [first]]].
  */
@@ -20,13 +20,13 @@
 #include "flow.h"
 #include "generate.h"
 
-enum { DEFAULT_COUNT = 400000, ENOUGH_TO_PLAY = 1000, HANGING_SECONDS = 120, MOST_REFUSAL = 23, MOST_END = 5, MOST_ALONE = 8 };
+enum { DEFAULT_COUNT = 480000, ENOUGH_TO_PLAY = 1000, HANGING_SECONDS = 120, MOST_REFUSAL = 24, MOST_END = 5, MOST_ALONE = 8 };
 
 struct tally {
     uint64_t refusals[ENTRIES][MOST_REFUSAL + 1]; /* 0: accepted */
     uint64_t ends[ENTRIES][MOST_END + 1];
     uint64_t alone; /* pairs of lists of questions that were asked alone too */
-    struct led led; /* directives that calls of flow_guess used */
+    struct led led[ENTRIES]; /* directives that calls of flow_guess and flow_rollback used */
     struct plays plays;
 };
 
@@ -57,14 +57,24 @@ static void print_difference(const struct call *before, const struct call *libra
     print_call(reference);
 }
 
+static bool guesses(enum entry entry)
+{
+    return entry == ENTRY_GUESS || entry == ENTRY_ROLLBACK;
+}
+
+static bool runs(enum entry entry)
+{
+    return entry == ENTRY_RUN || guesses(entry);
+}
+
 static void count_call(struct tally *tally, const struct call *reference, uint64_t result)
 {
-    tally->refusals[reference->entry][result]++;
-    bool machine = reference->entry == ENTRY_RUN || reference->entry == ENTRY_GUESS;
-    if (machine && result == FLOW_ACCEPTED && reference->slices[SLICE_ANSWER].length >= 16)
-        tally->ends[reference->entry][call_answer(reference, 1)]++;
-    if (reference->entry == ENTRY_GUESS && result == FLOW_ACCEPTED)
-        call_led(reference, &tally->led);
+    enum entry entry = reference->entry;
+    tally->refusals[entry][result]++;
+    if (runs(entry) && result == FLOW_ACCEPTED && reference->slices[SLICE_ANSWER].length >= 16)
+        tally->ends[entry][call_answer(reference, 1)]++;
+    if (guesses(entry) && result == FLOW_ACCEPTED)
+        call_led(reference, &tally->led[entry]);
 }
 
 static bool compare_call(const struct call *call, struct tally *tally)
@@ -189,6 +199,20 @@ static void print_led(const struct led *led)
            led->forces, led->out_of_bounds, led->in_bounds[true], led->in_bounds[false]);
 }
 
+static void print_rolled(const struct led *led)
+{
+    print_led(led);
+    printf("    undone    %" PRIu64 " forces, up to %" PRIu64 " open at once; %" PRIu64 " runs stuck at a force beyond them\n", led->rollbacks,
+           led->deepest, led->beyond);
+    printf("    runs that ended before a rollback: %" PRIu64 " spent, %" PRIu64 " stuck with no save open, %" PRIu64 " full\n",
+           led->at_rollback[FLOW_SPENT], led->at_rollback[FLOW_STUCK], led->at_rollback[FLOW_FULL]);
+}
+
+static void print_leaks(const struct attack *attack)
+{
+    printf("    (%" PRIu64 " scripts told the states apart on the program before hardening)\n", attack->leaks_before);
+}
+
 static void print_tally(const struct tally *tally)
 {
     for (unsigned entry = 0; entry < ENTRIES; entry++) {
@@ -197,28 +221,53 @@ static void print_tally(const struct tally *tally)
             calls += tally->refusals[entry][refusal];
         printf("  %s: %" PRIu64 " calls, %" PRIu64 " accepted\n", entry_names[entry], calls, tally->refusals[entry][0]);
         print_counts("refusals", tally->refusals[entry], 1, MOST_REFUSAL);
-        if (entry == ENTRY_RUN || entry == ENTRY_GUESS)
+        if (runs(entry))
             print_counts("ends    ", tally->ends[entry], 1, MOST_END);
         if (entry == ENTRY_GUESS)
-            print_led(&tally->led);
+            print_led(&tally->led[entry]);
+        if (entry == ENTRY_ROLLBACK)
+            print_rolled(&tally->led[entry]);
         if (entry == ENTRY_QUESTIONS)
             printf("    %" PRIu64 " pairs asked alone too, with the byte that each got in its list\n", tally->alone);
     }
     const struct plays *plays = &tally->plays;
     printf("  demand 2: %" PRIu64 " runs of hardened programs without guessing, as the original's\n", plays->same_runs);
-    printf("  demand 3: %" PRIu64 " pairs of states, %" PRIu64 " with related plain runs; %" PRIu64 " scripts played to these\n",
-           plays->pairs, plays->related, plays->scripts);
-    print_led(&plays->led);
-    printf("    (%" PRIu64 " scripts told the states apart on the program before hardening)\n", plays->leaks_before);
+    printf("  demand 3: %" PRIu64 " pairs of states, %" PRIu64 " with related plain runs\n", plays->pairs, plays->related);
+    printf("  demand 3 on flow_guess: %" PRIu64 " scripts played to these\n", plays->guessing.scripts);
+    print_led(&plays->guessing.led);
+    print_leaks(&plays->guessing);
+    printf("  demand 3 on flow_rollback: %" PRIu64 " scripts played to these\n", plays->rolling.scripts);
+    print_rolled(&plays->rolling.led);
+    print_leaks(&plays->rolling);
+}
+
+static bool met(bool all, const char *what)
+{
+    if (!all)
+        printf("%s\n", what);
+    return all;
 }
 
 /* Have directives of each sort led demand 3's plays?  If not, it was not played with them. */
-static bool all_led(const struct led *led)
+static bool all_played(const struct led *led)
 {
-    bool all = led->forces > 0 && led->out_of_bounds > 0 && led->in_bounds[true] > 0 && led->in_bounds[false] > 0;
-    if (!all)
-        printf("demand 3 was not played with forces, and loads and stores out of bounds and in bounds\n");
-    return all;
+    return met(led->forces > 0 && led->out_of_bounds > 0 && led->in_bounds[true] > 0 && led->in_bounds[false] > 0,
+               "demand 3 was not played with forces, and loads and stores out of bounds and in bounds");
+}
+
+/* Has all that a rollback or a force beyond the last save leads to been among the calls compared? */
+static bool all_rolled(const struct led *led)
+{
+    return met(led->rollbacks > 0 && led->deepest == FLOW_MAX_SAVES && led->beyond > 0 && led->at_rollback[FLOW_SPENT] > 0 &&
+                   led->at_rollback[FLOW_STUCK] > 0 && led->at_rollback[FLOW_FULL] > 0,
+               "flow_rollback was not compared with rollbacks taken, spent, stuck and full, all saves open and a force beyond them");
+}
+
+static bool all_led(const struct tally *tally)
+{
+    const struct led *rolling = &tally->plays.rolling.led;
+    bool played = all_played(&tally->plays.guessing.led) && all_played(rolling);
+    return played && met(rolling->rollbacks > 0, "demand 3 was not played with rollbacks") && all_rolled(&tally->led[ENTRY_ROLLBACK]);
 }
 
 static bool check_number(uint64_t seed, uint64_t number, struct tally *tally)
@@ -258,5 +307,5 @@ int main(int argc, char **argv)
     }
     printf("library and reference agree (seed %" PRIu64 ")\n", seed);
     print_tally(&tally);
-    return count < ENOUGH_TO_PLAY || all_led(&tally.plays.led) ? 0 : 1;
+    return count < ENOUGH_TO_PLAY || all_led(&tally) ? 0 : 1;
 }

@@ -6,6 +6,7 @@
 #include <stdio.h>
 #include <stdlib.h>
 
+#include "absent.h"
 #include "call.h"
 #include "flow.h"
 #include "samples.h"
@@ -158,13 +159,29 @@ static void compare_accesses(void)
     }
 }
 
+/* A library of before P5 has no such machine. */
+static void compare_rollback(void)
+{
+    struct call call = rolling_call(machine_call(ENTRY_GUESS));
+    if (copies[0].other(&call) == NO_SUCH_ENTRY) {
+        printf("| machine that rolls back: the library before has none | | | | |\n");
+        call_free(&call);
+        return;
+    }
+    compare_calls("machine that rolls back, so many steps", MACHINE_STEPS, &call, 1);
+    for (const unsigned *cells = saved_cells; *cells != 0; cells++) {
+        struct call undoing = undoing_call(*cells);
+        compare_calls("500 times a force and a rollback, so many cells", *cells, &undoing, 1);
+    }
+}
+
 int main(void)
 {
     setvbuf(stdout, NULL, _IOLBF, 0);
     printf("\n## Before and after\n\n"
            "Medians of five runs, both libraries in turn on the same calls, at other addresses in each run; in brackets the least and\n"
            "the most of the five ratios. Sizing alone is the time with the exact buffer less that with the large one, in each run.\n\n"
-           "| what | N, depth or steps | before, µs | after, µs | after/before |\n|---|---|---|---|---|\n");
+           "| what | N, depth, steps or cells | before, µs | after, µs | after/before |\n|---|---|---|---|---|\n");
     compare_samples("reading (a run refused by 20)", ENTRY_RUN, sample_sizes);
     compare_samples("labelling", ENTRY_SHEET, sample_sizes);
     compare_samples("256 questions", ENTRY_QUESTIONS, asked_sizes);
@@ -175,5 +192,6 @@ int main(void)
     compare_machine("plain machine, so many steps", ENTRY_RUN);
     compare_machine("guessing machine, so many steps", ENTRY_GUESS);
     compare_accesses();
+    compare_rollback();
     return 0;
 }

@@ -156,16 +156,21 @@ static struct call make_run(const struct scene *scene, const uint8_t *table, siz
     return call;
 }
 
-/* Runs without guessing where `list` is NULL. */
-static struct shown show(const struct scene *scene, const uint8_t *table, size_t length, unsigned state,
-                         const struct buffer *list, uint32_t budget)
+/* The same on a machine that guesses; its list is still to be lent. */
+static struct call make_guess(const struct scene *scene, const uint8_t *table, size_t length, unsigned state, enum entry machine,
+                              uint32_t budget)
+{
+    struct call call = make_run(scene, table, length, state, budget);
+    call.entry = machine;
+    if (machine == ENTRY_ROLLBACK)
+        slice_new(&call.slices[SLICE_SAVES], flow_saves_bytes(table[6], scene->state_cells[state].length / 4, get16(table + 8)));
+    return call;
+}
+
+/* Performs the run and frees it. */
+static struct shown show(struct call call)
 {
     struct shown shown = {0};
-    struct call call = make_run(scene, table, length, state, budget);
-    if (list != NULL) {
-        call.entry = ENTRY_GUESS;
-        slice_from(&call.slices[SLICE_DIRECTIVES], list->bytes, list->length);
-    }
     if (call_library(&call) == FLOW_ACCEPTED) {
         const struct slice *variables = &call.slices[SLICE_VARIABLES], *cells = &call.slices[SLICE_CELLS];
         shown.end = call_answer(&call, 1);
@@ -178,6 +183,25 @@ static struct shown show(const struct scene *scene, const uint8_t *table, size_t
     return shown;
 }
 
+/* What the table shows without guessing. */
+static struct shown show_plain(const struct scene *scene, const uint8_t *table, size_t length, unsigned state, uint32_t budget)
+{
+    return show(make_run(scene, table, length, state, budget));
+}
+
+/* What it shows to a script, in as much room as it takes or, where `room` is not 0, in so many bytes. */
+static struct shown show_guess(const struct scene *scene, const uint8_t *table, size_t length, unsigned state, enum entry machine,
+                               const struct buffer *list, uint32_t budget, size_t room)
+{
+    struct call call = make_guess(scene, table, length, state, machine, budget);
+    slice_from(&call.slices[SLICE_DIRECTIVES], list->bytes, list->length);
+    if (room > 0) {
+        slice_free(&call.slices[SLICE_OBSERVATIONS]);
+        slice_new(&call.slices[SLICE_OBSERVATIONS], room);
+    }
+    return show(call);
+}
+
 /* Does one of the two begin the other?  Both are whole records, so bytes decide it. */
 static bool one_begins(const struct slice *one, const struct slice *other)
 {
@@ -188,8 +212,8 @@ static bool one_begins(const struct slice *one, const struct slice *other)
 /* A shorter budget shows the beginning of what a longer one shows, so the longest decides all. */
 static bool plain_runs_related(const struct scene *scene)
 {
-    struct shown one = show(scene, scene->table.bytes, scene->table.length, 0, NULL, MOST_STEPS);
-    struct shown other = show(scene, scene->table.bytes, scene->table.length, 1, NULL, MOST_STEPS);
+    struct shown one = show_plain(scene, scene->table.bytes, scene->table.length, 0, MOST_STEPS);
+    struct shown other = show_plain(scene, scene->table.bytes, scene->table.length, 1, MOST_STEPS);
     bool related = one_begins(&one.bytes, &other.bytes);
     free_shown(&one);
     free_shown(&other);
@@ -224,8 +248,8 @@ static bool runs_as(const struct shown *original, const struct shown *hardened)
 
 static bool play_same_run(const struct scene *scene, unsigned state, struct plays *plays)
 {
-    struct shown original = show(scene, scene->table.bytes, scene->table.length, state, NULL, MOST_STEPS);
-    struct shown hardened = show(scene, scene->hardened.bytes, scene->hardened.length, state, NULL, SLOWER * MOST_STEPS);
+    struct shown original = show_plain(scene, scene->table.bytes, scene->table.length, state, MOST_STEPS);
+    struct shown hardened = show_plain(scene, scene->hardened.bytes, scene->hardened.length, state, SLOWER * MOST_STEPS);
     bool same = runs_as(&original, &hardened);
     plays->same_runs++;
     if (!same) {
@@ -245,23 +269,26 @@ static bool play_same_run(const struct scene *scene, unsigned state, struct play
 /* ---- Demand 3 ----------------------------------------------------------------------------------------------------------- */
 
 /* Most scripts are written for one of the states; each is played to both. */
-static void write_script(struct random *r, const struct scene *scene, const uint8_t *table, size_t length, struct buffer *list)
+static void write_script(struct random *r, const struct scene *scene, const uint8_t *table, size_t length, enum entry machine,
+                         struct buffer *list)
 {
     if (random_percent(r, 85)) {
-        struct call call = make_run(scene, table, length, random_below(r, 2), MOST_STEPS);
-        call.entry = ENTRY_GUESS;
+        struct call call = make_guess(scene, table, length, random_below(r, 2), machine, MOST_STEPS);
         unsigned most = 1 + random_below(r, 25), forces = 10 + random_below(r, 70), redirects = random_below(r, 60);
-        generate_script(r, &call, most, forces, redirects, list);
+        unsigned rollbacks = 5 + random_below(r, 50);
+        generate_script(r, &call, &(struct manner){most, forces, redirects, rollbacks}, list);
         call_free(&call);
     }
     if (random_percent(r, 30))
-        generate_directives(r, 10, list);
+        generate_directives(r, machine, 10, list);
 }
 
-static void print_scene(const struct scene *scene, const struct buffer *list, const uint32_t *budgets, const struct shown *shown)
+static void print_scene(const struct scene *scene, enum entry machine, const struct buffer *list, const uint32_t *budgets,
+                        const struct shown *shown)
 {
     static const char *const names[2][3] = {{"variables 1", "cells 1", "shows 1"}, {"variables 2", "cells 2", "shows 2"}};
-    printf("the hardened program tells two states apart (demand 3), budgets %u and %u\n", budgets[0], budgets[1]);
+    printf("the hardened program tells two states apart on %s (demand 3), budgets %u and %u\n", entry_names[machine], budgets[0],
+           budgets[1]);
     print_named("table", scene->table.bytes, scene->table.length);
     print_named("hardened", scene->hardened.bytes, scene->hardened.length);
     print_named("directives", list->bytes, list->length);
@@ -272,32 +299,28 @@ static void print_scene(const struct scene *scene, const struct buffer *list, co
     }
 }
 
-static void add_led(const struct led *led, struct led *sum)
-{
-    sum->forces += led->forces;
-    sum->out_of_bounds += led->out_of_bounds;
-    sum->in_bounds[false] += led->in_bounds[false];
-    sum->in_bounds[true] += led->in_bounds[true];
-}
-
-static bool play_script(struct random *r, const struct scene *scene, struct plays *plays)
+static bool play_script(struct random *r, const struct scene *scene, enum entry machine, struct attack *attack)
 {
     struct buffer list = {0};
     struct shown shown[2];
     uint32_t budgets[2] = {MOST_STEPS, MOST_STEPS};
+    size_t rooms[2] = {0, 0};
     if (random_percent(r, 25)) {
         budgets[0] = random_below(r, MOST_STEPS);
         budgets[1] = random_below(r, MOST_STEPS);
     }
-    write_script(r, scene, scene->hardened.bytes, scene->hardened.length, &list);
+    if (random_percent(r, 15))
+        rooms[random_below(r, 2)] = 1 + random_below(r, 100);
+    write_script(r, scene, scene->hardened.bytes, scene->hardened.length, machine, &list);
     for (unsigned state = 0; state < 2; state++)
-        shown[state] = show(scene, scene->hardened.bytes, scene->hardened.length, state, &list, budgets[state]);
+        shown[state] = show_guess(scene, scene->hardened.bytes, scene->hardened.length, state, machine, &list, budgets[state],
+                                  rooms[state]);
     bool same = one_begins(&shown[0].bytes, &shown[1].bytes);
-    plays->scripts++;
+    attack->scripts++;
     if (!same)
-        print_scene(scene, &list, budgets, shown);
+        print_scene(scene, machine, &list, budgets, shown);
     for (unsigned state = 0; state < 2; state++) {
-        add_led(&shown[state].led, &plays->led);
+        add_led(&shown[state].led, &attack->led);
         free_shown(&shown[state]);
     }
     buffer_free(&list);
@@ -305,12 +328,13 @@ static bool play_script(struct random *r, const struct scene *scene, struct play
 }
 
 /* Does a script written for the program before hardening tell the states apart there? */
-static bool leaks_before_hardening(struct random *r, const struct scene *scene)
+static bool leaks_before_hardening(struct random *r, const struct scene *scene, enum entry machine)
 {
     struct buffer list = {0};
-    write_script(r, scene, scene->table.bytes, scene->table.length, &list);
-    struct shown one = show(scene, scene->table.bytes, scene->table.length, 0, &list, MOST_STEPS);
-    struct shown other = show(scene, scene->table.bytes, scene->table.length, 1, &list, MOST_STEPS);
+    const struct buffer *table = &scene->table;
+    write_script(r, scene, table->bytes, table->length, machine, &list);
+    struct shown one = show_guess(scene, table->bytes, table->length, 0, machine, &list, MOST_STEPS, 0);
+    struct shown other = show_guess(scene, table->bytes, table->length, 1, machine, &list, MOST_STEPS, 0);
     bool leaks = !one_begins(&one.bytes, &other.bytes);
     free_shown(&one);
     free_shown(&other);
@@ -343,13 +367,12 @@ static void free_scene(struct scene *scene)
     }
 }
 
-static bool play_scripts(struct random *r, const struct scene *scene, struct plays *plays)
+static bool play_scripts(struct random *r, const struct scene *scene, enum entry machine, struct attack *attack)
 {
     bool same = true;
-    plays->related++;
     for (unsigned script = 0; same && script < SCRIPTS; script++) {
-        same = play_script(r, scene, plays);
-        plays->leaks_before += leaks_before_hardening(r, scene);
+        same = play_script(r, scene, machine, attack);
+        attack->leaks_before += leaks_before_hardening(r, scene, machine);
     }
     return same;
 }
@@ -367,8 +390,10 @@ bool play_demands(struct random *r, struct plays *plays)
         same = false;
     } else {
         same = play_same_run(&scene, 0, plays) && play_same_run(&scene, 1, plays);
-        if (same && plain_runs_related(&scene))
-            same = play_scripts(r, &scene, plays);
+        if (same && plain_runs_related(&scene)) {
+            plays->related++;
+            same = play_scripts(r, &scene, ENTRY_GUESS, &plays->guessing) && play_scripts(r, &scene, ENTRY_ROLLBACK, &plays->rolling);
+        }
     }
     free_scene(&scene);
     return same;

@@ -11,13 +11,18 @@
 #include "call.h"
 #include "generate.h"
 
+/* Demand 3, played on one of the machines that guess. */
+struct attack {
+    uint64_t scripts;        /* scripts played to the hardened program from a pair of states */
+    struct led led;          /* directives by which these runs were led */
+    uint64_t leaks_before;   /* scripts that tell the two states apart on the program before hardening: demand 3 bites */
+};
+
 struct plays {
     uint64_t pairs;          /* programs, each with a pair of states */
     uint64_t same_runs;      /* runs without guessing compared with the original's */
     uint64_t related;        /* pairs whose plain runs are related, so that demand 3 speaks of them */
-    uint64_t scripts;        /* scripts played to the hardened program from such a pair */
-    struct led led;          /* directives by which these runs were led */
-    uint64_t leaks_before;   /* scripts that tell the two states apart on the program before hardening: demand 3 bites */
+    struct attack guessing, rolling; /* on flow_guess and on flow_rollback */
 };
 
 /* Plays a generated program.  False: a demand does not hold; all bytes have been printed. */

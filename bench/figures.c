@@ -138,6 +138,42 @@ static void figures_of_machines(void)
         figures_of_machine(accesses_names[accesses], access_call(accesses));
 }
 
+/* ---- Rolling back ------------------------------------------------------------------------------------------------------- */
+
+/* Steps without a force, beside flow_guess on the same call. */
+static void figures_of_rolling(const char *name, struct call call)
+{
+    struct call rolling = rolling_call(call_copy(&call));
+    struct timing timings[2];
+    time_groups(both, (struct call *const[2]){&rolling, &call}, 2, 1, timings);
+    printf("| %s | %.1f | %.1f | %.2f | %.1f | %.2f |\n", name, 1e-6 * MACHINE_STEPS / timings[0].library,
+           1e-6 * MACHINE_STEPS / timings[0].other, timings[0].library / timings[0].other, 1e-6 * MACHINE_STEPS / timings[1].library,
+           timings[0].library / timings[1].library);
+    call_free(&rolling);
+    call_free(&call);
+}
+
+/* A force and the rollback that undoes it, each with a share of the call around them. */
+static struct timing time_undoing(unsigned cells)
+{
+    struct call call = undoing_call(cells);
+    struct timing timing = time_calls(both, &call, 1);
+    call_free(&call);
+    return (struct timing){timing.library / UNDONE_GUESSES, timing.other / UNDONE_GUESSES};
+}
+
+static void figures_of_rollback(void)
+{
+    printf("\n## The machine that rolls back, beside the guessing machine: steps a second on the same calls, without a force\n\n"
+           "| what | library, million steps/s | reference, million steps/s | ratio of times | library's flow_guess, million steps/s | "
+           "ratio of times to it |\n|---|---|---|---|---|---|\n");
+    figures_of_rolling("small steps", machine_call(ENTRY_GUESS));
+    figures_of_rolling("reads and writes under steps", access_call(ACCESSES_STEPS));
+    print_timing_head("Time of a force and the rollback that undoes it (a call's time by the 500 pairs in it)", "", "cells");
+    for (const unsigned *cells = saved_cells; *cells != 0; cells++)
+        print_timing("a force and a rollback", *cells, time_undoing(*cells));
+}
+
 /* ---- Stack -------------------------------------------------------------------------------------------------------------- */
 
 /* Nests one level more around a node.  Each adds at most 5 nodes. */
@@ -229,6 +265,14 @@ static void print_stack(const char *name, const char *entry, unsigned nodes, str
     call_free(call);
 }
 
+/* The first branch of a list of steps is guessed wrong, and that undone: saving takes stack too. */
+static void guess_and_undo(struct call *call)
+{
+    uint8_t *list = call->slices[SLICE_DIRECTIVES].bytes;
+    put16(list + 2, FLOW_FORCE);
+    put16(list + 6, FLOW_ROLLBACK);
+}
+
 static void figures_of_nest(const struct nest *nest)
 {
     struct buffer table = {0}, small = {0};
@@ -241,11 +285,14 @@ static void figures_of_nest(const struct nest *nest)
     harden.slices[SLICE_OUTPUT].length = hardened_length(&harden); /* sizing takes stack too */
     struct call run = running_call(ENTRY_RUN, &table, 5000, 2000);
     struct call guess = running_call(ENTRY_GUESS, &table, 5000, 2000);
+    struct call rollback = rolling_call(running_call(ENTRY_GUESS, &table, 5000, 2000));
+    guess_and_undo(&rollback);
     print_stack(nest->name, "flow_sheet", nodes, &sheet);
     print_stack(nest->name, "flow_questions", nodes, &questions);
     print_stack(nest->name, "flow_harden", small_nodes, &harden);
     print_stack(nest->name, "flow_run", nodes, &run);
     print_stack(nest->name, "flow_guess", nodes, &guess);
+    print_stack(nest->name, "flow_rollback", nodes, &rollback);
     buffer_free(&table);
     buffer_free(&small);
 }
@@ -266,6 +313,7 @@ int main(void)
     figures_of_questions();
     figures_of_nesting();
     figures_of_machines();
+    figures_of_rollback();
     figures_of_stack();
     return 0;
 }

@@ -684,11 +684,13 @@ void generate_words(struct random *r, uint8_t *words, size_t count)
         put32(words + 4 * i, random_word(r));
 }
 
-void generate_directives(struct random *r, unsigned most, struct buffer *list)
+void generate_directives(struct random *r, enum entry entry, unsigned most, struct buffer *list)
 {
     for (unsigned count = random_below(r, most + 1); count > 0; count--) {
         unsigned chance = random_below(r, 100);
-        if (chance < 50)
+        if (entry == ENTRY_ROLLBACK && chance < 20)
+            assemble_directive(list, FLOW_ROLLBACK);
+        else if (chance < 50)
             assemble_directive(list, FLOW_STEP);
         else if (chance < 75)
             assemble_directive(list, FLOW_FORCE);
@@ -697,9 +699,19 @@ void generate_directives(struct random *r, unsigned most, struct buffer *list)
     }
 }
 
+/* A directive with a field that its kind does not have. */
+static void lengthen_directive(struct random *r, struct buffer *list, size_t at)
+{
+    static const uint8_t field[6];
+    size_t more = random_percent(r, 50) ? 2 : 6;
+    size_t length = get16(list->bytes + at);
+    insert_bytes(list, at + length, field, more);
+    put16(list->bytes + at, (uint32_t)(length + more));
+}
+
 static void damage_directives(struct random *r, struct buffer *list)
 {
-    static const uint8_t kinds[] = {0, 64, 71, 72, 73, 74, 75, 76, 255};
+    static const uint8_t kinds[] = {0, 64, 67, 71, 72, 73, 74, 75, 76, 77, 255};
     if (list->length == 0 || random_percent(r, 30)) {
         uint8_t noise[11];
         random_fill(r, noise, sizeof noise);
@@ -710,10 +722,11 @@ static void damage_directives(struct random *r, struct buffer *list)
     for (size_t at = 0; at < list->length; at += get16(list->bytes + at))
         if (random_percent(r, 30))
             last = at;
-    switch (random_below(r, 4)) {
+    switch (random_below(r, 5)) {
     case 0: list->length -= 1 + random_below(r, list->length < 10 ? (uint32_t)list->length : 10); break;
     case 1: put16(list->bytes + last, random_percent(r, 50) ? 4 : random_below(r, 12)); break;
     case 2: put16(list->bytes + last + 2, kinds[random_below(r, sizeof kinds)]); break;
+    case 3: lengthen_directive(r, list, last); break;
     default: list->bytes[random_below(r, (uint32_t)list->length)] ^= (uint8_t)(1u << random_below(r, 8)); break;
     }
 }
@@ -750,9 +763,9 @@ static void append_redirect(struct random *r, const struct layout *layout, unsig
     assemble_redirect(list, load ? FLOW_LOAD : FLOW_STORE, array, index);
 }
 
-/* The end, directives used and next node of the guessing call with this list. */
+/* The end, directives used, flag and next node of the guessing call with this list. */
 struct outcome {
-    uint64_t refusal, end, used, next;
+    uint64_t refusal, end, used, flag, next;
 };
 
 static struct outcome try_script(const struct call *call, const struct buffer *list)
@@ -763,19 +776,52 @@ static struct outcome try_script(const struct call *call, const struct buffer *l
     slice_from(&trial.slices[SLICE_DIRECTIVES], list->bytes, list->length);
     slice_new(&trial.slices[SLICE_ANSWER], FLOW_ANSWER_BYTES);
     struct outcome outcome = {.refusal = call_reference(&trial), .end = call_answer(&trial, 1),
-                              .used = call_answer(&trial, 3), .next = call_answer(&trial, 6)};
+                              .used = call_answer(&trial, 3), .flag = call_answer(&trial, 5),
+                              .next = call_answer(&trial, 6)};
     call_free(&trial);
     return outcome;
 }
 
-void generate_script(struct random *r, const struct call *call, unsigned most, unsigned forces, unsigned redirects,
-                     struct buffer *list)
+/* Is the next directive of a list that was used up to be a rollback?  Seldom it is one where none is open. */
+static bool goes_back(struct random *r, const struct call *call, const struct manner *manner, const struct outcome *outcome)
+{
+    bool ready = outcome->end == FLOW_OUT_OF_DIRECTIVES || outcome->end == FLOW_FINISHED;
+    return call->entry == ENTRY_ROLLBACK && ready && random_percent(r, outcome->flag ? manner->rollbacks : 2);
+}
+
+/* The next directive for a shown step. */
+static void append_next(struct random *r, const struct layout *layout, const struct manner *manner, unsigned kind, struct buffer *list)
+{
+    bool branch = kind == FLOW_IF || kind == FLOW_WHILE;
+    if (!branch && random_percent(r, manner->redirects)) /* in bounds this fits, whatever it names */
+        append_redirect(r, layout, kind, 40, list);
+    else
+        assemble_directive(list, branch && random_percent(r, manner->forces) ? FLOW_FORCE : FLOW_STEP);
+}
+
+/* In the place of a directive that did not fit, the last: a redirect or a rollback.  False: nothing else is tried. */
+static bool exchange_last(struct random *r, const struct layout *layout, const struct call *call, const struct outcome *outcome,
+                          unsigned kind, size_t last, struct buffer *list)
+{
+    bool branch = kind == FLOW_IF || kind == FLOW_WHILE;
+    bool back = call->entry == ENTRY_ROLLBACK && outcome->flag && random_percent(r, branch ? 20 : 50);
+    if (get16(list->bytes + last + 2) == FLOW_ROLLBACK || (branch && !back))
+        return false;
+    list->length = last;
+    if (back)
+        assemble_directive(list, FLOW_ROLLBACK);
+    else
+        append_redirect(r, layout, kind, 15, list);
+    return true;
+}
+
+void generate_script(struct random *r, const struct call *call, const struct manner *manner, struct buffer *list)
 {
     struct layout layout;
     bool read_yet = false;
     bool again = false;
-    size_t fits = 0; /* bytes of the list before the last directive */
-    for (unsigned count = 0; count < 2 * most; count++) {
+    size_t last = 0; /* where the last directive begins */
+    for (unsigned count = 0; count < 2 * manner->most; count++) {
         struct outcome outcome = try_script(call, list);
         if (outcome.refusal != FLOW_ACCEPTED)
             return;
@@ -784,20 +830,20 @@ void generate_script(struct random *r, const struct call *call, unsigned most, u
         read_yet = true;
         const uint8_t *node = call->slices[SLICE_TABLE].bytes + layout.records.places[layout.records.declarations + outcome.next];
         unsigned kind = get16(node + 2);
-        bool branch = kind == FLOW_IF || kind == FLOW_WHILE;
-        if (outcome.end == FLOW_OUT_OF_DIRECTIVES && outcome.used < most) {
-            fits = list->length;
+        bool more = outcome.used < manner->most;
+        if (more && goes_back(r, call, manner, &outcome)) {
+            last = list->length;
             again = false;
-            if (!branch && random_percent(r, redirects)) /* in bounds this fits, whatever it names */
-                append_redirect(r, &layout, kind, 40, list);
-            else
-                assemble_directive(list, branch && random_percent(r, forces) ? FLOW_FORCE : FLOW_STEP);
-        } else if (outcome.end == FLOW_STUCK && !again && !branch) {
-            list->length = fits; /* without the directive that did not fit */
-            append_redirect(r, &layout, kind, 15, list);
-            again = true;
-        } else
+            assemble_directive(list, FLOW_ROLLBACK);
+        } else if (more && outcome.end == FLOW_OUT_OF_DIRECTIVES) {
+            last = list->length;
+            again = false;
+            append_next(r, &layout, manner, kind, list);
+        } else if (outcome.end != FLOW_STUCK || again || list->length == 0 ||
+                   !exchange_last(r, &layout, call, &outcome, kind, last, list)) {
             return;
+        } else
+            again = true;
     }
 }
 
@@ -1082,21 +1128,105 @@ static void spoil_last_directive(struct random *r, struct buffer *list)
         assemble_redirect(list, random_percent(r, 50) ? FLOW_LOAD : FLOW_STORE, 0, 0);
 }
 
+/* A rollback, somewhere: the guessing machine knows none and refuses the list, and on the other one most often no save is open. */
+static void put_in_rollback(struct random *r, struct buffer *list)
+{
+    static const uint8_t rollback[] = {4, 0, FLOW_ROLLBACK, 0};
+    size_t at = list->length;
+    if (random_percent(r, 50))
+        for (at = 0; at < list->length && random_percent(r, 70);)
+            at += get16(list->bytes + at);
+    insert_bytes(list, at, rollback, sizeof rollback);
+}
+
 static void lend_directives(struct random *r, struct call *call)
 {
     struct buffer list = {0};
     if (random_percent(r, 70)) {
-        unsigned most = random_below(r, 30), forces = random_below(r, 60), redirects = random_below(r, 60);
-        generate_script(r, call, most, forces, redirects, &list);
+        unsigned most = random_below(r, 30), forces = random_below(r, 60), redirects = random_below(r, 60), rollbacks = random_below(r, 60);
+        generate_script(r, call, &(struct manner){most, forces, redirects, rollbacks}, &list);
     }
     if (random_percent(r, 8))
         spoil_last_directive(r, &list);
     if (random_percent(r, 30))
-        generate_directives(r, 8, &list);
+        generate_directives(r, call->entry, 8, &list);
+    if (random_percent(r, call->entry == ENTRY_GUESS ? 3 : 25))
+        put_in_rollback(r, &list);
     if (random_percent(r, 8))
         damage_directives(r, &list);
     if (list.length > 0 || random_percent(r, 50))
         slice_from(&call->slices[SLICE_DIRECTIVES], list.bytes, list.length);
+    buffer_free(&list);
+}
+
+/* As many bytes as are needed, or some more, or now and then another number. */
+static void lend_saves(struct random *r, size_t right, struct call *call)
+{
+    size_t length = random_percent(r, 60) ? right : right + random_below(r, 40);
+    fill_slice(r, &call->slices[SLICE_SAVES], odd_length(r, length, 10));
+}
+
+/* The call with other room for its observations, and an answer slice that suffices. */
+static struct call with_room(const struct call *call, size_t room)
+{
+    struct call trial = call_copy(call);
+    slice_free(&trial.slices[SLICE_OBSERVATIONS]);
+    slice_free(&trial.slices[SLICE_ANSWER]);
+    slice_new(&trial.slices[SLICE_OBSERVATIONS], room);
+    slice_new(&trial.slices[SLICE_ANSWER], FLOW_ANSWER_BYTES);
+    return trial;
+}
+
+/* The byte at which a rollback of the call is shown, one of them by chance, where there is room for all; or none, SIZE_MAX. */
+static size_t find_rollback(struct random *r, const struct call *call)
+{
+    size_t found = SIZE_MAX;
+    unsigned count = 0;
+    struct call trial = with_room(call, 3000);
+    const uint8_t *shown = trial.slices[SLICE_OBSERVATIONS].bytes;
+    if (call_reference(&trial) == FLOW_ACCEPTED)
+        for (size_t at = 0; at < call_answer(&trial, 4); at += get16(shown + at))
+            if (get16(shown + at + 2) == FLOW_SHOWN_ROLLBACK && random_below(r, ++count) == 0)
+                found = at;
+    call_free(&trial);
+    return found;
+}
+
+/* The steps before the rollback that is shown at this byte. */
+static uint32_t steps_before(const struct call *call, size_t at)
+{
+    struct call trial = with_room(call, at);
+    call_reference(&trial);
+    uint32_t steps = (uint32_t)call_answer(&trial, 2);
+    call_free(&trial);
+    return steps;
+}
+
+/* Budget or room end at a rollback of the run, or just behind it. */
+static void cut_at_rollback(struct random *r, struct call *call)
+{
+    size_t at = find_rollback(r, call);
+    if (at == SIZE_MAX)
+        return;
+    slice_free(&call->slices[SLICE_OBSERVATIONS]);
+    if (random_percent(r, 50)) {
+        call->budget = steps_before(call, at) + (random_percent(r, 20) ? 1 : 0);
+        fill_slice(r, &call->slices[SLICE_OBSERVATIONS], at + random_below(r, 30));
+    } else
+        fill_slice(r, &call->slices[SLICE_OBSERVATIONS], at + random_below(r, 5));
+}
+
+/* In the place of its list, one that guesses wrong nearly everywhere and undoes few of these or many, with budget and room for it. */
+static void lend_deep_guesses(struct random *r, struct call *call)
+{
+    struct buffer list = {0};
+    unsigned most = 10 + random_below(r, 20), rollbacks = random_percent(r, 50) ? 2 : 30;
+    slice_free(&call->slices[SLICE_DIRECTIVES]);
+    slice_free(&call->slices[SLICE_OBSERVATIONS]);
+    fill_slice(r, &call->slices[SLICE_OBSERVATIONS], random_percent(r, 70) ? 3000 : 40 + random_below(r, 60));
+    call->budget = 40 + random_below(r, 1000);
+    generate_script(r, call, &(struct manner){.most = most, .forces = 97, .redirects = 50, .rollbacks = rollbacks}, &list);
+    slice_from(&call->slices[SLICE_DIRECTIVES], list.bytes, list.length);
     buffer_free(&list);
 }
 
@@ -1115,8 +1245,14 @@ static void lend_state(struct random *r, const struct plan *plan, struct call *c
     }
     fill_slice(r, &call->slices[SLICE_OBSERVATIONS], generate_room(r));
     call->budget = generate_budget(r);
-    if (call->entry == ENTRY_GUESS)
+    if (call->entry == ENTRY_ROLLBACK)
+        lend_saves(r, flow_saves_bytes(plan->variables, cells, plan->nodes), call);
+    if (call->entry == ENTRY_GUESS || call->entry == ENTRY_ROLLBACK)
         lend_directives(r, call);
+    if (call->entry == ENTRY_ROLLBACK && random_percent(r, 60))
+        lend_deep_guesses(r, call);
+    if (call->entry == ENTRY_ROLLBACK && random_percent(r, 60))
+        cut_at_rollback(r, call);
 }
 
 /* A variable, or a number that as an index of the array is mostly in bounds. */
@@ -1145,11 +1281,29 @@ static unsigned put_branch(struct random *r, const struct plan *plan, struct buf
     return assemble_node3(t, FLOW_IF, condition, one, put_access(r, plan, t));
 }
 
+/* x := x + 1 */
+static unsigned put_count(struct buffer *t, unsigned variable)
+{
+    unsigned x = assemble_node1(t, FLOW_VARIABLE, variable);
+    return assemble_node2(t, FLOW_ASSIGN, variable, assemble_node2(t, FLOW_ADD, x, assemble_node1(t, FLOW_NUMBER, 1)));
+}
+
+/* while x<n do access, or x := x + 1 */
+static unsigned put_loop(struct random *r, const struct plan *plan, struct buffer *t)
+{
+    unsigned variable = random_below(r, plan->variables);
+    unsigned x = assemble_node1(t, FLOW_VARIABLE, variable);
+    unsigned condition = assemble_node2(t, FLOW_LESS, x, assemble_node1(t, FLOW_NUMBER, random_below(r, 4)));
+    unsigned body = random_percent(r, 25) ? put_access(r, plan, t) : put_count(t, variable);
+    return assemble_node2(t, FLOW_WHILE, condition, body);
+}
+
 /*
- * In the place of the table, one of reads and writes one after another, some behind branches, and a state for it: most runs of
- * other tables come to no read or write, and here redirects of each sort are used.
+ * In the place of the table, one of reads and writes one after another, of which `branches` percent stand behind branches, and of
+ * these `loops` percent in loops, and a state for it: most runs of other tables come to no read or write, and here redirects and
+ * rollbacks of each sort are used.
  */
-static void lend_accesses(struct random *r, struct call *call)
+static void lend_accesses(struct random *r, unsigned branches, unsigned loops, struct call *call)
 {
     struct plan plan = {.variables = 1 + random_below(r, 4), .arrays = 1 + random_below(r, 3)};
     struct buffer table = {0};
@@ -1158,7 +1312,9 @@ static void lend_accesses(struct random *r, struct call *call)
     assemble_table(&table, plan.variables, plan.arrays, plan.counts, 0, 0);
     unsigned all = put_branch(r, &plan, &table);
     for (unsigned more = random_below(r, 12); more > 0; more--) {
-        unsigned next = random_percent(r, 30) ? put_branch(r, &plan, &table) : put_access(r, &plan, &table);
+        unsigned next = !random_percent(r, branches) ? put_access(r, &plan, &table)
+                        : random_percent(r, loops)   ? put_loop(r, &plan, &table)
+                                                     : put_branch(r, &plan, &table);
         all = assemble_node2(&table, FLOW_SEQUENCE, all, next);
     }
     plan.nodes = all + 1;
@@ -1196,13 +1352,16 @@ void generate_call(struct random *r, bool small, struct call *call)
     if (table.length > 0 || random_percent(r, 50))
         slice_from(&call->slices[SLICE_TABLE], table.bytes, table.length);
     buffer_free(&table);
-    fill_slice(r, &call->slices[SLICE_ANSWER], random_percent(r, 50) ? FLOW_ANSWER_BYTES : random_below(r, 61));
+    unsigned whole = call->entry == ENTRY_ROLLBACK ? 85 : 50; /* percent; how a run ended is counted by its answer */
+    fill_slice(r, &call->slices[SLICE_ANSWER], random_percent(r, whole) ? FLOW_ANSWER_BYTES : random_below(r, 61));
     if (call->entry == ENTRY_SHEET || call->entry == ENTRY_HARDEN)
         lend_output(r, call);
     else if (call->entry == ENTRY_QUESTIONS)
         lend_questions(r, call);
     else if (call->entry == ENTRY_GUESS && random_percent(r, 30))
-        lend_accesses(r, call);
+        lend_accesses(r, 30, 0, call);
+    else if (call->entry == ENTRY_ROLLBACK && random_percent(r, 75))
+        lend_accesses(r, 75, 80, call);
     else
         lend_state(r, &plan, call);
     if (call->entry == ENTRY_HARDEN && random_percent(r, 20)) /* last, so that a seed's other calls stay as they were */

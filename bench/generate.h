@@ -63,16 +63,19 @@ void damage_table(struct random *r, struct buffer *table);
 /* Words that programs compare and use as indices: mostly small. */
 void generate_words(struct random *r, uint8_t *words, size_t count);
 
-/*
- * Puts a list of at most `most` directives that fits, step by step, a run of the guessing call (whose own list is ignored).
- * `forces`: percent of branches that are guessed wrong.  `redirects`: percent of reads and writes in bounds that get a load or
- * store; out of bounds all do.
- */
-void generate_script(struct random *r, const struct call *call, unsigned most, unsigned forces, unsigned redirects,
-                     struct buffer *list);
+/* How a script is to be. */
+struct manner {
+    unsigned most;      /* directives */
+    unsigned forces;    /* percent of branches that are guessed wrong */
+    unsigned redirects; /* percent of reads and writes in bounds that get a load or store; out of bounds all do */
+    unsigned rollbacks; /* on the machine that rolls back: percent of directives that undo a guess while one is open */
+};
 
-/* Puts a list of directives by chance. */
-void generate_directives(struct random *r, unsigned most, struct buffer *list);
+/* Puts a list that fits, step by step, a run of the guessing call (whose own list is ignored). */
+void generate_script(struct random *r, const struct call *call, const struct manner *manner, struct buffer *list);
+
+/* Puts a list of directives by chance, such as the entry's machine knows. */
+void generate_directives(struct random *r, enum entry entry, unsigned most, struct buffer *list);
 
 /* Makes any call of any entry.  With `small`, tables stay small. */
 void generate_call(struct random *r, bool small, struct call *call);

@@ -1,6 +1,7 @@
 /*
  * A load bench: hardens a table, plays one attacker's script to it from two states, before and after hardening, and prints what
- * each run shows and whether one list begins the other.
+ * each run shows and whether one list begins the other.  With --rollback the script is played to the machine that undoes wrong
+ * guesses, and the saves that are open at the end are printed too.
  */
 #include <inttypes.h>
 #include <stdbool.h>
@@ -21,6 +22,7 @@ static const char usage[] =
     "usage: load_bench                                   plays a built-in example\n"
     "       load_bench TABLE SCRIPT [STATE STATE]        plays a script to two states\n"
     "       load_bench TABLE SCRIPT [..] -o HARDENED     also writes the hardened table to a file\n"
+    "       load_bench --rollback [..]                   plays it to the machine that undoes wrong guesses\n"
     "TABLE and SCRIPT are files of records.  A STATE is a file of 4-byte words (variables, then cells), or =1,2,3 for these words;\n"
     "words that are missing are 0.\n";
 
@@ -28,6 +30,7 @@ struct load {
     struct buffer table, script;
     struct buffer states[2]; /* words: variables, then cells */
     const char *output;      /* where the hardened table goes, or NULL */
+    bool rollback;           /* the script is for flow_rollback */
 };
 
 /* ---- Tables ------------------------------------------------------------------------------------------------------------- */
@@ -135,7 +138,20 @@ struct run {
     uint64_t refusal;
     uint64_t numbers[7]; /* the answer: 0, end, steps, directives used, observation bytes, flag, next node */
     uint8_t shown[ROOM];
+    unsigned open;       /* saves, on the machine that rolls back */
+    uint8_t saves[FLOW_SAVES_BYTES];
 };
+
+/* How many saves the directives used have left open: the number is not stored with them. */
+static unsigned open_saves(const struct buffer *script, uint64_t used)
+{
+    unsigned open = 0;
+    for (const uint8_t *directive = script->bytes; used > 0; used--, directive += get16(directive)) {
+        open += get16(directive + 2) == FLOW_FORCE;
+        open -= get16(directive + 2) == FLOW_ROLLBACK;
+    }
+    return open;
+}
 
 /* Runs a table from a state of the original; a variable more, the flag of a hardened table, starts at 0.  NULL: no guessing. */
 static void run_table(const struct load *load, const struct buffer *table, unsigned state, const struct buffer *script,
@@ -151,21 +167,29 @@ static void run_table(const struct load *load, const struct buffer *table, unsig
         memcpy(variables, words, own);
     if (cell_bytes > 0)
         memcpy(cells, words + own, cell_bytes);
+    run->open = 0;
     if (script == NULL)
         run->refusal = flow_run(table->bytes, table->length, variables, lent, cells, cell_bytes, pending, sizeof pending,
                                 run->shown, sizeof run->shown, BUDGET, answer, sizeof answer);
+    else if (load->rollback)
+        run->refusal = flow_rollback(table->bytes, table->length, script->bytes, script->length, variables, lent, cells,
+                                     cell_bytes, pending, sizeof pending, run->saves, sizeof run->saves, run->shown,
+                                     sizeof run->shown, BUDGET, answer, sizeof answer);
     else
         run->refusal = flow_guess(table->bytes, table->length, script->bytes, script->length, variables, lent, cells, cell_bytes,
                                   pending, sizeof pending, run->shown, sizeof run->shown, BUDGET, answer, sizeof answer);
     for (unsigned i = 0; i < 7; i++)
         run->numbers[i] = get64(answer + 8 * i);
+    if (script != NULL && load->rollback && run->refusal == FLOW_ACCEPTED)
+        run->open = open_saves(script, run->numbers[3]);
 }
 
-static void print_run(const struct run *run, unsigned state)
+static void print_run(const struct buffer *table, const struct run *run, unsigned state)
 {
     printf("  state %u: %s after %" PRIu64 " steps, %" PRIu64 " directives used, flag %" PRIu64 ", next node %" PRIu64 "\n",
            state + 1, end_in_words(run->numbers[1]), run->numbers[2], run->numbers[3], run->numbers[5], run->numbers[6]);
     print_observations(stdout, "    ", run->shown, (size_t)run->numbers[4]);
+    print_saves(stdout, "    ", run->saves, run->open, variables_of(table->bytes), cells_of(table->bytes), nodes_of(table->bytes));
 }
 
 static bool one_begins(const struct run *one, const struct run *other)
@@ -186,7 +210,7 @@ static enum verdict play(const struct load *load, const char *heading, const str
             print_refusal(stdout, table->bytes, table->length, runs[state].refusal, runs[state].numbers[1]);
             return REFUSED;
         }
-        print_run(&runs[state], state);
+        print_run(table, &runs[state], state);
     }
     bool alike = one_begins(&runs[0], &runs[1]);
     printf("  %s\n", alike ? "one list begins the other" : "the lists differ: the states are told apart");
@@ -209,8 +233,12 @@ static int play_load(struct load *load)
     bool agree = states_agree(load);
     printf("the states %s on what the table labels public\n", agree ? "agree" : "do not agree");
     enum verdict plain = play(load, "without guessing, before hardening:", &load->table, NULL);
-    play(load, "guessing, before hardening:", &load->table, &load->script);
-    enum verdict verdict = play(load, "guessing, hardened:", &hardened, &load->script);
+    const char *machine = load->rollback ? "guessing and rolling back" : "guessing";
+    char heading[60];
+    snprintf(heading, sizeof heading, "%s, before hardening:", machine);
+    play(load, heading, &load->table, &load->script);
+    snprintf(heading, sizeof heading, "%s, hardened:", machine);
+    enum verdict verdict = play(load, heading, &hardened, &load->script);
     if (verdict != REFUSED && (!agree || plain != ALIKE))
         printf("note: hardening promises nothing of two states that differ in public, or that the program itself tells apart\n");
     buffer_free(&hardened);
@@ -219,20 +247,23 @@ static int play_load(struct load *load)
 
 /* ---- Loads -------------------------------------------------------------------------------------------------------------- */
 
-/* The bounds check of document 01: i = 4 is out of bounds, and only the secret cell, 77 or 78, differs. */
+/* The bounds check of document 01: i = 4 is out of bounds, and only the secret cell, 77 or 78, differs.  A guess is undone where it can be. */
 static void built_in_load(struct load *load)
 {
     bounds_check_table(&load->table);
     assemble_directive(&load->script, FLOW_FORCE);
     assemble_redirect(&load->script, FLOW_LOAD, 2, 0);
     assemble_directive(&load->script, FLOW_STEP);
+    if (load->rollback)
+        assemble_directive(&load->script, FLOW_ROLLBACK);
     for (unsigned state = 0; state < 2; state++) {
         buffer_append32(&load->states[state], 4);
         pad_state(&load->states[state], 3 + 4 + 256);
         buffer_append32(&load->states[state], 77 + state);
     }
-    printf("if i<4 then (j:=a0[i]; x:=a1[j]) else skip, i = 4, array 2 secret: 77 in state 1, 78 in state 2\n"
-           "script: force, load 2 0, step\n");
+    printf("if i<4 then (j:=a0[i]; x:=a1[j]) else skip, i = 4, array 2 secret: 77 in state 1, 78 in state 2\nscript: ");
+    print_directives(stdout, load->script.bytes, load->script.length);
+    printf("\n");
 }
 
 static bool read_load(int argc, char **argv, struct load *load)
@@ -252,6 +283,11 @@ static bool read_load(int argc, char **argv, struct load *load)
 int main(int argc, char **argv)
 {
     struct load load = {0};
+    if (argc >= 2 && strcmp(argv[1], "--rollback") == 0) {
+        load.rollback = true;
+        argv++;
+        argc--;
+    }
     if (argc == 1)
         built_in_load(&load);
     else if (!read_load(argc, argv, &load))

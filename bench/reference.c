@@ -723,6 +723,19 @@ static void set_variable(struct machine *m, unsigned variable, uint32_t value)
     put32(m->variables + 4 * variable, value);
 }
 
+/* Takes a branch off the list and puts back what goes on where its condition counts as `goes`. */
+static void go_on(struct machine *m, unsigned node, bool goes)
+{
+    const struct program *p = m->program;
+    m->waiting--;
+    if (kind_at(p, node) == FLOW_IF)
+        push(m, field_at(p, node, goes ? 1 : 2));
+    else if (goes) {
+        push(m, node);
+        push(m, field_at(p, node, 1));
+    }
+}
+
 /* A step's answer: 0 if it was taken, else the end that stands in its way, with nothing changed. */
 typedef unsigned end_or_none;
 
@@ -744,13 +757,7 @@ static end_or_none step_branch(struct machine *m, unsigned node)
         goes = !value;
         m->flag = true;
     }
-    m->waiting--;
-    if (kind_at(p, node) == FLOW_IF)
-        push(m, field_at(p, node, goes ? 1 : 2));
-    else if (goes) {
-        push(m, node);
-        push(m, field_at(p, node, 1));
-    }
+    go_on(m, node, goes);
     use_directive(m);
     return 0;
 }
@@ -866,6 +873,121 @@ static unsigned run_machine(struct machine *m, uint32_t budget)
     }
 }
 
+/* ---- The machine that rolls back ---------------------------------------------------------------------------------------- */
+
+/* A guessing machine and the saves that its forces opened. */
+struct rolling {
+    struct machine machine;
+    uint8_t *saves; /* FLOW_MAX_SAVES places of variables, cells and pending list, the oldest first */
+    uint32_t waiting[FLOW_MAX_SAVES]; /* entries of each save's list */
+    unsigned open;
+};
+
+static size_t place_length(const struct program *p)
+{
+    return 4 * ((size_t)p->variables + p->cells + p->nodes);
+}
+
+/* Any of the pointers may be NULL where there are no words. */
+static void copy_words(uint8_t *to, const uint8_t *from, size_t count)
+{
+    if (count > 0)
+        memcpy(to, from, 4 * count);
+}
+
+/* Variables, cells and the used part of the list go from one machine's memory to the other's. */
+static void copy_state(struct machine *to, const struct machine *from)
+{
+    const struct program *p = from->program;
+    copy_words(to->variables, from->variables, p->variables);
+    copy_words(to->cells, from->cells, p->cells);
+    copy_words(to->pending, from->pending, from->waiting);
+    to->waiting = from->waiting;
+}
+
+/* A place of the saves, seen as the memory of a machine. */
+static struct machine machine_at_place(const struct rolling *r, unsigned place)
+{
+    const struct program *p = r->machine.program;
+    struct machine saved = {.program = p, .waiting = r->waiting[place]};
+    saved.variables = r->saves + place * place_length(p);
+    saved.cells = saved.variables + 4 * p->variables;
+    saved.pending = saved.cells + 4 * p->cells;
+    return saved;
+}
+
+static void clear_list(struct machine *m)
+{
+    memset(m->pending + 4 * m->waiting, 0, 4 * (m->program->nodes - m->waiting));
+}
+
+/* Before a force at the branch: puts the state of the right side into the first place that is free. */
+static void save_right_side(struct rolling *r, unsigned branch)
+{
+    struct machine saved = machine_at_place(r, r->open);
+    copy_state(&saved, &r->machine);
+    go_on(&saved, branch, truth(&saved, field_at(saved.program, branch, 0)));
+    clear_list(&saved);
+    r->waiting[r->open] = saved.waiting;
+}
+
+static end_or_none step_back(struct rolling *r)
+{
+    struct machine *m = &r->machine;
+    if (r->open == 0)
+        return FLOW_STUCK;
+    if (m->observations_length - m->shown < 4)
+        return FLOW_FULL;
+    struct writer w = {m->observations + m->shown};
+    write_head(&w, 4, FLOW_SHOWN_ROLLBACK);
+    m->shown += 4;
+    r->open--;
+    struct machine saved = machine_at_place(r, r->open);
+    copy_state(m, &saved);
+    m->flag = r->open > 0;
+    use_directive(m);
+    m->steps++;
+    return 0;
+}
+
+static bool is_next(const struct machine *m, unsigned directive)
+{
+    return m->directives != m->directives_end && directive_kind(m) == directive;
+}
+
+/* A step of the guessing machine. */
+static end_or_none step_forward(struct rolling *r)
+{
+    struct machine *m = &r->machine;
+    unsigned node = next_node(m), kind = kind_at(m->program, node);
+    bool forced = (kind == FLOW_IF || kind == FLOW_WHILE) && is_next(m, FLOW_FORCE);
+    if (forced && r->open == FLOW_MAX_SAVES)
+        return FLOW_STUCK;
+    if (forced)
+        save_right_side(r, node);
+    uint32_t before = m->steps;
+    unsigned end = run_machine(m, before + 1);
+    if (m->steps == before)
+        return end; /* a place that was filled stays free, and is cleared after the run */
+    r->open += forced;
+    return 0;
+}
+
+static unsigned run_rolling(struct rolling *r, uint32_t budget)
+{
+    struct machine *m = &r->machine;
+    for (;;) {
+        bool back = is_next(m, FLOW_ROLLBACK);
+        if (!back && m->waiting == 0)
+            return FLOW_FINISHED;
+        if (m->steps == budget)
+            return FLOW_SPENT;
+        end_or_none end = back ? step_back(r) : step_forward(r);
+        if (end != 0)
+            return end;
+    }
+}
+
 /* ---- The entries -------------------------------------------------------------------------------------------------------- */
 
 static void write_answer(uint8_t *answer, size_t length, const uint64_t *numbers, size_t count)
@@ -970,14 +1092,15 @@ uint64_t reference_harden(const uint8_t *table, size_t table_len,
     return answer_length(length, answer, answer_len);
 }
 
-static bool is_directive_list(const uint8_t *directives, size_t length)
+/* `last` is the last kind of directive that the machine knows; the first is step. */
+static bool is_directive_list(const uint8_t *directives, size_t length, unsigned last)
 {
     size_t at = 0;
     while (at < length) {
         if (length - at < RECORD_HEAD)
             return false;
         unsigned kind = get16(directives + at + 2);
-        if (kind < FLOW_STEP || kind > FLOW_STORE)
+        if (kind < FLOW_STEP || kind > last)
             return false;
         size_t wanted = kind == FLOW_LOAD || kind == FLOW_STORE ? 10 : 4;
         if (get16(directives + at) != wanted || length - at < wanted)
@@ -987,23 +1110,35 @@ static bool is_directive_list(const uint8_t *directives, size_t length)
     return true;
 }
 
-/* What both machines' entries do once the table and the directive list are accepted. */
-static uint64_t run_from_root(struct machine *m, size_t variables_len, size_t cells_len, size_t pending_len, uint32_t budget,
-                              uint8_t *answer, size_t answer_len)
+/* The refusal of what is lent to a machine, or 0. */
+static unsigned refuse_state(const struct program *p, size_t variables_len, size_t cells_len, size_t pending_len)
 {
-    const struct program *p = m->program;
     if (variables_len != 4 * (size_t)p->variables)
-        return answer_number(FLOW_VARIABLES_LENGTH, answer, answer_len);
+        return FLOW_VARIABLES_LENGTH;
     if (cells_len != 4 * (size_t)p->cells)
-        return answer_number(FLOW_CELLS_LENGTH, answer, answer_len);
+        return FLOW_CELLS_LENGTH;
     if (pending_len < 4 * (size_t)p->nodes)
-        return answer_number(FLOW_PENDING_SHORT, answer, answer_len);
-    push(m, p->nodes - 1);
-    unsigned end = run_machine(m, budget);
-    memset(m->pending + 4 * m->waiting, 0, 4 * (p->nodes - m->waiting));
+        return FLOW_PENDING_SHORT;
+    return FLOW_ACCEPTED;
+}
+
+static uint64_t answer_run(struct machine *m, unsigned end, uint8_t *answer, size_t answer_len)
+{
+    clear_list(m);
     uint64_t numbers[] = {FLOW_ACCEPTED, end, m->steps, m->used, m->shown, m->flag, next_node(m)};
     write_answer(answer, answer_len, numbers, 7);
     return FLOW_ACCEPTED;
+}
+
+/* What the entries of the plain and the guessing machine do once the table and the directive list are accepted. */
+static uint64_t run_from_root(struct machine *m, size_t variables_len, size_t cells_len, size_t pending_len, uint32_t budget,
+                              uint8_t *answer, size_t answer_len)
+{
+    unsigned refusal = refuse_state(m->program, variables_len, cells_len, pending_len);
+    if (refusal != FLOW_ACCEPTED)
+        return answer_number(refusal, answer, answer_len);
+    push(m, m->program->nodes - 1);
+    return answer_run(m, run_machine(m, budget), answer, answer_len);
 }
 
 uint64_t reference_run(const uint8_t *table, size_t table_len,
@@ -1023,6 +1158,8 @@ uint64_t reference_run(const uint8_t *table, size_t table_len,
     return run_from_root(&m, variables_len, cells_len, pending_len, budget, answer, answer_len);
 }
 
+static const uint8_t no_directives[1]; /* an empty list may be NULL, which means no guessing to the machine */
+
 uint64_t reference_guess(const uint8_t *table, size_t table_len,
                          const uint8_t *directives, size_t directives_len,
                          uint8_t *variables, size_t variables_len,
@@ -1032,12 +1169,11 @@ uint64_t reference_guess(const uint8_t *table, size_t table_len,
                          uint32_t budget,
                          uint8_t *answer, size_t answer_len)
 {
-    static const uint8_t no_directives[1]; /* an empty list may be NULL, which means no guessing to the machine */
     struct program p;
     struct refusal refusal = read_program(table, table_len, &p);
     if (refusal.number != FLOW_ACCEPTED)
         return answer_refusal(refusal, answer, answer_len);
-    if (!is_directive_list(directives, directives_len))
+    if (!is_directive_list(directives, directives_len, FLOW_STORE))
         return answer_number(FLOW_BAD_DIRECTIVES, answer, answer_len);
     if (directives_len == 0)
         directives = no_directives;
@@ -1045,4 +1181,37 @@ uint64_t reference_guess(const uint8_t *table, size_t table_len,
                         .observations = observations, .observations_length = observations_len,
                         .directives = directives, .directives_end = directives + directives_len};
     return run_from_root(&m, variables_len, cells_len, pending_len, budget, answer, answer_len);
+}
+
+uint64_t reference_rollback(const uint8_t *table, size_t table_len,
+                            const uint8_t *directives, size_t directives_len,
+                            uint8_t *variables, size_t variables_len,
+                            uint8_t *cells, size_t cells_len,
+                            uint8_t *pending, size_t pending_len,
+                            uint8_t *saves, size_t saves_len,
+                            uint8_t *observations, size_t observations_len,
+                            uint32_t budget,
+                            uint8_t *answer, size_t answer_len)
+{
+    struct program p;
+    struct refusal refusal = read_program(table, table_len, &p);
+    if (refusal.number != FLOW_ACCEPTED)
+        return answer_refusal(refusal, answer, answer_len);
+    if (!is_directive_list(directives, directives_len, FLOW_ROLLBACK))
+        return answer_number(FLOW_BAD_DIRECTIVES, answer, answer_len);
+    unsigned refused = refuse_state(&p, variables_len, cells_len, pending_len);
+    if (refused == FLOW_ACCEPTED && saves_len < FLOW_MAX_SAVES * place_length(&p))
+        refused = FLOW_SAVES_SHORT;
+    if (refused != FLOW_ACCEPTED)
+        return answer_number(refused, answer, answer_len);
+    if (directives_len == 0)
+        directives = no_directives;
+    struct rolling r = {.machine = {.program = &p, .variables = variables, .cells = cells, .pending = pending,
+                                    .observations = observations, .observations_length = observations_len,
+                                    .directives = directives, .directives_end = directives + directives_len},
+                        .saves = saves};
+    push(&r.machine, p.nodes - 1);
+    unsigned end = run_rolling(&r, budget);
+    memset(saves + r.open * place_length(&p), 0, (FLOW_MAX_SAVES - r.open) * place_length(&p));
+    return answer_run(&r.machine, end, answer, answer_len);
 }

@@ -38,4 +38,14 @@ uint64_t reference_guess(const uint8_t *table, size_t table_len,
                          uint32_t budget,
                          uint8_t *answer, size_t answer_len);
 
+uint64_t reference_rollback(const uint8_t *table, size_t table_len,
+                            const uint8_t *directives, size_t directives_len,
+                            uint8_t *variables, size_t variables_len,
+                            uint8_t *cells, size_t cells_len,
+                            uint8_t *pending, size_t pending_len,
+                            uint8_t *saves, size_t saves_len,
+                            uint8_t *observations, size_t observations_len,
+                            uint32_t budget,
+                            uint8_t *answer, size_t answer_len);
+
 #endif

@@ -14,6 +14,7 @@ const unsigned sample_sizes[] = {8, 64, 128, 256, 512, 1024, 2048, 4096, 0};
 const unsigned asked_sizes[] = {64, 512, 4096, 0};
 const unsigned copied_sizes[] = {8, 64, 512, 0};
 const unsigned nested_depths[] = {1, 2, 5, 10, 20, 30, 40, 50, 60, 0};
+const unsigned saved_cells[] = {1, 256, FLOW_MAX_CELLS, 0};
 
 const char *const accesses_names[ACCESSES] = {
     "plain machine, reads and writes", "guessing machine, reads and writes under steps",
@@ -92,6 +93,15 @@ static void access_table(struct buffer *t, unsigned constant)
     unsigned write = assemble_node3(t, FLOW_WRITE, 1, index, assemble_node1(t, FLOW_VARIABLE, 1));
     unsigned loop = assemble_node2(t, FLOW_WHILE, endless, assemble_node2(t, FLOW_SEQUENCE, read, write));
     assemble_node3(t, FLOW_IF, condition, skip, loop);
+}
+
+/* while true do skip, with an array of so many cells */
+static void endless_table(struct buffer *t, unsigned cells)
+{
+    const uint16_t count = (uint16_t)cells;
+    assemble_table(t, 1, 1, &count, 0, 0);
+    unsigned condition = assemble_node1(t, FLOW_CONSTANT, 1);
+    assemble_node2(t, FLOW_WHILE, condition, assemble_node0(t, FLOW_SKIP));
 }
 
 /* ---- Calls -------------------------------------------------------------------------------------------------------------- */
@@ -200,6 +210,29 @@ struct call access_call(enum accesses accesses)
         put32(call.slices[SLICE_VARIABLES].bytes, ACCESS_CELLS);
     if (entry == ENTRY_GUESS)
         slice_from(&call.slices[SLICE_DIRECTIVES], list.bytes, list.length);
+    buffer_free(&table);
+    buffer_free(&list);
+    return call;
+}
+
+struct call rolling_call(struct call guess)
+{
+    const uint8_t *table = guess.slices[SLICE_TABLE].bytes;
+    guess.entry = ENTRY_ROLLBACK;
+    zero_slice(&guess.slices[SLICE_SAVES], flow_saves_bytes(table[6], guess.slices[SLICE_CELLS].length / 4, get16(table + 8)));
+    return guess;
+}
+
+struct call undoing_call(unsigned cells)
+{
+    struct buffer table = {0}, list = {0};
+    endless_table(&table, cells);
+    for (unsigned i = 0; i < UNDONE_GUESSES; i++) {
+        assemble_directive(&list, FLOW_FORCE);
+        assemble_directive(&list, FLOW_ROLLBACK);
+    }
+    struct call call = rolling_call(zeros_call(ENTRY_GUESS, &table, 3 * UNDONE_GUESSES, 10 * UNDONE_GUESSES));
+    slice_from(&call.slices[SLICE_DIRECTIVES], list.bytes, list.length);
     buffer_free(&table);
     buffer_free(&list);
     return call;

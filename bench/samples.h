@@ -7,8 +7,8 @@
 
 enum { SAMPLES = 8 }; /* tables of each size */
 
-/* What is timed: node counts (for all entries, for questions, for sizing) and depths of nested loops.  Each list ends with 0. */
-extern const unsigned sample_sizes[], asked_sizes[], copied_sizes[], nested_depths[];
+/* What is timed: node counts (for all entries, for questions, for sizing), depths of nested loops, cells saved.  Each ends with 0. */
+extern const unsigned sample_sizes[], asked_sizes[], copied_sizes[], nested_depths[], saved_cells[];
 
 /* Puts one of the tables of a size. */
 typedef void sample_table(unsigned nodes, unsigned sample, struct buffer *table);
@@ -36,6 +36,13 @@ enum accesses { ACCESSES_PLAIN, ACCESSES_STEPS, ACCESSES_OUT_OF_BOUNDS, ACCESSES
 enum { ACCESS_CELLS = 16 };
 extern const char *const accesses_names[ACCESSES];
 struct call access_call(enum accesses accesses);
+
+/* The guessing call, which is taken over, on the machine that rolls back. */
+struct call rolling_call(struct call guess);
+
+/* So many guesses in while true do skip, each undone at once, with so many cells to save: 3 steps a turn, two of them shown. */
+enum { UNDONE_GUESSES = 500 };
+struct call undoing_call(unsigned cells);
 
 /* Hardens loops nested this deep. */
 struct call nested_call(unsigned depth);

@@ -34,3 +34,12 @@ uint64_t flow_guess(const uint8_t *table, size_t table_len, const uint8_t *direc
     return reference_guess(table, table_len, directives, directives_len, variables, variables_len, cells, cells_len, pending,
                            pending_len, observations, observations_len, budget, answer, answer_len);
 }
+
+uint64_t flow_rollback(const uint8_t *table, size_t table_len, const uint8_t *directives, size_t directives_len,
+                       uint8_t *variables, size_t variables_len, uint8_t *cells, size_t cells_len, uint8_t *pending,
+                       size_t pending_len, uint8_t *saves, size_t saves_len, uint8_t *observations, size_t observations_len,
+                       uint32_t budget, uint8_t *answer, size_t answer_len)
+{
+    return reference_rollback(table, table_len, directives, directives_len, variables, variables_len, cells, cells_len, pending,
+                              pending_len, saves, saves_len, observations, observations_len, budget, answer, answer_len);
+}

@@ -28,7 +28,8 @@ const char *refusal_in_words(uint64_t refusal)
     case FLOW_CELLS_LENGTH: return "the cells lent are not 4 bytes for each cell";
     case FLOW_PENDING_SHORT: return "the pending list lent has fewer than 4 bytes for each node";
     case FLOW_OUTPUT_SHORT: return "the sheet, list of labels or hardened table is longer than its buffer";
-    default: return "no refusal that document 01 knows";
+    case FLOW_SAVES_SHORT: return "the save words lent have fewer than 32 bytes for each variable, cell and node";
+    default: return "no refusal that the documents know";
     }
 }
 
@@ -197,10 +198,21 @@ static void print_sheet_record(FILE *to, const uint8_t *record)
 static void print_observation(FILE *to, const uint8_t *record)
 {
     unsigned kind = get16(record + 2);
-    if (kind == FLOW_SHOWN_BRANCH)
+    if (kind == FLOW_SHOWN_ROLLBACK)
+        fprintf(to, "rollback");
+    else if (kind == FLOW_SHOWN_BRANCH)
         fprintf(to, "branch %" PRIu32, get16(record + 4));
     else
         fprintf(to, "%s %" PRIu32 " %" PRIu32, kind == FLOW_SHOWN_READ ? "read" : "write", get16(record + 4), get32(record + 6));
+}
+
+static void print_directive(FILE *to, const uint8_t *record)
+{
+    unsigned kind = get16(record + 2);
+    if (kind == FLOW_LOAD || kind == FLOW_STORE)
+        fprintf(to, "%s %" PRIu32 " %" PRIu32, kind == FLOW_LOAD ? "load" : "store", get16(record + 4), get32(record + 6));
+    else
+        fprintf(to, "%s", kind == FLOW_STEP ? "step" : kind == FLOW_FORCE ? "force" : "rollback");
 }
 
 static void print_list(FILE *to, const char *indent, const uint8_t *list, size_t length,
@@ -235,4 +247,41 @@ void print_observations(FILE *to, const char *indent, const uint8_t *observation
     print_list(to, indent, observations, printed, print_observation);
     if (printed < length)
         fprintf(to, "%s(and %zu bytes more)\n", indent, length - printed);
+}
+
+void print_directives(FILE *to, const uint8_t *directives, size_t length)
+{
+    size_t printed = length_of_first(directives, length, MOST_PRINTED);
+    if (length == 0)
+        fprintf(to, "(nothing)");
+    for (size_t at = 0; at < printed; at += get16(directives + at)) {
+        fprintf(to, at == 0 ? "" : ", ");
+        print_directive(to, directives + at);
+    }
+    if (printed < length)
+        fprintf(to, " (and %zu bytes more)", length - printed);
+}
+
+/* A pending list, up to its last entry that is not node 0: the zeros behind it are most often no entries. */
+static void print_entries(FILE *to, const uint8_t *words, size_t count)
+{
+    while (count > 0 && get32(words + 4 * (count - 1)) == 0)
+        count--;
+    for (size_t i = 0; i < count; i++)
+        fprintf(to, " %" PRIu32, get32(words + 4 * i));
+    if (count == 0)
+        fprintf(to, " (zeros)");
+}
+
+void print_saves(FILE *to, const char *indent, const uint8_t *saves, unsigned open, size_t variables, size_t cells, size_t nodes)
+{
+    for (unsigned place = 0; place < open; place++) {
+        const uint8_t *save = saves + 4 * place * (variables + cells + nodes);
+        fprintf(to, "%ssave %u: variables", indent, place);
+        for (size_t x = 0; x < variables; x++)
+            fprintf(to, " %" PRIu32, get32(save + 4 * x));
+        fprintf(to, "; pending");
+        print_entries(to, save + 4 * (variables + cells), nodes);
+        fprintf(to, "\n");
+    }
 }

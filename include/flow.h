@@ -10,7 +10,8 @@
  *
  *     accepted, flow_sheet, flow_questions
  *     and flow_harden:                       0, bytes written                                                        (2 numbers)
- *     accepted, flow_run and flow_guess:     0, end, steps, directives used, observation bytes, flag, next node      (7 numbers)
+ *     accepted, flow_run, flow_guess
+ *     and flow_rollback:                     0, end, steps, directives used, observation bytes, flag, next node      (7 numbers)
  *     refused, every entry:                  refusal, place                                                          (2 numbers)
  *
  * Numbers that do not fit whole into the answer slice are dropped, and its other bytes stay as they were: an answer slice of
@@ -32,7 +33,7 @@
 extern "C" {
 #endif
 
-/* The limits of a table, and of a list of questions. */
+/* The limits of a table, of a list of questions and of a run. */
 enum {
     FLOW_VERSION = 1,
     FLOW_MAX_VARIABLES = 32,
@@ -42,20 +43,22 @@ enum {
     FLOW_MAX_HARDENED_NODES = 512,   /* the most nodes of a table that flow_harden takes */
     FLOW_GROWTH = 8,                 /* at most this many nodes come out of flow_harden per node put in */
     FLOW_MAX_QUESTIONS = 256,        /* pairs in a list that flow_questions takes; as many bytes hold all their labels */
-    FLOW_QUESTION_BYTES = 4          /* of a pair: node, then variable, 2 bytes each */
+    FLOW_QUESTION_BYTES = 4,         /* of a pair: node, then variable, 2 bytes each */
+    FLOW_MAX_SAVES = 8               /* the most saves that are open at once in a run of flow_rollback */
 };
 
 /* Buffers of these lengths always suffice. */
 enum {
     FLOW_TABLE_BYTES = 10 + 10 + 6 * FLOW_MAX_ARRAYS + 10 * FLOW_MAX_NODES,
     FLOW_SHEET_BYTES = 14 + 14 * FLOW_MAX_NODES,
+    FLOW_SAVES_BYTES = 4 * FLOW_MAX_SAVES * (FLOW_MAX_VARIABLES + FLOW_MAX_CELLS + FLOW_MAX_NODES),
     FLOW_ANSWER_BYTES = 56
 };
 
 /*
  * Refusals.  The place is the byte offset, in the table, of the record concerned; for 7 it is the offset of the first extra byte,
  * and from 8 up it is 0.  The first failing record decides; within a record the order is 1 (head), 2, 1 (body), 3, 4, 5.
- * Then come 6, 7, 8, 9, 10, 11 and then 20 to 23.
+ * Then come 6, 7, 8, 9, 10, 11 and then 20 to 24.
  */
 enum flow_refusal {
     FLOW_ACCEPTED = 0,
@@ -75,14 +78,15 @@ enum flow_refusal {
     FLOW_VARIABLES_LENGTH = 20, /* the variables slice is not exactly 4 V bytes */
     FLOW_CELLS_LENGTH = 21,    /* the cells slice is not exactly 4 bytes for each cell of all arrays */
     FLOW_PENDING_SHORT = 22,   /* the pending slice is shorter than 4 N bytes */
-    FLOW_OUTPUT_SHORT = 23     /* the sheet, the list of labels or the hardened table is longer than its buffer */
+    FLOW_OUTPUT_SHORT = 23,    /* the sheet, the list of labels or the hardened table is longer than its buffer */
+    FLOW_SAVES_SHORT = 24      /* the saves slice is shorter than flow_saves_bytes gives */
 };
 
-/* How a run ended.  Before each step these are tested in this order. */
+/* How a run ended.  Before each step these are tested in this order (flow_rollback: with a rollback next, see there). */
 enum flow_end {
     FLOW_FINISHED = 1,         /* nothing is pending */
     FLOW_SPENT = 2,            /* the budget is used */
-    FLOW_OUT_OF_DIRECTIVES = 3, /* the next step is shown and no directive is left (flow_guess only) */
+    FLOW_OUT_OF_DIRECTIVES = 3, /* the next step is shown and no directive is left (flow_guess, flow_rollback) */
     FLOW_STUCK = 4,            /* an index or a directive does not fit the next step */
     FLOW_FULL = 5              /* the next observation is longer than what is left of the observation buffer */
 };
@@ -115,7 +119,8 @@ enum flow_kind {
     FLOW_SHOWN_BRANCH = 64,    /* value of the condition; length 6 */
     FLOW_SHOWN_READ = 65,      /* array, index (4 bytes); length 10 */
     FLOW_SHOWN_WRITE = 66,     /* array, index (4 bytes); length 10 */
-    /* directives, read by the guessing machine: one for each shown step */
+    FLOW_SHOWN_ROLLBACK = 67,  /* no fields; length 4 (flow_rollback only) */
+    /* directives, read by the guessing machines: one for each shown step */
     FLOW_STEP = 72,            /* go on as the program says; length 4 */
     FLOW_FORCE = 73,           /* at a branch: go the other way and set the flag; length 4 */
     FLOW_LOAD = 74,            /* at a read: array, index (4 bytes) of a cell; length 10 */
@@ -123,6 +128,7 @@ enum flow_kind {
                                   index is in bounds, load and store are a step: its own cell is used, with the flag set or
                                   clear, and the named one need not exist.  Out of bounds the named cell is used, which must
                                   exist, and only with the flag set; else the run is stuck */
+    FLOW_ROLLBACK = 76,        /* a step of its own: undo the newest wrong guess; length 4 (flow_rollback only) */
     /* label sheets: the header, then by node number; label 1 is secret */
     FLOW_SHEET = 128,          /* version, N, final variable mask (4 bytes), final array mask */
     FLOW_SHEET_SEQUENCE = 129, /* node, variable mask (4 bytes) and array mask after its first part */
@@ -189,7 +195,7 @@ uint64_t flow_run(const uint8_t *table, size_t table_len,
  * and the machine's flag (0 at the start) is set by the first force.  A list may be written once and played to several states: a
  * load at a read and a store at a write fit wherever the program's own index is in bounds.  The whole list is checked before the
  * first step.  A cell or array that does not exist is no cause of refusal: where it would be used the run ends FLOW_STUCK.
- * Refusals: 1 to 7, 10, 20, 21, 22.
+ * A rollback in the list is a wrong kind here and refused by 10.  Refusals: 1 to 7, 10, 20, 21, 22.
  */
 uint64_t flow_guess(const uint8_t *table, size_t table_len,
                     const uint8_t *directives, size_t directives_len,
@@ -199,6 +205,40 @@ uint64_t flow_guess(const uint8_t *table, size_t table_len,
                     uint8_t *observations, size_t observations_len,
                     uint32_t budget,
                     uint8_t *answer, size_t answer_len);
+
+/* The bytes of the save words that flow_rollback needs for a table of so many variables, cells (of all arrays) and nodes. */
+static inline size_t flow_saves_bytes(size_t variables, size_t cells, size_t nodes)
+{
+    return 4 * (size_t)FLOW_MAX_SAVES * (variables + cells + nodes);
+}
+
+/*
+ * Runs a table on the machine that undoes wrong guesses: as flow_guess, but a force also opens a save, and the list may hold
+ * rollbacks.  A save is the state of the right side: variables and cells as they are at the branch, and the pending list with which
+ * the branch's own way goes on.
+ *   rollback  A step that takes one directive, shows FLOW_SHOWN_ROLLBACK, makes variables, cells and pending list those of the
+ *             newest save, and drops that save.
+ *   order     A rollback is taken as soon as it is the next directive, before a silent step and also where nothing is pending.
+ *             There the tests are: budget used, FLOW_SPENT; no save open, FLOW_STUCK; no room for the observation, FLOW_FULL.
+ *             Otherwise a run with nothing pending has finished, whether a save is open or not.
+ *   flag      1 exactly while a save is open: after the last of them is rolled back a load or store fits only in bounds again.
+ *   saves     at most FLOW_MAX_SAVES are open; a force beyond them does not fit, FLOW_STUCK.
+ * The slice `saves` holds at least flow_saves_bytes(V, cells, N) bytes; what they hold at the start is ignored.  They are
+ * FLOW_MAX_SAVES places of V + cells + N words each, and at the end place 0 holds the oldest save that is still open, place 1 the
+ * next, and so on: its variables, its cells, and its pending list (the last entry is next) padded with zeros to N words.  Places
+ * without a save are zeros, and bytes beyond the places are unchanged.  How many are open is not stored.  Like every slice `saves`
+ * must not overlap another.  What hardening promises of runs on flow_guess it promises of runs on this machine.
+ * Refusals: 1 to 7, 10, 20, 21, 22, 24.
+ */
+uint64_t flow_rollback(const uint8_t *table, size_t table_len,
+                       const uint8_t *directives, size_t directives_len,
+                       uint8_t *variables, size_t variables_len,
+                       uint8_t *cells, size_t cells_len,
+                       uint8_t *pending, size_t pending_len,
+                       uint8_t *saves, size_t saves_len,
+                       uint8_t *observations, size_t observations_len,
+                       uint32_t budget,
+                       uint8_t *answer, size_t answer_len);
 
 #ifdef __cplusplus
 }

@@ -1,11 +1,11 @@
 # The calls that crates/cases plays, and what document 01 says that each leaves, by model.py.
-# `sheet`, `harden`, `run`, `guess` and `questions` add a call and answer what the model gave. Worked out by hand, where given: `want`, the
-# answer's numbers, `secret`, the bytes written for a list of questions, and `variables_left`, `cells_left`, `pending_left` and `shown`, with
-# which those slices begin at exit.
+# `sheet`, `harden`, `run`, `guess`, `questions` and `rollback` add a call and answer what the model gave. Worked out by hand, where given:
+# `want`, the answer's numbers, `secret`, the bytes written for a list of questions, and `variables_left`, `cells_left`, `pending_left`,
+# `saves_left` and `shown`, with which those slices begin at exit.
 import model
 from model import le, over, words
-SHEET, HARDEN, RUN, GUESS, QUESTIONS = 1, 2, 3, 4, 5
-NAMES = {SHEET: 'sheet', HARDEN: 'harden', RUN: 'run', GUESS: 'guess', QUESTIONS: 'questions'}
+SHEET, HARDEN, RUN, GUESS, QUESTIONS, ROLLBACK = 1, 2, 3, 4, 5, 6
+NAMES = {SHEET: 'sheet', HARDEN: 'harden', RUN: 'run', GUESS: 'guess', QUESTIONS: 'questions', ROLLBACK: 'rollback'}
 calls = []
 # what a slice holds at entry that an entry only writes
 FILL = 170
@@ -17,10 +17,13 @@ def answered(numbers, lent):
         if len(lent) < len(out) + 8: break
         out += le(8, number)
     return over(lent, out)
-def add(entry, budget, taken, lent, numbers, left, answer, want):
-    """taken: table, directives or questions; lent and left: variables, cells, pending, output, before and after"""
+def add(entry, budget, taken, lent, numbers, left, answer, want, saves=([], [])):
+    """taken: table, directives or questions; lent and left: variables, cells, pending, output, before and after; saves: these before and after"""
     if want is not None: assert numbers == list(want), ('call', len(calls), 'gives', numbers, 'wanted', want)
-    calls.append((entry, budget, taken + lent + [filled(answer)], numbers[0], [answered(numbers, filled(answer))] + left))
+    *before, output = lent; *after, written = left
+    printed = [saves[1]] if entry == ROLLBACK else []    # the other entries have none
+    calls.append((entry, budget, taken + before + [saves[0], output, filled(answer)], numbers[0],
+                  [answered(numbers, filled(answer))] + after + printed + [written]))
 def writes(entry, make, table, room, answer, want):
     numbers, out = model.writeEntry(make, list(table), filled(room), entry == HARDEN)
     add(entry, 0, [list(table), []], [[], [], [], filled(room)], numbers, [[], [], [], out], answer, want)
@@ -43,28 +46,44 @@ def slot(given, size):
     if isinstance(given, bytes): return list(given)
     if isinstance(given, list): return words(given)
     return filled(size if given is None else given)
+def leaves_hold(left, leaves):
+    for name, hand in leaves.items():
+        at = ('variables_left', 'cells_left', 'pending_left', 'shown', 'saves_left').index(name)
+        assert left[at][:len(hand)] == hand, ('call', len(calls) - 1, name, left[at], hand)
 def runs(entry, table, directives, variables, cells, budget, room, pending, answer, want, leaves):
     nodes = model.un(table[8:10])
     lent = [slot(variables, 0), slot(cells, 0), slot(pending, 4 * nodes + 5), filled(room)]
     numbers, *left = model.runEntry(list(table), *lent, budget, None if entry == RUN else list(directives))
     add(entry, budget, [list(table), list(directives)], lent, numbers, left, answer, want)
-    for name, hand in leaves.items():
-        at = ('variables_left', 'cells_left', 'pending_left', 'shown').index(name)
-        assert left[at][:len(hand)] == hand, ('call', len(calls) - 1, name, left[at], hand)
+    leaves_hold(left, leaves)
     return numbers, left
 def run(table, variables, cells, budget=100, room=40, pending=None, answer=56, want=None, **leaves):
     return runs(RUN, table, [], variables, cells, budget, room, pending, answer, want, leaves)
 def guess(table, directives, variables, cells, budget=100, room=40, pending=None, answer=56, want=None, **leaves):
     return runs(GUESS, table, directives, variables, cells, budget, room, pending, answer, want, leaves)
+def saves_bytes(table):
+    """of a table that is accepted: eight places, a word for each variable, cell and node"""
+    V, A, N = table[6], table[7], model.un(table[8:10])
+    return 8 * 4 * (V + sum(model.un(table[24 + 6 * a:26 + 6 * a]) for a in range(A)) + N)
+def rollback(table, directives, variables, cells, budget=100, room=40, pending=None, saves=None, answer=56, want=None, **leaves):
+    """saves: as slot has it; if none are given, exactly as many bytes as the table needs"""
+    nodes = model.un(table[8:10])
+    lent = [slot(variables, 0), slot(cells, 0), slot(pending, 4 * nodes + 5), filled(room)]
+    places = slot(saves, 0 if saves is not None else saves_bytes(table))
+    numbers, *left = model.runEntry(list(table), *lent, budget, list(directives), places)
+    add(ROLLBACK, budget, [list(table), list(directives)], lent, numbers, left[:4], answer, want, (places, left[4]))
+    leaves_hold(left, leaves)
+    return numbers, left
 # pairs of a list of questions: node and variable
 def asks(pairs): return [b for node, variable in pairs for b in le(2, node) + le(2, variable)]
 # records: directives, and observations as they are expected
-STEP, FORCE = le(2, 4) + le(2, 72), le(2, 4) + le(2, 73)
+STEP, FORCE, BACK = le(2, 4) + le(2, 72), le(2, 4) + le(2, 73), le(2, 4) + le(2, 76)
 def load(array, index): return le(2, 10) + le(2, 74) + le(2, array) + le(4, index)
 def store(array, index): return le(2, 10) + le(2, 75) + le(2, array) + le(4, index)
 def branch(value): return le(2, 6) + le(2, 64) + le(2, value)
 def shown_read(array, index): return le(2, 10) + le(2, 65) + le(2, array) + le(4, index)
 def shown_write(array, index): return le(2, 10) + le(2, 66) + le(2, array) + le(4, index)
+SHOWN_BACK = le(2, 4) + le(2, 67)
 # records of a table put together by hand
 def head(V=0, A=0, N=1, version=1): return le(2, 10) + le(2, 1) + le(2, version) + [V, A] + le(2, N)
 def labels(variables=0, arrays=0): return le(2, 10) + le(2, 3) + le(4, variables) + le(2, arrays)

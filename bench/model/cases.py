@@ -1,4 +1,4 @@
-# Writes crates/cases/stdin and stdout: calls of the five entries, and what the documents say that they leave, by model.py.
+# Writes crates/cases/stdin and stdout: calls of the six entries, and what the documents say that they leave, by model.py.
 import os, sys, threading
 sys.dont_write_bytecode = True
 sys.setrecursionlimit(100000); threading.stack_size(512 * 1024 * 1024)   # tables nest 4,096 deep
@@ -8,10 +8,11 @@ from machine_cases import add_machine_cases
 from harden_cases import add_harden_cases, add_hardened_runs
 from tree_cases import add_tree_cases
 from questions_cases import add_questions_cases
+from rollback_cases import add_rollback_cases
 FOLDER = os.path.dirname(os.path.abspath(__file__)) + '/../../crates/cases/'
 written = []
 def main():
-    for add in (add_sheet_cases, add_machine_cases, add_harden_cases, add_hardened_runs, add_tree_cases, add_questions_cases): add()
+    for add in (add_sheet_cases, add_machine_cases, add_harden_cases, add_hardened_runs, add_tree_cases, add_questions_cases, add_rollback_cases): add()
     write_files(FOLDER)
     written.append({name: sum(call[0] == entry for call in calls) for entry, name in NAMES.items()})
 thread = threading.Thread(target=main); thread.start(); thread.join()

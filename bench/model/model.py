@@ -1,4 +1,4 @@
-# Independent model of documents 01 and 02, as far as 02 has landed (tables, labels, sheet, hardener, both machines, label questions, five entries).
+# Independent model of documents 01 and 02, as far as 02 has landed (tables, labels, sheet, hardener, the three machines, label questions, six entries).
 M32 = 1 << 32
 def le(w, n): return list(int(n).to_bytes(w, 'little'))
 def un(bs): return int.from_bytes(bytes(bs), 'little')
@@ -163,22 +163,32 @@ def ev(e, vs):
     if k == 'not': return 1 - a
     b = ev(e[3], vs)
     return {'add':(a+b)%M32, 'sub':(a-b)%M32, 'mul':(a*b)%M32, 'eq':int(a==b), 'lt':int(a<b), 'and':a&b}[k]
-def directives(bs):
+def directives(bs, kinds=(72,73,74,75)):
     ds, at = [], 0
     while at < len(bs):
         if len(bs) - at < 4: refuse(10, 0)
         ln, kd = un(bs[at:at+2]), un(bs[at+2:at+4])
-        if kd not in (72,73,74,75) or ln != (4 if kd < 74 else 10) or len(bs) - at < ln: refuse(10, 0)
-        ds.append((kd,) + ((un(bs[at+4:at+6]), un(bs[at+6:at+10])) if kd > 73 else ())); at += ln
+        named = kd in (74,75)
+        if kd not in kinds or ln != (10 if named else 4) or len(bs) - at < ln: refuse(10, 0)
+        ds.append((kd,) + ((un(bs[at+4:at+6]), un(bs[at+6:at+10])) if named else ())); at += ln
     return ds
-def run(p, vs, cells, room, budget, ds=None):
+def goes_on(t, value): return [t[3] if value else t[4]] if t[1] == 'if' else [t, t[3]] if value else []
+def run(p, vs, cells, room, budget, ds=None, saves=None):
+    """ds: None without guessing; saves: on P5's machine the open saves, oldest first, each (variables, cells, pending), none at the start"""
     vs, cells = list(vs), list(cells)
     counts = p['counts']; start = [sum(counts[:i]) for i in range(len(counts))]
     pend, obs, steps, used, flag = [p['root']], [], 0, 0, 0
     def res(end): return dict(end=end, steps=steps, used=used, obs=obs, flag=flag, nxt=pend[-1][0] if pend else 0, pend=[t[0] for t in pend], vs=vs, cells=cells)
     while True:
-        if not pend: return res(1)
+        back = saves is not None and ds[used:used+1] == [(76,)]
+        if not pend and not back: return res(1)
         if steps == budget: return res(2)
+        if back:            # P5: "the budget is checked first, then 76, even when nothing is pending; with no save open it is stuck"
+            if not saves: return res(4)
+            if len(obs) + 4 > room: return res(5)
+            vs, cells, pend = saves.pop()
+            obs = obs + le(2,4)+le(2,67); steps += 1; used += 1; flag = int(len(saves) > 0)
+            continue
         t = pend[-1]; n, k = t[0], t[1]
         shown = k in ('if','while','read','write')
         d = (72,)
@@ -188,6 +198,7 @@ def run(p, vs, cells, room, budget, ds=None):
         o = []
         if k in ('if','while'):
             if d[0] not in (72,73): return res(4)
+            if d[0] == 73 and saves is not None and len(saves) == 8: return res(4)   # P5: "a force beyond them is stuck"
             v = ev(t[2], vs); o = le(2,6)+le(2,64)+le(2,v)
         if k in ('read','write'):
             a = t[3] if k == 'read' else t[2]
@@ -206,10 +217,9 @@ def run(p, vs, cells, room, budget, ds=None):
         if k == 'assign': vs[t[2]] = ev(t[3], vs)
         if k == 'seq': pend += [t[3], t[2]]
         if k in ('if','while'):
-            w = v
-            if d[0] == 73: w = 1 - v; flag = 1
-            if k == 'if': pend.append(t[3] if w else t[4])
-            elif w: pend += [t, t[3]]
+            if d[0] == 73 and saves is not None: saves.append((list(vs), list(cells), pend + goes_on(t, v)))   # "the state of the right side"
+            if d[0] == 73: flag = 1
+            pend = pend + goes_on(t, 1 - v if d[0] == 73 else v)
         if k == 'read': vs[t[2]] = cells[at]
         if k == 'write': cells[at] = ev(t[4], vs)
         obs = obs + o; steps += 1
@@ -236,14 +246,22 @@ def questionsEntry(tab, asked, buf, make=replies):
         if len(pairs) > len(buf): refuse(23, 0)
         return [0, len(pairs)], over(buf, make(p, pairs))
     except Refused as r: return list(r.args), list(buf)
-def runEntry(tab, vs, cells, pend, obs, budget, dirs=None):
+def padded(pend, N): return pend + [0] * (N - len(pend))
+def runEntry(tab, vs, cells, pend, obs, budget, dirs=None, saves=None):
+    """saves: the slice of P5's machine, and left with the others by it; None on the other two"""
     try:
-        p = readTable(tab)
-        ds = None if dirs is None else directives(dirs)
+        p = readTable(tab); N = p['N']
+        ds = None if dirs is None else directives(dirs) if saves is None else directives(dirs, (72,73,74,75,76))
         if len(vs) != 4 * p['V']: refuse(20, 0)
         if len(cells) != 4 * sum(p['counts']): refuse(21, 0)
-        if len(pend) < 4 * p['N']: refuse(22, 0)
-        r = run(p, unwords(vs), unwords(cells), len(obs), budget, ds)
-        return ([0, r['end'], r['steps'], r['used'], len(r['obs']), r['flag'], r['nxt']], words(r['vs']), words(r['cells']),
-                over(pend, words(r['pend'] + [0] * (p['N'] - len(r['pend'])))), over(obs, r['obs']))
-    except Refused as r: return list(r.args), list(vs), list(cells), list(pend), list(obs)
+        if len(pend) < 4 * N: refuse(22, 0)
+        place = p['V'] + sum(p['counts']) + N
+        if saves is not None and len(saves) < 4 * 8 * place: refuse(24, 0)
+        kept = None if saves is None else []
+        r = run(p, unwords(vs), unwords(cells), len(obs), budget, ds, kept)
+        left = [words(r['vs']), words(r['cells']), over(pend, words(padded(r['pend'], N))), over(obs, r['obs'])]
+        if saves is not None:
+            open_ = [w for v, c, l in kept for w in v + c + padded([t[0] for t in l], N)]
+            left.append(over(saves, words(padded(open_, 8 * place))))
+        return ([0, r['end'], r['steps'], r['used'], len(r['obs']), r['flag'], r['nxt']], *left)
+    except Refused as r: return (list(r.args), *(list(s) for s in (vs, cells, pend, obs, saves) if s is not None))

@@ -1,5 +1,5 @@
 # Tables that are no tree, P1: "With refusal 6 the place must be the record of the lowest-numbered node that breaks the rule."
-# Each is called by the four entries of document 01 (questions_cases has the fifth); the places are worked out by hand.
+# Each is called by the four entries of document 01 (questions_cases and rollback_cases have the other two); the places are worked out by hand.
 from calls import sheet, harden, run, guess, head, labels, array, node
 SKIP, NUMBER, TRUE = node('skip'), node('num', 5), node('const', 1)   # 4, 8 and 6 bytes
 def nodes(*records): return head(N=len(records)) + labels() + [b for r in records for b in r]

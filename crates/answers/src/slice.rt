@@ -66,6 +66,7 @@ fn number_of(refusal: Refusal) -> u64
         Refusal::WrongCells => 21,
         Refusal::ShortPending => 22,
         Refusal::ShortBuffer => 23,
+        Refusal::ShortSaves => 24,
     }
 }
 
@@ -89,6 +90,7 @@ fn place_of(refusal: Refusal) -> u64
         Refusal::WrongCells => 0,
         Refusal::ShortPending => 0,
         Refusal::ShortBuffer => 0,
+        Refusal::ShortSaves => 0,
     }
 }
 

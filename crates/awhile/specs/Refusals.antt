@@ -5,7 +5,7 @@ use mathlib.Core.Bool.{Bool, true, false}
 use Rattle.awhile.specs.declared.Refusal.{Refusal}
 use Rattle.awhile.specs.declared.Refusal.the-variants.{Cut, WrongRecord, BeyondLimit, OutOfRange, WrongSort, NotATree, ExtraBytes}
 use Rattle.awhile.specs.declared.Refusal.the-variants.{TooManyNodes, NoFreeVariable, BadDirectives, BadQuestions}
-use Rattle.awhile.specs.declared.Refusal.the-variants.{WrongVariables, WrongCells, ShortPending, ShortBuffer}
+use Rattle.awhile.specs.declared.Refusal.the-variants.{WrongVariables, WrongCells, ShortPending, ShortBuffer, ShortSaves}
 
 abbrev pub refusalNumber : Refusal → ℕ
 refusalNumber (Cut at) = 1
@@ -23,6 +23,7 @@ refusalNumber WrongVariables = 20
 refusalNumber WrongCells = 21
 refusalNumber ShortPending = 22
 refusalNumber ShortBuffer = 23
+refusalNumber ShortSaves = 24
 
 abbrev pub refusalPlace : Refusal → ℕ
 refusalPlace (Cut at) = at
@@ -40,6 +41,7 @@ refusalPlace WrongVariables = 0
 refusalPlace WrongCells = 0
 refusalPlace ShortPending = 0
 refusalPlace ShortBuffer = 0
+refusalPlace ShortSaves = 0
 
 -- a value, or the refusal that stands in its place
 pub data Answer (A : Type 0) : Type 0 where

@@ -146,4 +146,6 @@ pub enum Refusal {
     ShortPending,
     // 23: what is to be written is longer than its buffer
     ShortBuffer,
+    // 24: fewer save words than eight saves take
+    ShortSaves,
 }

@@ -5,3 +5,5 @@ pub mod Words
 pub mod Pieces
 pub mod Loads
 pub mod Stores
+pub mod Copies
+pub mod Zeros

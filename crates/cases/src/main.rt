@@ -1,7 +1,7 @@
 // Plays calls of Flow's entries that stand on standard input, and prints what each leaves: a line with the entry's name and the result,
-// then a line of hexadecimal for each slice it was lent for writing, as it is at exit.
+// then a line of hexadecimal for each slice it was lent for writing, as it is at exit. Save words are printed for flow_rollback alone.
 //
-// The input is the number of calls and then the calls. A call is the entry, the budget and seven slices, in the order of `call`'s
+// The input is the number of calls and then the calls. A call is the entry, the budget and eight slices, in the order of `call`'s
 // parameters. A slice is its length, how many of its bytes are given, and these; the others are 170. Numbers take 4 bytes.
 use libc::STDIN_FILENO;
 use libc::STDOUT_FILENO;
@@ -15,6 +15,8 @@ const HARDEN: u32 = 2;
 const RUN: u32 = 3;
 
 const QUESTIONS: u32 = 5;
+
+const ROLLBACK: u32 = 6;
 
 // The next number of the input.
 fn number() -> u32 {
@@ -65,6 +67,7 @@ fn enter(
     variables: &mut [u8],
     cells: &mut [u8],
     pending: &mut [u8],
+    saves: &mut [u8],
     output: &mut [u8],
     answer: &mut [u8],
 ) {
@@ -78,6 +81,20 @@ fn enter(
         QUESTIONS => print_result(
             b"questions ",
             flow::ask::flow_questions(table, list, output, answer),
+        ),
+        ROLLBACK => print_result(
+            b"rollback ",
+            flow::machines::flow_rollback(
+                table,
+                list,
+                variables,
+                cells,
+                pending,
+                saves,
+                output,
+                budget,
+                answer,
+            ),
         ),
         _ => print_result(
             b"guess ",
@@ -95,6 +112,14 @@ fn enter(
     }
 }
 
+// A line for the save words, where the entry has any.
+fn print_saves(entry: u32, saves: &[u8]) {
+    match entry {
+        ROLLBACK => print_bytes(saves),
+        _ => {}
+    }
+}
+
 // A call, and what it leaves in each slice.
 fn call(
     entry: u32,
@@ -104,6 +129,7 @@ fn call(
     variables: &mut [u8],
     cells: &mut [u8],
     pending: &mut [u8],
+    saves: &mut [u8],
     output: &mut [u8],
     answer: &mut [u8],
 ) {
@@ -115,6 +141,7 @@ fn call(
         &mut *variables,
         &mut *cells,
         &mut *pending,
+        &mut *saves,
         &mut *output,
         &mut *answer,
     );
@@ -122,6 +149,7 @@ fn call(
     print_bytes(variables);
     print_bytes(cells);
     print_bytes(pending);
+    print_saves(entry, saves);
     print_bytes(output);
 }
 
@@ -139,6 +167,8 @@ fn play() {
     let cells_length = fill(&mut cells);
     let mut pending = [170u8; 16448];
     let pending_length = fill(&mut pending);
+    let mut saves = [170u8; 16384];
+    let saves_length = fill(&mut saves);
     let mut output = [170u8; 65536];
     let output_length = fill(&mut output);
     let mut answer = [170u8; 64];
@@ -151,6 +181,7 @@ fn play() {
         &mut variables[..variables_length],
         &mut cells[..cells_length],
         &mut pending[..pending_length],
+        &mut saves[..saves_length],
         &mut output[..output_length],
         &mut answer[..answer_length],
     );

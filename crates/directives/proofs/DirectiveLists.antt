@@ -9,12 +9,12 @@ use mathlib.Core.List.{List, [], _∷_}
 use lib.ListN.{length, drop, length-drop}
 use lib.Seq.{drop-drop}
 use lib.Dec.{eqb, leb}
-use borrow.Author.Tests.{leb-true, le-leb, lt-leb, eq-eqb, ne-eqb}
+use borrow.Author.Tests.{leb-true, le-leb, lt-leb, eq-eqb, ne-eqb, eqb-true}
 use Rattle.bytes_le.specs.Numbers.{leAt}
-use Rattle.machine.specs.Directives.{directiveOf, directiveSize, wholeDirective, firstDirective, before, directivesIn, readDirectives}
+use Rattle.machine.specs.Directives.{directiveOf, directiveSize, wholeDirective, firstDirective, before, directivesIn, readRollingDirectives, isRollback}
 use Rattle.directives.specs.Listed.{listed, wholeIf, isSome}
 use Rattle.machine.specs.declared.Directive.{Directive}
-use Rattle.machine.specs.declared.Directive.the-variants.{Step, Force, Load, Store}
+use Rattle.machine.specs.declared.Directive.the-variants.{Step, Force, Load, Store, Rollback}
 use Rattle.directives.specs.declared.list.Listed.{Listed}
 use Rattle.directives.specs.declared.list.Listed.the-variants.{One, Nothing}
 
@@ -83,6 +83,7 @@ size-some Step = omega arith
 size-some Force = omega arith
 size-some (Load a i) = omega arith
 size-some (Store a i) = omega arith
+size-some Rollback = omega arith
 
 none-some : (d : Directive) → none ≡ some d → ⊥
 none-some d e = let z : _≡_ {A = ℕ} 0 1 = cc in omega arith
@@ -105,6 +106,46 @@ first-within s d e = go (directiveOf (leAt 2 s 2) (leAt 2 s 4) (leAt 4 s 6)) ref
     go : (o : Option Directive) → directiveOf (leAt 2 s 2) (leAt 2 s 4) (leAt 4 s 6) ≡ o → directiveSize d ≤ length s
     go none k = absurd (none-some d (rw (k, firstDirective) at e))
     go (some d′) k = whole-within s d′ d (rw (k, firstDirective) at e)
+
+-- a rollback's record has 4 bytes, and its kind is 76
+pub rollback-size : (d : Directive) → isRollback d ≡ true → directiveSize d ≡ 4
+unfolding isRollback directiveSize
+rollback-size Step e = refl
+rollback-size Force e = refl
+rollback-size (Load a i) e = cc
+rollback-size (Store a i) e = cc
+rollback-size Rollback e = refl
+
+kind-tells : (k a i : ℕ) (d : Directive) → directiveOf k a i ≡ some d → isRollback d ≡ eqb k 76
+unfolding directiveOf isRollback
+kind-tells k a i d e = go (eqb k 72) (eqb k 73) (eqb k 74) (eqb k 75) (eqb k 76) refl refl refl refl refl e
+  where
+    go : (p q r s t : Bool) → eqb k 72 ≡ p → eqb k 73 ≡ q → eqb k 74 ≡ r → eqb k 75 ≡ s → eqb k 76 ≡ t
+        → cond p (some Step) (cond q (some Force) (cond r (some (Load a i)) (cond s (some (Store a i)) (cond t (some Rollback) none)))) ≡ some d → isRollback d ≡ t
+    go true q r s t hp hq hr hs ht w = let is : Step ≡ d = cc in rw (← is) (sym (ap (λ (n : ℕ). eqb n 76) (eqb-true k 72 hp)) ∙ ht)
+    go false true r s t hp hq hr hs ht w = let is : Force ≡ d = cc in rw (← is) (sym (ap (λ (n : ℕ). eqb n 76) (eqb-true k 73 hq)) ∙ ht)
+    go false false true s t hp hq hr hs ht w = let is : Load a i ≡ d = cc in rw (← is) (sym (ap (λ (n : ℕ). eqb n 76) (eqb-true k 74 hr)) ∙ ht)
+    go false false false true t hp hq hr hs ht w = let is : Store a i ≡ d = cc in rw (← is) (sym (ap (λ (n : ℕ). eqb n 76) (eqb-true k 75 hs)) ∙ ht)
+    go false false false false true hp hq hr hs ht w = let is : Rollback ≡ d = cc in rw (← is)
+    go false false false false false hp hq hr hs ht w = absurd (none-some d w)
+
+whole-same : (s : List ℕ) (d d′ : Directive) → wholeDirective s d ≡ some d′ → d ≡ d′
+unfolding wholeDirective
+whole-same s d d′ e = go (eqb (leAt 2 s 0) (directiveSize d) && leb (directiveSize d) (length s)) e
+  where
+    go : (b : Bool) → cond b (some d) none ≡ some d′ → d ≡ d′
+    go true w = cc
+    go false w = absurd (none-some d′ w)
+
+pub first-kind : (s : List ℕ) (d : Directive) → firstDirective s ≡ some d → isRollback d ≡ eqb (leAt 2 s 2) 76
+unfolding firstDirective
+first-kind s d e = go (directiveOf (leAt 2 s 2) (leAt 2 s 4) (leAt 4 s 6)) refl
+  where
+    go : (o : Option Directive) → directiveOf (leAt 2 s 2) (leAt 2 s 4) (leAt 4 s 6) ≡ o → isRollback d ≡ eqb (leAt 2 s 2) 76
+    go none k = absurd (none-some d (rw (k, firstDirective) at e))
+    go (some d′) k =
+        let same = whole-same s d′ d (rw (k, firstDirective) at e) in
+        rw (← same) (kind-tells (leAt 2 s 2) (leAt 2 s 4) (leAt 4 s 6) d′ k)
 
 module _ (most : ℕ) where
   directives-first : (s : List ℕ) (d : Directive) → 0 < length s → firstDirective s ≡ some d → directivesIn (suc most) s ≡ before d (directivesIn most (drop (directiveSize d) s))
@@ -137,21 +178,21 @@ enough (suc m) (suc n) (b ∷ bs) h k = go (firstDirective (b ∷ bs)) refl (λ 
         ∙ sym (directives-first n (b ∷ bs) d (omega arith) e)
 
 -- what a list reads as: nothing where it ends, else its first directive before the rest
-pub reads-none-left : (s : List ℕ) → length s ≤ 0 → readDirectives s ≡ some []
-unfolding readDirectives directivesIn
+pub reads-none-left : (s : List ℕ) → length s ≤ 0 → readRollingDirectives s ≡ some []
+unfolding readRollingDirectives directivesIn
 reads-none-left [] h = refl
 reads-none-left (b ∷ bs) h = absurd (omega arith)
 
-pub reads-first : (s : List ℕ) (d : Directive) → 0 < length s → firstDirective s ≡ some d → readDirectives s ≡ before d (readDirectives (drop (directiveSize d) s))
-unfolding readDirectives
+pub reads-first : (s : List ℕ) (d : Directive) → 0 < length s → firstDirective s ≡ some d → readRollingDirectives s ≡ before d (readRollingDirectives (drop (directiveSize d) s))
+unfolding readRollingDirectives
 reads-first (b ∷ bs) d h e =
     let positive = size-some d in
     let less = length-drop (directiveSize d) (b ∷ bs) in
     directives-first (length bs) (b ∷ bs) d h e
     ∙ ap (before d) (enough (length bs) (length (drop (directiveSize d) (b ∷ bs))) (drop (directiveSize d) (b ∷ bs)) (omega arith) (omega arith))
 
-pub reads-bad : (s : List ℕ) → 0 < length s → firstDirective s ≡ none → readDirectives s ≡ none
-unfolding readDirectives
+pub reads-bad : (s : List ℕ) → 0 < length s → firstDirective s ≡ none → readRollingDirectives s ≡ none
+unfolding readRollingDirectives
 reads-bad (b ∷ bs) h e = directives-bad (length bs) (b ∷ bs) h e
 
 -- one record further on, the rest reads if the list does; at a record that is refused it does not
@@ -164,12 +205,12 @@ module _ (s : List ℕ) (at : ℕ) (within : at < length s) (o : Listed) (found 
       let size = first-within (drop at s) d (listed-some (firstDirective (drop at s)) d (sym found ∙ one)) in
       omega (arith, length-drop at s)
 
-  pub reads-next : (d : Directive) → o ≡ One d → readDirectives (drop at s) ≡ before d (readDirectives (drop (at + directiveSize d) s))
+  pub reads-next : (d : Directive) → o ≡ One d → readRollingDirectives (drop at s) ≡ before d (readRollingDirectives (drop (at + directiveSize d) s))
   reads-next d one =
       let known = listed-some (firstDirective (drop at s)) d (sym found ∙ one) in
       rw (← drop-drop (directiveSize d) at s) (reads-first (drop at s) d left known)
 
-  pub reads-refused : o ≡ Nothing → readDirectives (drop at s) ≡ none
+  pub reads-refused : o ≡ Nothing → readRollingDirectives (drop at s) ≡ none
   reads-refused nothing = reads-bad (drop at s) left (listed-none (firstDirective (drop at s)) (sym found ∙ nothing))
 
 pub isSome-before : (d : Directive) (o : Option (List Directive)) → isSome (before d o) ≡ isSome o

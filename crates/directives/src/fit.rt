@@ -20,9 +20,16 @@ pub enum Target {
     Neither,
 }
 
-// What a shown step does, if index and directive fit: the change, and the flag after it.
+// What a shown step does, if index and directive fit: a change, or a branch of this value that is forced the wrong way, with its right side.
 pub enum Fit {
-    Goes { change: Change, flag: bool },
+    Goes {
+        change: Change,
+    },
+    Forced {
+        value: bool,
+        right: Back,
+        wrong: Back,
+    },
     Unfit,
 }
 
@@ -34,6 +41,7 @@ fn load_target(directive: Directive) -> Target
         Directive::Load { array, index } => Target::Named { array, index },
         Directive::Force => Target::Neither,
         Directive::Store { array: _, index: _ } => Target::Neither,
+        Directive::Rollback => Target::Neither,
     }
 }
 
@@ -45,6 +53,7 @@ fn store_target(directive: Directive) -> Target
         Directive::Store { array, index } => Target::Named { array, index },
         Directive::Force => Target::Neither,
         Directive::Load { array: _, index: _ } => Target::Neither,
+        Directive::Rollback => Target::Neither,
     }
 }
 
@@ -82,59 +91,59 @@ fn own_or(own: Cell, other: Cell) -> Cell
 }
 
 // The side that a branch takes.
-fn side(value: bool, yes: Back, no: Back) -> Back
+pub fn side(value: bool, yes: Back, no: Back) -> Back
     ensures { λ r. ⌜ r ≡ cond value yes no ⌝ }
 {
     if value { yes } else { no }
 }
 
 // "73 force, at a branch, goes the other way and sets the flag."
-fn fork_fit(flag: bool, value: bool, yes: Back, no: Back, directive: Directive) -> Fit
-    ensures { λ r. ⌜ r ≡ forkFit flag value yes no directive ⌝ }
+fn fork_fit(value: bool, yes: Back, no: Back, directive: Directive) -> Fit
+    ensures { λ r. ⌜ r ≡ forkFit value yes no directive ⌝ }
 {
     match directive {
         Directive::Step => {
             let back = side(value, yes, no);
             Fit::Goes {
                 change: Change::PutBack { back },
-                flag,
             }
         }
         Directive::Force => {
-            let back = side(value, no, yes);
-            Fit::Goes {
-                change: Change::PutBack { back },
-                flag: true,
+            let right = side(value, yes, no);
+            let wrong = side(value, no, yes);
+            Fit::Forced {
+                value,
+                right,
+                wrong,
             }
         }
         Directive::Load { array: _, index: _ } => Fit::Unfit,
         Directive::Store { array: _, index: _ } => Fit::Unfit,
+        Directive::Rollback => Fit::Unfit,
     }
 }
 
 // A read gives its variable the word of the cell.
-fn load_fit(cells: &[u8], variable: usize, flag: bool, cell: Cell) -> Fit
-    ensures { λ r. ⌜ r ≡ loadFit (now (cells .entry)) variable flag cell ⌝ }
+fn load_fit(cells: &[u8], variable: usize, cell: Cell) -> Fit
+    ensures { λ r. ⌜ r ≡ loadFit (now (cells .entry)) variable cell ⌝ }
 {
     match cell {
         Cell::At { place } => {
             let value = u32_at(cells, 4 * (place as usize));
             Fit::Goes {
                 change: Change::Assign { variable, value },
-                flag,
             }
         }
         Cell::Missing => Fit::Unfit,
     }
 }
 
-fn store_fit(value: u32, flag: bool, cell: Cell) -> Fit
-    ensures { λ r. ⌜ r ≡ storeFit value flag cell ⌝ }
+fn store_fit(value: u32, cell: Cell) -> Fit
+    ensures { λ r. ⌜ r ≡ storeFit value cell ⌝ }
 {
     match cell {
         Cell::At { place } => Fit::Goes {
             change: Change::Store { place, value },
-            flag,
         },
         Cell::Missing => Fit::Unfit,
     }
@@ -146,14 +155,14 @@ pub fn fitting(starts: &[u16], cells: &[u8], flag: bool, shown: Shown, directive
     ensures { λ r. ⌜ ((counts : List ℕ) → Starts counts (now (starts .entry)) → r ≡ fitOf counts (now (cells .entry)) flag shown directive) ⌝ }
 {
     match shown {
-        Shown::Fork { value, yes, no } => fork_fit(flag, value, yes, no, directive),
+        Shown::Fork { value, yes, no } => fork_fit(value, yes, no, directive),
         Shown::Get {
             variable,
             array,
             index,
         } => {
             let cell = cell_for(starts, flag, array, index, load_target(directive));
-            load_fit(cells, variable, flag, cell)
+            load_fit(cells, variable, cell)
         }
         Shown::Put {
             array,
@@ -161,7 +170,7 @@ pub fn fitting(starts: &[u16], cells: &[u8], flag: bool, shown: Shown, directive
             value,
         } => {
             let cell = cell_for(starts, flag, array, index, store_target(directive));
-            store_fit(value, flag, cell)
+            store_fit(value, cell)
         }
     }
 }

@@ -1,11 +1,13 @@
-// What guides a shown step: a directive of the list, or the program itself.
+// What guides a step: a directive of the list, or the program itself.
 use crate::list::Listed;
 use crate::list::directive_at;
 use crate::list::size_of;
+use bytes_le::get::u16_at;
 use machine::Board;
 use machine::Directive;
-ghost use Rattle.machine.specs.declared.Board.the-variants.{Guessing};
-ghost use Rattle.directives.specs.Guiding.{Readable, GuidedAs};
+ghost use mathlib.Core.Path.{_≡_};
+ghost use Rattle.machine.specs.declared.Board.the-variants.{Guessing, Rolling};
+ghost use Rattle.directives.specs.Guiding.{Readable, GuidedAs, RollsAs, RollbackAs};
 
 // The directive of the next shown step with the bytes and the directives that it uses up, or that none is left.
 pub enum Guided {
@@ -20,7 +22,7 @@ pub enum Guided {
 // What a list has for the next shown step.
 fn next_listed(list: &[u8], at: usize) -> Guided
     requires { ⌜ Readable (now list) at ⌝ }
-    ensures { λ r. ⌜ GuidedAs Guessing (now (list .entry)) at r ⌝ }
+    ensures { λ r. ⌜ GuidedAs Guessing (now (list .entry)) at r × GuidedAs Rolling (now (list .entry)) at r ⌝ }
 {
     if list.len() <= at {
         return Guided::Out;
@@ -40,17 +42,39 @@ fn next_listed(list: &[u8], at: usize) -> Guided
     }
 }
 
-// "The guessing machine .. takes one directive per shown step." The plain machine takes every step as the program has it.
+// "The guessing machine .. takes one directive per shown step", and so does the rolling one. The plain machine takes every step as the
+// program has it.
 pub fn guide(list: &[u8], board: Board, at: usize) -> Guided
     requires { ⌜ Readable (now list) at ⌝ }
     ensures { λ r. ⌜ GuidedAs board (now (list .entry)) at r ⌝ }
 {
-    let Board::Guessing = board else {
-        return Guided::By {
-            directive: Directive::Step,
-            size: 0,
-            used: 0,
-        };
+    let Board::Plain = board else {
+        return next_listed(list, at);
     };
-    next_listed(list, at)
+    Guided::By {
+        directive: Directive::Step,
+        size: 0,
+        used: 0,
+    }
+}
+
+// Whether it is the board that rolls back.
+pub fn rolls(board: Board) -> bool
+    ensures { λ r. ⌜ RollsAs board r ⌝ }
+{
+    let Board::Rolling = board else {
+        return false;
+    };
+    true
+}
+
+// Whether a rollback is next. A list that reads has a whole record here, so its kind tells.
+pub fn rollback_next(list: &[u8], board: Board, at: usize) -> bool
+    requires { ⌜ Readable (now list) at ⌝ }
+    ensures { λ r. ⌜ RollbackAs board (now (list .entry)) at r ⌝ }
+{
+    let Board::Rolling = board else {
+        return false;
+    };
+    u16_at(list, at + 2) == 76
 }

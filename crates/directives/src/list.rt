@@ -1,12 +1,14 @@
-// The list of directives that steers a guessing run.
+// The list of directives that steers a run.
+use crate::guide::rolls;
 use bytes_le::get::u16_at;
 use bytes_le::get::u32_at;
+use machine::Board;
 use machine::Directive;
 ghost use Prim.Native.Nat.{_+_, _≤_};
 ghost use mathlib.Core.Path.{_≡_};
 ghost use lib.ListN.{length, drop};
-ghost use Rattle.machine.specs.Directives.{directiveSize, directiveOf, firstDirective, readDirectives};
-ghost use Rattle.directives.specs.Listed.{listed, wholeIf, isSome};
+ghost use Rattle.machine.specs.Directives.{directiveSize, directiveOf, firstDirective};
+ghost use Rattle.directives.specs.Listed.{listed, wholeIf, isSome, takesOn, readOn};
 
 // What stands at an offset of the list.
 pub enum Listed {
@@ -23,6 +25,7 @@ pub fn size_of(d: Directive) -> usize
         Directive::Force => 4,
         Directive::Load { array: _, index: _ } => 10,
         Directive::Store { array: _, index: _ } => 10,
+        Directive::Rollback => 4,
     }
 }
 
@@ -42,6 +45,9 @@ fn directive_of(kind: usize, array: usize, index: u32) -> Listed
         },
         75 => Listed::One {
             directive: Directive::Store { array, index },
+        },
+        76 => Listed::One {
+            directive: Directive::Rollback,
         },
         _ => Listed::Nothing,
     }
@@ -78,15 +84,28 @@ pub fn directive_at(list: &[u8], at: usize) -> Listed
     }
 }
 
-// Whether the whole list reads: no record of it is cut or of a wrong kind or length.
-pub fn reads(list: &[u8]) -> bool
-    ensures { λ r. ⌜ r ≡ isSome (readDirectives (now (list .entry))) ⌝ }
+// Whether a board takes a directive: only the rolling one takes a rollback.
+fn takes(board: Board, directive: Directive) -> bool
+    ensures { λ r. ⌜ r ≡ takesOn board directive ⌝ }
+{
+    let Directive::Rollback = directive else {
+        return true;
+    };
+    rolls(board)
+}
+
+// Whether the whole list reads: no record of it is cut or of a wrong kind or length for the board.
+pub fn reads(list: &[u8], board: Board) -> bool
+    ensures { λ r. ⌜ r ≡ isSome (readOn board (now (list .entry))) ⌝ }
 {
     let mut at = 0;
     while at < list.len() {
         let found = directive_at(list, at);
         match found {
             Listed::One { directive } => {
+                if !takes(board, directive) {
+                    return false;
+                }
                 at += size_of(directive);
             }
             Listed::Nothing => {

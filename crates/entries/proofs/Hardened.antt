@@ -3,7 +3,7 @@ use Prim.Native.Nat.{ℕ, _+_, _*_, _≤_, _<_}
 use native.Mathlib.Omega.{arith}
 use mathlib.Core.Path.{_≡_, refl, sym, ap, subst, _∙_}
 use mathlib.Core.List.{List}
-use lib.ListN.{length}
+use lib.ListN.{length, take}
 use lib.Dec.{leb, ltb}
 use borrow.Author.Tests.{ltb-true, leb-true, lt-ltb, le-leb}
 use Rattle.bytes_le.proofs.Numbers.{Below}
@@ -16,9 +16,9 @@ use Rattle.masks.specs.Hardening.{hardenedProgram, hardenedTable, maxHardened}
 use Rattle.masks.specs.Demands.{Demands}
 use Rattle.masks.proofs.Demands.{demands-met}
 use Rattle.entries.specs.Writing.{writtenAll, writing, hardenedIn, hardenEntry}
-use Rattle.entries.specs.Security.{CallsShowTheSame}
 use Rattle.entries.specs.Promises.{writtenAt, HardenedInto, Hardens}
 use Rattle.entries.proofs.Written.{front, writing-zero, answers-zero}
+use Rattle.entries.proofs.Accepted.{guess-follows, rollback-follows}
 use Rattle.entries.proofs.Security.{calls-related}
 
 module _ (s : List ℕ) (t : Table) (reads : readTable s ≡ got t) where
@@ -46,17 +46,16 @@ written-into : (s : List ℕ) (t : Table) → Below 256 s → readTable s ≡ go
 unfolding writtenAll
 written-into s t bytes reads small free buffer answer =
     let out : List ℕ = tableBytes (hardenedTable t) in
-    let demands : Demands t (hardenedProgram t) out = demands-met s t bytes reads small free in
-    let back = demands .readsBack in
+    let demands : Demands t (hardenedProgram t) (take (length out) (writtenAll out buffer answer .buffer)) =
+    subst (Demands t (hardenedProgram t)) (sym (front out buffer answer)) (demands-met s t bytes reads small free) in
     record {
       original = t;
       reads = reads;
       size = length out;
       answers = refl;
-      demands = subst (Demands t (hardenedProgram t)) (sym (front out buffer answer)) demands;
-      calls =
-          subst (CallsShowTheSame (t .labels) t) (sym (front out buffer answer))
-          (calls-related t (demands .hardened) out (back .accepts) (back .variables) (back .counts) (demands .secure));
+      demands = demands;
+      calls = calls-related (demands .readsBack) guess-follows (demands .secure);
+      callsRolling = calls-related (demands .readsBack) rollback-follows (demands .secureRolling);
     }
 
 -- where the entry answers 0, the table was accepted and the demands hold of what it wrote

@@ -6,3 +6,4 @@ pub mod Sheet
 pub mod Questions
 pub mod Security
 pub mod Hardened
+pub mod Forward

@@ -2,5 +2,6 @@
 pub mod Answers
 pub mod Writing
 pub mod Running
+pub mod Rolling
 pub mod Security
 pub mod Promises

@@ -1,4 +1,4 @@
--- WHAT THE FIVE ENTRIES PROMISE, on any bytes: the result, each lent slice and the answer slice at exit, by an equation with the entry's
+-- WHAT THE SIX ENTRIES PROMISE, on any bytes: the result, each lent slice and the answer slice at exit, by an equation with the entry's
 -- definition; of a label sheet and of answers to questions, that the labels are the least; and of a table that was hardened, the demands.
 -- Nothing is left free, the place of a refusal by 6 no more than any other (awhile/proofs/Lowest says whose record it is).
 use Prim.Native.Nat.{ℕ, _*_, _<_, _≤_}
@@ -20,7 +20,8 @@ use Rattle.masks.specs.Demands.{Demands}
 use Rattle.entries.specs.Answers.{answered}
 use Rattle.entries.specs.Writing.{Written, writtenAll, sheetEntry, questionsEntry, hardenEntry}
 use Rattle.entries.specs.Running.{Lent, Ran, runEntry, guessEntry}
-use Rattle.entries.specs.Security.{CallsShowTheSame}
+use Rattle.entries.specs.Rolling.{RanSaving, rollbackEntry}
+use Rattle.entries.specs.Security.{CallsShowTheSame, flowGuess, flowRollback}
 
 -- ---- what stands at exit
 -- of an entry that writes into a buffer: the result, the buffer and the answer slice
@@ -33,6 +34,10 @@ lentAt vs cs ps os = record { variables = vs; cells = cs; pending = ps; observat
 
 abbrev pub ranAt : (result : ℕ) → Lent → (answer : List ℕ) → Ran
 ranAt result lent answer = record { result = result; lent = lent; answer = answer }
+
+-- of the entry that rolls back: the save slice besides
+abbrev pub ranSavingAt : (result : ℕ) → Lent → (saves answer : List ℕ) → RanSaving
+ranSavingAt result lent saves answer = record { ran = ranAt result lent answer; saves = saves }
 
 -- ---- the label sheet
 -- What a caller of the sheet entry has where it answers 0, from the table's bytes and the answer slice at entry and what stands at exit
@@ -93,7 +98,9 @@ pub record HardenedInto (table answer : List ℕ) (exit : Written) : Type 0 wher
   -- so many bytes of the buffer at exit are a table of the hardened program, which runs as the original does and meets demand 3
   pub demands : Demands original (hardenedProgram original) (take size (exit .buffer))
   -- and demand 3 holds of calls of the guessing entry on them
-  pub calls : CallsShowTheSame (original .labels) original (take size (exit .buffer))
+  pub calls : CallsShowTheSame flowGuess (original .labels) original (take size (exit .buffer))
+  -- P5: "A user of this machine gets from a hardened program what demand 3 gives on the forward one": of calls of the rollback machine's entry
+  pub callsRolling : CallsShowTheSame flowRollback (original .labels) original (take size (exit .buffer))
 
 -- THE PROMISE of the hardening entry: all that stands at exit, by an equation; and where it answers 0, the demands
 pub record Hardens (table out answer : List ℕ) (result : ℕ) (out′ answer′ : List ℕ) : Type 0 where
@@ -108,3 +115,8 @@ pub record Runs (table : List ℕ) (lent : Lent) (budget : ℕ) (answer : List �
 -- THE PROMISE of the guessing machine's entry: the same
 pub record Guesses (table directives : List ℕ) (lent : Lent) (budget : ℕ) (answer : List ℕ) (result : ℕ) (lent′ : Lent) (answer′ : List ℕ) : Type 0 where
   pub guesses : ranAt result lent′ answer′ ≡ guessEntry table directives lent budget answer
+
+-- THE PROMISE of the rollback machine's entry: the same, and the save slice
+pub record RollsBack (table directives : List ℕ) (lent : Lent) (saves : List ℕ) (budget : ℕ) (answer : List ℕ)
+    (result : ℕ) (lent′ : Lent) (saves′ answer′ : List ℕ) : Type 0 where
+  pub rolls : ranSavingAt result lent′ saves′ answer′ ≡ rollbackEntry table directives lent saves budget answer

@@ -3,12 +3,14 @@ use Prim.Native.Nat.{ℕ, _+_, _*_, _^_, _<_}
 use native.Mathlib.Omega.{arith}
 use mathlib.Core.Path.{_≡_, refl, sym, ap, _∙_}
 use mathlib.Core.List.{List, _++_}
+use lib.ListN.{set, take}
 use lib.Seq.{sets}
 use Rattle.bytes_le.specs.Numbers.{le}
 use Rattle.bytes_le.proofs.Numbers.{length-le}
 use Rattle.bytes_le.proofs.Stores.{sets-append}
+use Rattle.directives.specs.Changes.{heightOf}
 use Rattle.stepping.specs.Stepping.{memoryAt}
-use Rattle.interpreter.specs.Effects.{pushed, performed, Performed}
+use Rattle.interpreter.specs.Effects.{pushed, performed, Performed, RightSaved}
 use Rattle.directives.specs.declared.change.Back.{Back}
 use Rattle.directives.specs.declared.change.Back.the-variants.{Two}
 use Rattle.directives.specs.declared.change.Change.{Change}
@@ -56,3 +58,10 @@ module _ (change : Change) (rest : ℕ) (vs cs ps : List ℕ) where
       → Performed change rest (memoryAt vs cs ps) (memoryAt vs cs′ ps)
   unfolding performed
   performed-store p v cs′ is fits stored = rw is (record { memory = ap (λ (l : List ℕ). memoryAt vs l ps) stored; word = fits })
+
+-- the right side put back and saved, its height noted, then the wrong side put back
+pub right-saved : (right wrong : Back) (rest place at high : ℕ) (vs cs ps ss hs ps₁ ss′ hs′ ps′ : List ℕ) → high ≡ heightOf (PutBack right) rest
+    → ps₁ ≡ pushed right rest ps → ss′ ≡ sets ss at (vs ++ (cs ++ take (4 * high) ps₁)) → hs′ ≡ set hs place high → ps′ ≡ pushed wrong rest ps₁
+    → RightSaved right wrong rest place at (memoryAt vs cs ps) ss hs ps′ ss′ hs′
+right-saved right wrong rest place at high vs cs ps ss hs ps₁ ss′ hs′ ps′ isHigh first saved noted second =
+    record { isPending = rw first at second; isSaves = rw (isHigh, first) at saved; isHeights = rw isHigh at noted }

@@ -24,12 +24,6 @@ abbrev pub Entries : (table pending : List ℕ) → (count : ℕ) → Type 0
 Entries table ps count = (j : ℕ) → j < count → CommandAt table (leAt 4 ps (4 * j))
 
 module _ (table : List ℕ) where
-  -- as many commands as entries
-  pub length-pending : (ps : List ℕ) (count : ℕ) → length (pendingOf table ps count) ≡ count
-  unfolding pendingOf
-  length-pending ps zero = refl
-  length-pending ps (suc k) = ap suc (length-pending ps k)
-
   -- a store above them changes no entry
   pub pending-below : (ps bs : List ℕ) (at count : ℕ) → 4 * count ≤ at → pendingOf table (sets ps at bs) count ≡ pendingOf table ps count
   unfolding pendingOf
@@ -82,3 +76,21 @@ module _ (table : List ℕ) where
       rw (next-word rest, two-more rest)
       (entries-pushed (sets ps (4 * rest) (le 4 m)) n (rest + 1) (fits .1) (simp length-sets (omega (arith, fits .2))) (new .1)
       (entries-pushed ps m rest (fits .0) (omega (arith, fits .2)) (new .0) old))
+
+  -- what is put back changes nothing below it
+  pub pushed-below : (b : Back) (rest : ℕ) (ps : List ℕ) → pendingOf table (pushed b rest ps) rest ≡ pendingOf table ps rest
+  unfolding pushed
+  pushed-below Nothing rest ps = refl
+  pushed-below (One n) rest ps = pending-below ps (le 4 n) (4 * rest) rest (omega arith)
+  pushed-below (Two m n) rest ps =
+      pending-below (sets ps (4 * rest) (le 4 m)) (le 4 n) (4 * rest + 4) rest (omega arith) ∙ pending-below ps (le 4 m) (4 * rest) rest (omega arith)
+
+  entry-below : (ps bs : List ℕ) (at rest : ℕ) → 4 * rest ≤ at → Entries table ps rest → Entries table (sets ps at bs) rest
+  entry-below ps bs at rest h old j less = rw (leAt-outside 4 bs ps at (4 * j) (inl (omega arith))) (old j less)
+
+  pub pushed-entries : (b : Back) (rest : ℕ) (ps : List ℕ) → Entries table ps rest → Entries table (pushed b rest ps) rest
+  unfolding pushed
+  pushed-entries Nothing rest ps old = old
+  pushed-entries (One n) rest ps old = entry-below ps (le 4 n) (4 * rest) rest (omega arith) old
+  pushed-entries (Two m n) rest ps old =
+      entry-below (sets ps (4 * rest) (le 4 m)) (le 4 n) (4 * rest + 4) rest (omega arith) (entry-below ps (le 4 m) (4 * rest) rest (omega arith) old)

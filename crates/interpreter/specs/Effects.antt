@@ -1,20 +1,21 @@
 -- What a step does to lent bytes: its change to variables, cells and the pending list, and what it shows.
 use Prim.Native.Nat.{ℕ, _+_, _*_, _^_, _≤_, _<_}
 use mathlib.Core.Path.{_≡_}
-use mathlib.Core.List.{List, []}
-use lib.ListN.{length}
+use mathlib.Core.List.{List, [], _++_}
+use lib.ListN.{length, set, take}
 use lib.Seq.{sets}
 use Rattle.bytes_le.specs.Numbers.{le}
 use Rattle.machine.specs.Observations.{observationBytes}
 use Rattle.stepping.specs.Actions.{observationOf}
 use Rattle.stepping.specs.Stepping.{Memory, memoryAt}
+use Rattle.directives.specs.Changes.{heightOf}
 use Rattle.directives.specs.declared.change.Back.{Back}
 use Rattle.directives.specs.declared.change.Back.the-variants.{One, Two}
 use Rattle.directives.specs.declared.change.Back.the-variants.{Nothing as NoBack}
 use Rattle.directives.specs.declared.change.Change.{Change}
 use Rattle.directives.specs.declared.change.Change.the-variants.{PutBack, Assign, Store}
-use Rattle.stepping.specs.declared.step.Seen.{Seen}
-use Rattle.stepping.specs.declared.step.Seen.the-variants.{Nothing, Observed}
+use Rattle.stepping.specs.declared.next.Seen.{Seen}
+use Rattle.stepping.specs.declared.next.Seen.the-variants.{Nothing, Observed}
 
 -- there is room for what is put back, and its numbers fit words
 abbrev pub PushFits : Back → (rest long : ℕ) → Type 0
@@ -49,6 +50,21 @@ WordFits (Store p v) = v < 2 ^ 32
 pub record Performed (change : Change) (rest : ℕ) (m m′ : Memory) : Type 0 where
   pub memory : m′ ≡ performed change rest m
   pub word : WordFits change
+
+-- a force that saves the right side of its branch at an offset, where its command stood above so many others: what it asks
+pub record SaveFits (right wrong : Back) (rest place at : ℕ) (m : Memory) (saves heights : List ℕ) : Type 0 where
+  pub rightFits : PushFits right rest (length (m .pending))
+  pub wrongFits : PushFits wrong rest (length (m .pending))
+  pub high : heightOf (PutBack right) rest ≤ 4096
+  pub within : 4 * heightOf (PutBack right) rest ≤ length (m .pending)
+  pub room : at + length (m .variables) + length (m .cells) + 4 * heightOf (PutBack right) rest ≤ length saves
+  pub placed : place < length heights
+
+-- and what it leaves: the state with the right side put back is saved, and its height is noted; then the wrong side is put back
+pub record RightSaved (right wrong : Back) (rest place at : ℕ) (m : Memory) (saves heights pending′ saves′ heights′ : List ℕ) : Type 0 where
+  pub isPending : pending′ ≡ pushed wrong rest (pushed right rest (m .pending))
+  pub isSaves : saves′ ≡ sets saves at (m .variables ++ (m .cells ++ take (4 * heightOf (PutBack right) rest) (pushed right rest (m .pending))))
+  pub isHeights : heights′ ≡ set heights place (heightOf (PutBack right) rest)
 
 -- the bytes of what a step shows
 unfoldable pub seenBytes : Seen → List ℕ

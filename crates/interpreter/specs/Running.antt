@@ -13,12 +13,14 @@ use Rattle.awhile.specs.declared.Header.{Header}
 use Rattle.reader.specs.Index.{Indexed, tableOf, nodesIn}
 use Rattle.machine.specs.Observations.{Observation, shownBytes}
 use Rattle.machine.specs.Runs.{Outcome, bytes, run, started}
-use Rattle.machine.specs.Memory.{pendingAfter, writtenOver, nextNode}
+use Rattle.machine.specs.Memory.{pendingAfter, savesAfter, writtenOver, nextNode}
 use Rattle.stepping.specs.Evaluation.{variablesIn}
 use Rattle.directives.specs.Guiding.{Readable, guideOf}
 use Rattle.stepping.specs.Stepping.{Memory, startState, cellsIn, machineOf, Between}
 use Rattle.stepping.specs.Actions.{CommandAt}
+use Rattle.saves.specs.Places.{placeWords, savesOf, PlacesHold}
 use Rattle.machine.specs.declared.Board.{Board}
+use Rattle.machine.specs.declared.Board.the-variants.{Rolling}
 use Rattle.interpreter.specs.declared.run.Stopped.{Stopped}
 use Rattle.interpreter.specs.declared.run.Report.{Report}
 
@@ -32,15 +34,25 @@ pub record Begun (table index starts list : List ℕ) (budget room : ℕ) (m : M
   pub between : Between table index starts list budget room startState m
   pub isRoot : leAt 4 (m .pending) 0 ≡ nodesIn table - 1
 
+-- what is lent for saves: a height for each of eight places, and on the board that rolls back the places, each of so many bytes
+pub record PlacesLent (table : List ℕ) (board : Board) (size : ℕ) (saves heights : List ℕ) : Type 0 where
+  pub eight : length heights ≡ 8
+  pub isSize : size ≡ 4 * placeWords table
+  pub long : board ≡ Rolling → 32 * placeWords table ≤ length saves
+
 -- what a run has left in the lent bytes when it is over
-pub record StoppedAs (table list : List ℕ) (board : Board) (budget : ℕ) (m : Memory) (os : List ℕ) (m′ : Memory) (os′ : List ℕ) (r : Stopped) : Type 0 where
+pub record StoppedAs (table list : List ℕ) (board : Board) (budget : ℕ) (m : Memory) (ss os : List ℕ) (m′ : Memory) (ss′ hs′ os′ : List ℕ) (r : Stopped) : Type 0 where
   pub seen : List Observation
-  pub isOutcome : runOf table list board budget m (length os) ≡ record { end = r .end; machine = machineOf table list board (r .state) m′ seen }
+  pub isOutcome : runOf table list board budget m (length os)
+      ≡ record { end = r .end; machine = machineOf table list board (r .state) m′ (savesOf table ss′ hs′ (r .state .saved)) seen }
   pub isShown : length (shownBytes seen) ≡ r .state .shown
   pub observations : os′ ≡ writtenOver (shownBytes seen) os
   pub few : r .state .pending ≤ nodesIn table
   pub entries : (j : ℕ) → j < r .state .pending → CommandAt table (leAt 4 (m′ .pending) (4 * j))
   pub beyond : drop (4 * nodesIn table) (m′ .pending) ≡ drop (4 * nodesIn table) (m .pending)
+  pub fewSaves : r .state .saved ≤ 8
+  pub places : PlacesHold table ss′ hs′ (r .state .saved)
+  pub savesBeyond : drop (32 * placeWords table) ss′ ≡ drop (32 * placeWords table) ss
 
 -- the word of the next node
 unfoldable pub nextWord : (pending : List ℕ) → (count : ℕ) → ℕ
@@ -63,18 +75,20 @@ reportOf o =
     }
 
 -- what a run is asked: a table that was read, a directive list that reads, and slices of the right lengths
-pub record RunAsked (table index list : List ℕ) (header : Header) (m : Memory) : Type 0 where
+pub record RunAsked (table index list : List ℕ) (header : Header) (board : Board) (m : Memory) (ss : List ℕ) : Type 0 where
   pub indexed : Indexed table index
   pub isHeader : headerOf (tableOf table) ≡ header
   pub readable : Readable list 0
   pub variablesLong : length (m .variables) ≡ 4 * tableOf table .variables
   pub cellsLong : length (m .cells) ≡ 4 * sum (tableOf table .counts)
   pub pendingLong : 4 * header .nodes ≤ length (m .pending)
+  pub savesLong : board ≡ Rolling → 32 * placeWords table ≤ length ss
 
--- what a run leaves in the lent slices, and its report
-pub record RunLeaves (o : Outcome ℕ) (nodes : ℕ) (m : Memory) (os : List ℕ) (m′ : Memory) (os′ : List ℕ) (r : Report) : Type 0 where
+-- what a run leaves in the lent slices, and its report; what is left in save words is asked of the board that rolls back alone
+pub record RunLeaves (o : Outcome ℕ) (table : List ℕ) (board : Board) (m : Memory) (ss os : List ℕ) (m′ : Memory) (ss′ os′ : List ℕ) (r : Report) : Type 0 where
   pub variables : m′ .variables ≡ words (o .machine .state .variables)
   pub cells : m′ .cells ≡ words (o .machine .state .cells)
-  pub pending : m′ .pending ≡ pendingAfter nodes (o .machine .state .pending) (m .pending)
+  pub pending : m′ .pending ≡ pendingAfter (nodesIn table) (o .machine .state .pending) (m .pending)
+  pub saves : board ≡ Rolling → ss′ ≡ savesAfter (nodesIn table) (placeWords table) (o .machine .saves) ss
   pub observations : os′ ≡ writtenOver (shownBytes (o .machine .shown)) os
   pub report : r ≡ reportOf o

@@ -4,7 +4,7 @@ use bytes_le::put::put32;
 use directives::change::Back;
 use directives::change::Change;
 use directives::change::Shown;
-use stepping::step::Seen;
+use stepping::next::Seen;
 ghost use Prim.Native.Nat.{_+_, _*_, _^_, _≤_, _<_};
 ghost use mathlib.Core.Bool.{cond};
 ghost use mathlib.Core.Path.{_≡_};
@@ -26,7 +26,7 @@ fn put_entry(pending: &mut [u8], rest: usize, n: usize)
 }
 
 // Puts back what a step puts back. The last one is next.
-fn push(pending: &mut [u8], rest: usize, back: Back)
+pub fn push(pending: &mut [u8], rest: usize, back: Back)
     requires { ⌜ PushFits back rest (length (now pending)) ⌝ }
     ensures { λ _. ⌜ now (pending .exit) ≡ pushed back rest (now (pending .entry)) ⌝ }
 {
@@ -79,13 +79,22 @@ fn show_access(out: &mut [u8], at: usize, kind: usize, array: usize, index: u32)
 }
 
 // The record of a branch.
-fn show_branch(out: &mut [u8], at: usize, value: bool)
+pub fn show_branch(out: &mut [u8], at: usize, value: bool)
     requires { ⌜ at + 6 ≤ length (now out) ⌝ }
     ensures { λ _. ⌜ now (out .exit) ≡ sets (now (out .entry)) at (le 2 6 ++ (le 2 64 ++ le 2 (cond value 1 0))) ⌝ }
 {
     put16(&mut *out, at, 6);
     put16(&mut *out, at + 2, 64);
     put16(&mut *out, at + 4, bit(value));
+}
+
+// The record of a rollback.
+pub fn show_rollback(out: &mut [u8], at: usize)
+    requires { ⌜ at + 4 ≤ length (now out) ⌝ }
+    ensures { λ _. ⌜ now (out .exit) ≡ sets (now (out .entry)) at (le 2 4 ++ le 2 67) ⌝ }
+{
+    put16(&mut *out, at, 4);
+    put16(&mut *out, at + 2, 67);
 }
 
 fn bit(value: bool) -> usize

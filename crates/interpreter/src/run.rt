@@ -1,21 +1,28 @@
 // Whole runs, on any board.
-ghost use Prim.Native.Nat.{_*_, _-_, _≤_};
+ghost use Prim.Native.Nat.{_*_, _≤_};
 ghost use mathlib.Core.Path.{_≡_};
-ghost use lib.ListN.{length, replicate};
-ghost use lib.Seq.{sets};
-ghost use Rattle.bytes_le.specs.Numbers.{words};
+ghost use lib.ListN.{length};
+ghost use Rattle.machine.specs.declared.Board.the-variants.{Rolling};
+ghost use Rattle.saves.specs.Leaving.{leftPlaces, LeaveFits};
 ghost use Rattle.stepping.specs.Stepping.{memoryAt};
-ghost use Rattle.interpreter.specs.Running.{Begun, StoppedAs, nextWord, reportWith, RunAsked, runOf, RunLeaves};
+ghost use Rattle.interpreter.specs.Running.{Begun, PlacesLent, StoppedAs, nextWord, reportWith, RunAsked, runOf, RunLeaves};
 use crate::memory::perform;
 use crate::memory::show;
+use crate::memory::show_branch;
+use crate::memory::show_rollback;
+use crate::saving::save_right;
 use awhile::Header;
+use bytes_le::clear::clear;
 use bytes_le::get::u32_at;
 use bytes_le::put::put32;
+use directives::guide::rolls;
 use directives::places::find_starts;
 use machine::Board;
 use machine::End;
+use saves::leave::leave;
+use saves::place::restore;
+use stepping::next::Next;
 use stepping::state::MachineState;
-use stepping::step::Next;
 use stepping::step::next_step;
 
 // Why a run is over, and the state in which its last step left it.
@@ -24,7 +31,7 @@ pub struct Stopped {
     pub state: MachineState,
 }
 
-// Runs from the start until one of the five ends.
+// Runs from the start until one of the five ends. A place for a save has so many bytes.
 fn go_on(
     table: &[u8],
     index: &[u16],
@@ -34,13 +41,17 @@ fn go_on(
     variables: &mut [u8],
     cells: &mut [u8],
     pending: &mut [u8],
+    saves: &mut [u8],
+    heights: &mut [u16],
     observations: &mut [u8],
+    size: usize,
     budget: u32,
 ) -> Stopped
-    requires { ⌜ Begun (now table) (now index) (now starts) (now directives) budget (length (now observations)) (memoryAt (now variables) (now cells) (now pending)) ⌝ }
+    requires { ⌜ Begun (now table) (now index) (now starts) (now directives) budget (length (now observations)) (memoryAt (now variables) (now cells) (now pending))
+        × PlacesLent (now table) board size (now saves) (now heights) ⌝ }
     ensures { λ r. ⌜ StoppedAs (now (table .entry)) (now (directives .entry)) board budget
-        (memoryAt (now (variables .entry)) (now (cells .entry)) (now (pending .entry))) (now (observations .entry))
-        (memoryAt (now (variables .exit)) (now (cells .exit)) (now (pending .exit))) (now (observations .exit)) r ⌝ }
+        (memoryAt (now (variables .entry)) (now (cells .entry)) (now (pending .entry))) (now (saves .entry)) (now (observations .entry))
+        (memoryAt (now (variables .exit)) (now (cells .exit)) (now (pending .exit))) (now (saves .exit)) (now (heights .exit)) (now (observations .exit)) r ⌝ }
 {
     let room = observations.len();
     let mut state = MachineState::start();
@@ -58,6 +69,8 @@ fn go_on(
             budget,
             state,
         );
+        let at = state.shown;
+        let place = state.saved;
         match next {
             Next::Over { end } => {
                 return Stopped { end, state };
@@ -67,11 +80,46 @@ fn go_on(
                 seen,
                 state: after,
             } => {
-                let at = state.shown;
                 let rest = state.pending - 1;
                 show(&mut *observations, at, seen);
                 perform(change, &mut *variables, &mut *cells, &mut *pending, rest);
                 state = after;
+            }
+            Next::Saves {
+                value,
+                right,
+                wrong,
+                state: after,
+            } => {
+                let rest = state.pending - 1;
+                show_branch(&mut *observations, at, value);
+                save_right(
+                    right,
+                    wrong,
+                    rest,
+                    &*variables,
+                    &*cells,
+                    &mut *pending,
+                    &mut *saves,
+                    &mut *heights,
+                    place,
+                    size * place,
+                );
+                state = after;
+            }
+            Next::Undoes => {
+                show_rollback(&mut *observations, at);
+                let newest = place - 1;
+                let high = heights[newest] as usize;
+                restore(
+                    &*saves,
+                    size * newest,
+                    high,
+                    &mut *variables,
+                    &mut *cells,
+                    &mut *pending,
+                );
+                state = state.undone(high);
             }
         }
     }
@@ -85,18 +133,6 @@ pub struct Report {
     pub shown: usize,
     pub flag: bool,
     pub next: u32,
-}
-
-// Sets pending entries to 0.
-fn clear(pending: &mut [u8], from: usize, to: usize)
-    requires { ⌜ (from ≤ to) × (4 * to ≤ length (now pending)) ⌝ }
-    ensures { λ _. ⌜ now (pending .exit) ≡ sets (now (pending .entry)) (4 * from) (words (replicate (to - from) 0)) ⌝ }
-{
-    let mut at = from;
-    while at < to {
-        put32(&mut *pending, 4 * at, 0);
-        at += 1;
-    }
 }
 
 // "the next node (0 if nothing is pending)"
@@ -127,7 +163,26 @@ fn numbers_of(stopped: Stopped, next: u32) -> Report
     }
 }
 
-// A run of a table that was read: from its root, on what stands in the lent slices.
+// Leaves the open saves in the places of the board that rolls back; another board has none.
+fn leave_saves(
+    saves: &mut [u8],
+    heights: &[u16],
+    board: Board,
+    count: usize,
+    before: usize,
+    nodes: usize,
+)
+    requires { ⌜ (board ≡ Rolling → LeaveFits (now saves) (now heights) count before nodes) ⌝ }
+    ensures { λ _. ⌜ (board ≡ Rolling → now (saves .exit) ≡ leftPlaces (now (heights .entry)) count before nodes 8 (now (saves .entry))) ⌝ }
+{
+    if rolls(board) {
+        leave(&mut *saves, heights, count, before, nodes);
+        return;
+    }
+}
+
+// A run of a table that was read: from its root, on what stands in the lent slices. Save words are lent to the board that rolls back; another
+// board looks at none.
 pub fn run(
     table: &[u8],
     index: &[u16],
@@ -137,20 +192,23 @@ pub fn run(
     variables: &mut [u8],
     cells: &mut [u8],
     pending: &mut [u8],
+    saves: &mut [u8],
     observations: &mut [u8],
     budget: u32,
 ) -> Report
-    requires { ⌜ RunAsked (now table) (now index) (now directives) header (memoryAt (now variables) (now cells) (now pending)) ⌝ }
+    requires { ⌜ RunAsked (now table) (now index) (now directives) header board (memoryAt (now variables) (now cells) (now pending)) (now saves) ⌝ }
     ensures { λ r. ⌜ RunLeaves
         (runOf (now (table .entry)) (now (directives .entry)) board budget
         (memoryAt (now (variables .entry)) (now (cells .entry)) (now (pending .entry))) (length (now (observations .entry))))
-        (header .nodes) (memoryAt (now (variables .entry)) (now (cells .entry)) (now (pending .entry))) (now (observations .entry))
-        (memoryAt (now (variables .exit)) (now (cells .exit)) (now (pending .exit))) (now (observations .exit)) r ⌝ }
+        (now (table .entry)) board (memoryAt (now (variables .entry)) (now (cells .entry)) (now (pending .entry))) (now (saves .entry)) (now (observations .entry))
+        (memoryAt (now (variables .exit)) (now (cells .exit)) (now (pending .exit))) (now (saves .exit)) (now (observations .exit)) r ⌝ }
 {
     let mut starts = [0u16; 17];
+    let mut heights = [0u16; 8];
     let nodes = header.nodes;
     find_starts(table, header, &mut starts);
     put32(&mut *pending, 0, (nodes - 1) as u32);
+    let before = variables.len() + cells.len();
     let stopped = go_on(
         table,
         index,
@@ -160,12 +218,16 @@ pub fn run(
         &mut *variables,
         &mut *cells,
         &mut *pending,
+        &mut *saves,
+        &mut heights,
         &mut *observations,
+        before + 4 * nodes,
         budget,
     );
     let state = stopped.state;
     let count = state.pending;
     let next = next_word(&*pending, count);
     clear(&mut *pending, count, nodes);
+    leave_saves(&mut *saves, &heights, board, state.saved, before / 4, nodes);
     numbers_of(stopped, next)
 }

@@ -1,9 +1,10 @@
 -- Two states side by side, and relations on such pairs that every step keeps. A board adds nothing here: what a closed relation gives for
 -- runs is `Lockstep`, for all boards at once.
-use Prim.Native.Nat.{ℕ}
+use Prim.Native.Nat.{ℕ, suc}
 use mathlib.Core.Bool.{Bool, true, false, cond}
-use mathlib.Core.List.{List, [], _∷_}
-use mathlib.Core.Path.{_≡_}
+use mathlib.Core.List.{List, [], _∷_, _++_}
+use mathlib.Core.Path.{_≡_, refl, ap}
+use lib.ListN.{length}
 use Rattle.awhile.specs.Language.{Com}
 use Rattle.machine.specs.Look.{Look, quiet, fork, get, put, look}
 use Rattle.machine.specs.Steps.{State, inside, cellPlace, quietly, turned, loaded, stored}
@@ -41,3 +42,17 @@ module _ {Note : Type 0} (counts : List ℕ) (R : State Note → State Note → 
   -- a relation that every step keeps, at a branch for both sides
   pub record Closed : Type 0 where
     pub step : (s t : State Note) → R s t → OneStep s t
+
+-- lists of states side by side, such as saves: as many on both sides, and each pair related
+pub data Both {A : Type 0} (R : A → A → Type 0) : List A → List A → Type 0 where
+  neither : Both R [] []
+  both : {x y : A} {xs ys : List A} → R x y → Both R xs ys → Both R (x ∷ xs) (y ∷ ys)
+
+module _ {A : Type 0} {R : A → A → Type 0} where
+  pub both-length : {xs ys : List A} → Both R xs ys → length xs ≡ length ys
+  both-length neither = refl
+  both-length (both r rs) = ap suc (both-length rs)
+
+  pub both-append : {xs ys us vs : List A} → Both R xs ys → Both R us vs → Both R (xs ++ us) (ys ++ vs)
+  both-append neither q = q
+  both-append (both r rs) q = both r (both-append rs q)

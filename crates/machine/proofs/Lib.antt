@@ -4,11 +4,16 @@ pub mod Examples
 pub mod Prefixes
 pub mod Runs
 pub mod Notes
+pub mod Rooms
 pub mod Traces
 pub mod Cells
+pub mod Taken
+pub mod Invariants
 pub mod PendingRoom
+pub mod Saving
 pub mod PlainRuns
 pub mod Closed
 pub mod Pulled
 pub mod Lockstep
+pub mod RollingForward
 pub mod Redirects

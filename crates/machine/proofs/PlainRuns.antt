@@ -7,11 +7,10 @@ use Rattle.awhile.specs.Language.{Com}
 use lib.ListN.{getD, set}
 use Rattle.machine.specs.Observations.{Observation, branch, readAt, writeAt}
 use Rattle.machine.specs.Look.{Look, quiet, fork, get, put, look}
-use Rattle.machine.specs.Steps.{State, inside, cellPlace, onlyIf, quietly, turned, loaded, stored, atFork, atGet, atPut}
-use Rattle.machine.specs.Runs.{Guide, plain}
+use Rattle.machine.specs.Steps.{State, inside, cellPlace, onlyIf, quietly, turned, loaded, stored, onward, atFork, atGet, atPut}
 use Rattle.machine.specs.Prefixes.{OneBegins}
 use Rattle.machine.proofs.Prefixes.{one-begins-cons}
-use Rattle.machine.proofs.Traces.{turns, turnOf, shownTurn, turnIf, turnFrom, turn, trace, trace-turns}
+use Rattle.machine.proofs.Traces.{turns, turnOf, turnIf, turnFrom, turn, trace, trace-turns}
 
 -- lists with a common front are related where what follows is
 related-behind : (os : List Observation) {xs ys : List Observation} → OneBegins (os ++ xs) (os ++ ys) → OneBegins xs ys
@@ -25,51 +24,51 @@ module _ {Note : Type 0} where
 
   -- the plain runs from two states show lists of which one begins the other, at every two budgets
   pub record PlainRelated (counts : List ℕ) (s t : State Note) : Type 0 where
-    pub at : (n m : ℕ) → OneBegins (trace counts n s plain) (trace counts m t plain)
+    pub at : (n m : ℕ) → OneBegins (trace counts n s) (trace counts m t)
 
   module _ (counts : List ℕ) (s t : State Note) (h : PlainRelated counts s t) where
     pub plain-after : (os : List Observation) (s′ t′ : State Note)
-        → turn counts s plain ≡ turns os s′ plain → turn counts t plain ≡ turns os t′ plain → PlainRelated counts s′ t′
+        → turn counts s ≡ turns os s′ → turn counts t ≡ turns os t′ → PlainRelated counts s′ t′
     plain-after os s′ t′ p q =
         record {
           at = λ n m.
               related-behind os
-              (subst₂ OneBegins (trace-turns counts n s plain os s′ plain p) (trace-turns counts m t plain os t′ plain q) (h .at (suc n) (suc m)));
+              (subst₂ OneBegins (trace-turns counts n s os s′ p) (trace-turns counts m t os t′ q) (h .at (suc n) (suc m)));
         }
 
     pub plain-shows : (o u : Observation) (s′ t′ : State Note)
-        → turn counts s plain ≡ turns (o ∷ []) s′ plain → turn counts t plain ≡ turns (u ∷ []) t′ plain → o ≡ u
+        → turn counts s ≡ turns (o ∷ []) s′ → turn counts t ≡ turns (u ∷ []) t′ → o ≡ u
     plain-shows o u s′ t′ p q =
         one-begins-cons
-        (subst₂ OneBegins (trace-turns counts zero s plain (o ∷ []) s′ plain p) (trace-turns counts zero t plain (u ∷ []) t′ plain q) (h .at 1 1))
+        (subst₂ OneBegins (trace-turns counts zero s (o ∷ []) s′ p) (trace-turns counts zero t (u ∷ []) t′ q) (h .at 1 1))
         .0
 
   -- the turn of a configuration is that of its look
-  pub turn-by-look : (counts : List ℕ) (c : Com Note) (rest : List (Com Note)) (vs cs : List ℕ) (b : Bool) (g : Guide) (l : Look Note)
-      → look c rest vs ≡ l → turn counts (stateOf (c ∷ rest) vs cs b) g ≡ turnOf counts (stateOf (c ∷ rest) vs cs b) g l
+  pub turn-by-look : (counts : List ℕ) (c : Com Note) (rest : List (Com Note)) (vs cs : List ℕ) (b : Bool) (l : Look Note)
+      → look c rest vs ≡ l → turn counts (stateOf (c ∷ rest) vs cs b) ≡ turnOf counts (stateOf (c ∷ rest) vs cs b) l
   unfolding turn turnFrom
-  turn-by-look counts c rest vs cs b g l e = ap (turnOf counts (stateOf (c ∷ rest) vs cs b) g) e
+  turn-by-look counts c rest vs cs b l e = ap (turnOf counts (stateOf (c ∷ rest) vs cs b)) e
 
-  pub turn-quiet : (counts : List ℕ) (c : Com Note) (rest p : List (Com Note)) (vs vs′ cs : List ℕ) (b : Bool) (g : Guide)
-      → look c rest vs ≡ quiet p vs′ → turn counts (stateOf (c ∷ rest) vs cs b) g ≡ turns [] (stateOf p vs′ cs b) g
+  pub turn-quiet : (counts : List ℕ) (c : Com Note) (rest p : List (Com Note)) (vs vs′ cs : List ℕ) (b : Bool)
+      → look c rest vs ≡ quiet p vs′ → turn counts (stateOf (c ∷ rest) vs cs b) ≡ turns [] (stateOf p vs′ cs b)
   unfolding turnOf quietly
-  turn-quiet counts c rest p vs vs′ cs b g e = turn-by-look counts c rest vs cs b g (quiet p vs′) e
+  turn-quiet counts c rest p vs vs′ cs b e = turn-by-look counts c rest vs cs b (quiet p vs′) e
 
   -- a plain turn at a branch goes the right way; at a read or write in bounds it uses the own cell
   module _ (counts : List ℕ) (c : Com Note) (rest next : List (Com Note)) (vs cs : List ℕ) (b : Bool) where
     pub turn-fork : (v : Bool) (onTrue onFalse : List (Com Note)) → look c rest vs ≡ fork v onTrue onFalse
-        → turn counts (stateOf (c ∷ rest) vs cs b) plain ≡ turns (branch v ∷ []) (stateOf (cond v onTrue onFalse) vs cs b) plain
-    unfolding turnOf shownTurn turnIf atFork turned
-    turn-fork v onTrue onFalse e = turn-by-look counts c rest vs cs b plain (fork v onTrue onFalse) e
+        → turn counts (stateOf (c ∷ rest) vs cs b) ≡ turns (branch v ∷ []) (stateOf (cond v onTrue onFalse) vs cs b)
+    unfolding turnOf turnIf atFork turned onward
+    turn-fork v onTrue onFalse e = turn-by-look counts c rest vs cs b (fork v onTrue onFalse) e
 
     pub turn-get : (x a i : ℕ) → look c rest vs ≡ get x a i next → inside counts a i ≡ true
-        → turn counts (stateOf (c ∷ rest) vs cs b) plain
-        ≡ turns (readAt a i ∷ []) (stateOf next (set vs x (getD cs (cellPlace counts a i) 0)) cs b) plain
-    unfolding turnOf shownTurn turnIf atGet onlyIf loaded
-    turn-get x a i e h = turn-by-look counts c rest vs cs b plain (get x a i next) e ∙ rw h
+        → turn counts (stateOf (c ∷ rest) vs cs b)
+        ≡ turns (readAt a i ∷ []) (stateOf next (set vs x (getD cs (cellPlace counts a i) 0)) cs b)
+    unfolding turnOf turnIf atGet onlyIf loaded onward
+    turn-get x a i e h = turn-by-look counts c rest vs cs b (get x a i next) e ∙ rw h
 
     pub turn-put : (a i v : ℕ) → look c rest vs ≡ put a i v next → inside counts a i ≡ true
-        → turn counts (stateOf (c ∷ rest) vs cs b) plain
-        ≡ turns (writeAt a i ∷ []) (stateOf next vs (set cs (cellPlace counts a i) v) b) plain
-    unfolding turnOf shownTurn turnIf atPut onlyIf stored
-    turn-put a i v e h = turn-by-look counts c rest vs cs b plain (put a i v next) e ∙ rw h
+        → turn counts (stateOf (c ∷ rest) vs cs b)
+        ≡ turns (writeAt a i ∷ []) (stateOf next vs (set cs (cellPlace counts a i) v) b)
+    unfolding turnOf turnIf atPut onlyIf stored onward
+    turn-put a i v e h = turn-by-look counts c rest vs cs b (put a i v next) e ∙ rw h

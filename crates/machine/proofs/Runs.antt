@@ -3,12 +3,13 @@ use Prim.Native.Nat.{ℕ, zero, suc, _+_}
 use native.Mathlib.Nat.{suc-add, add-comm}
 use mathlib.Core.Path.{_≡_, refl, sym, ap, _∙_}
 use mathlib.Core.Bool.{true, false, true≢false}
+use mathlib.Core.Option.{Option, none, some}
 use mathlib.Core.List.{List, [], _∷_}
 use lib.Dec.{eqb}
 use borrow.Author.Tests.{eq-eqb}
 use Rattle.awhile.specs.Language.{Com}
-use Rattle.machine.specs.Runs.{Room, Machine, Next, over, goes}
-use Rattle.machine.specs.Runs.{nextOf, next, endNumber, endWithout, run}
+use Rattle.machine.specs.Runs.{Room, Guide, Machine, Next, over, goes}
+use Rattle.machine.specs.Runs.{rollbackNext, nextOf, nextBy, next, endNumber, endWithout, run}
 use Rattle.machine.specs.declared.End.{End}
 use Rattle.machine.specs.declared.End.the-variants.{Finished, Spent}
 
@@ -41,22 +42,28 @@ module _ {Note : Type 0} (counts : List ℕ) (room : Room) where
       go (over e) eq rest = at-over n m e eq
       go (goes m′) eq rest = at-goes n m m′ eq (rest m′)
 
-  -- with nothing pending the next step is not taken, since the run is finished
-  pub next-nothing : (m : Machine Note) → m .state .pending ≡ [] → next counts room m ≡ over Finished
-  unfolding next nextOf
-  next-nothing m e = rw (e, nextOf)
+  -- where no rollback is next, the next step is that of the pending list
+  pub next-onward : (m : Machine Note) → rollbackNext (m .guide) ≡ none → next counts room m ≡ nextOf counts room m (m .state .pending)
+  unfolding next nextBy
+  next-onward m forward = rw (forward, nextBy)
 
-  -- where nothing is pending a run is finished, with any budget
-  pub run-nothing : (n : ℕ) (m : Machine Note) → m .state .pending ≡ [] → run counts room n m ≡ record { end = Finished; machine = m }
+  -- with nothing pending and no rollback next, the next step is not taken, since the run is finished
+  next-nothing : (m : Machine Note) → rollbackNext (m .guide) ≡ none → m .state .pending ≡ [] → next counts room m ≡ over Finished
+  unfolding nextOf
+  next-nothing m forward e = next-onward m forward ∙ rw (e, nextOf)
+
+  -- where nothing is pending and no rollback is next, a run is finished, with any budget
+  pub run-nothing : (n : ℕ) (m : Machine Note) → rollbackNext (m .guide) ≡ none → m .state .pending ≡ [] → run counts room n m ≡ record { end = Finished; machine = m }
   unfolding run endWithout
-  run-nothing zero m e = λ i. record { end = endWithout (e i); machine = m }
-  run-nothing (suc n) m e = run-over n m (next-nothing m e)
+  run-nothing zero m forward e = λ i. record { end = endWithout (e i) (forward i); machine = m }
+  run-nothing (suc n) m forward e = run-over n m (next-nothing m forward e)
 
-  -- with no budget left, an end other than Spent says that nothing is pending
-  endWithout-nothing : (cs : List (Com Note)) → (endWithout cs ≡ Spent → ⊥) → cs ≡ []
+  -- with no budget left, an end other than Spent says that nothing is pending and no rollback is next
+  endWithout-nothing : (cs : List (Com Note)) (r : Option Guide) → (endWithout cs r ≡ Spent → ⊥) → (r ≡ none) × (cs ≡ [])
   unfolding endWithout
-  endWithout-nothing [] h = refl
-  endWithout-nothing (c ∷ rest) h = absurd (h refl)
+  endWithout-nothing [] none h = (refl, refl)
+  endWithout-nothing [] (some g) h = absurd (h refl)
+  endWithout-nothing (c ∷ rest) r h = absurd (h refl)
 
   -- a run that has ended otherwise than by its budget stays as it is with more budget
   pub run-ended : (k n : ℕ) (m : Machine Note) → (run counts room n m .end ≡ Spent → ⊥) → run counts room (n + k) m ≡ run counts room n m
@@ -65,8 +72,8 @@ module _ {Note : Type 0} (counts : List ℕ) (room : Room) where
       along-run
       (λ n m. (run counts room n m .end ≡ Spent → ⊥) → run counts room (n + k) m ≡ run counts room n m)
       (λ m h.
-      let empty : m .state .pending ≡ [] = endWithout-nothing (m .state .pending) h in
-      run-nothing (zero + k) m empty ∙ sym (run-nothing zero m empty))
+      let nothing = endWithout-nothing (m .state .pending) (rollbackNext (m .guide)) h in
+      run-nothing (zero + k) m (nothing .0) (nothing .1) ∙ sym (run-nothing zero m (nothing .0) (nothing .1)))
       (λ n m e eq h. rw suc-add (run-over (n + k) m eq ∙ sym (run-over n m eq)))
       (λ n m m′ eq rest h.
       rw suc-add (run-goes (n + k) m eq ∙ (rest (λ s. h (ap (λ o. o .end) (run-goes n m eq) ∙ s)) ∙ sym (run-goes n m eq))))

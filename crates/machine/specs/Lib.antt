@@ -1,4 +1,4 @@
--- The two machines, in reading order.
+-- The machine of all boards, in reading order.
 pub mod Observations
 pub mod Directives
 pub mod Look

@@ -1,11 +1,12 @@
 -- What stands in lent memory after a run, and the run's numbers.
 use Prim.Native.Nat.{ℕ, _*_, _-_}
 use mathlib.Core.Bool.{cond}
-use mathlib.Core.List.{List, [], _∷_, _++_, map, reverse}
+use mathlib.Core.List.{List, [], _∷_, _++_, map, flatMap, reverse}
 use lib.ListN.{length, drop, replicate}
 use Rattle.bytes_le.specs.Numbers.{words}
 use Rattle.awhile.specs.Language.{Com, noteOf}
 use Rattle.machine.specs.Observations.{shownBytes}
+use Rattle.machine.specs.Steps.{State}
 use Rattle.machine.specs.Runs.{Outcome, endNumber}
 
 -- "The first N pending entries hold the list, then zeros": the next command's entry is the last
@@ -15,6 +16,15 @@ pendingWords n cs = map noteOf (reverse cs) ++ replicate (n - length cs) 0
 -- "entries beyond N .. are unchanged"
 unfoldable pub pendingAfter : (nodes : ℕ) → List (Com ℕ) → List ℕ → List ℕ
 pendingAfter n cs slice = words (pendingWords n cs) ++ drop (4 * n) slice
+
+-- "each as variables, cells and N pending entries padded with zeros"
+unfoldable pub saveWords : (nodes : ℕ) → State ℕ → List ℕ
+saveWords n s = s .variables ++ (s .cells ++ pendingWords n (s .pending))
+
+-- "the save words hold the open saves, oldest first ..; the rest of the eight places is zeros, and words beyond are unchanged".
+-- A place has so many words; the newest save is the first of the list
+unfoldable pub savesAfter : (nodes size : ℕ) → List (State ℕ) → (slice : List ℕ) → List ℕ
+savesAfter n size ss slice = words (flatMap (saveWords n) (reverse ss) ++ replicate ((8 - length ss) * size) 0) ++ drop (32 * size) slice
 
 -- bytes written at the front of a slice; "bytes beyond are unchanged"
 unfoldable pub writtenOver : (written slice : List ℕ) → List ℕ

@@ -1,17 +1,20 @@
-// The plain and the guessing machine: the definitions and their theorems. The code is crates `directives`, `stepping` and `interpreter`.
+// One machine for all boards: the definitions and their theorems. The code is crates `directives`, `stepping` and `interpreter`.
 
-// The boards that a table runs on: the plain one takes every step as the program has it, the guessing one takes a directive for each shown step.
+// The boards that a table runs on: the plain one takes every step as the program has it, the guessing one takes a directive for each shown step,
+// and the rolling one can go back on a wrong guess as well.
 pub enum Board {
     Plain,
     Guessing,
+    Rolling,
 }
 
-// What the attacker picks for one shown step.
+// What the attacker picks for one shown step, or that the newest wrong guess is rolled back.
 pub enum Directive {
     Step,
     Force,
     Load { array: usize, index: u32 },
     Store { array: usize, index: u32 },
+    Rollback,
 }
 
 // Why a run is over.

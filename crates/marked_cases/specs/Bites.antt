@@ -1,5 +1,6 @@
 -- Demand 3 bites: of the original table in place of the hardened one it is false. Document 01's bounds check, played force, load 2 0, step
--- from two states that differ in the secret cell alone, 77 and 78, shows which of the two it is.
+-- from two states that differ in the secret cell alone, 77 and 78, shows which of the two it is, on the guessing machine and on the one that
+-- rolls back.
 use Prim.Native.Nat.{ℕ, zero, suc, _+_, _<_}
 use native.Mathlib.Omega.{arith}
 use mathlib.Core.Bool.{true, false, true≢false}
@@ -14,14 +15,14 @@ use Rattle.awhile.specs.Trees.{rootOf}
 use Rattle.labels.specs.Labellings.{arrayMark, labelOf}
 use Rattle.machine.specs.Observations.{Observation, branch, readAt}
 use Rattle.machine.specs.Steps.{inside, cellPlace}
-use Rattle.machine.specs.Runs.{Outcome, endless, plain, run, started}
+use Rattle.machine.specs.Runs.{Guide, Outcome, endless, plain, guessing, rolling, run, started}
 use Rattle.machine.specs.Prefixes.{OneBegins}
 use Rattle.machine.specs.declared.Directive.{Directive}
 use Rattle.machine.specs.declared.Directive.the-variants.{Step, Force, Load}
 use Rattle.machine.specs.declared.End.the-variants.{Finished, Spent}
 use Rattle.machine.proofs.Prefixes.{one-begins-cons, nil-begins, begins-refl}
 use Rattle.machine.proofs.Runs.{ends-differ, run-ended}
-use Rattle.masks.specs.Security.{AgreeingStates, ShowsTheSame, plainlyShown, guessingShown}
+use Rattle.masks.specs.Security.{AgreeingStates, ShowsTheSame, plainlyShown, shownOn}
 use Rattle.entries.proofs.Open.{opened}
 use Rattle.marked_cases.specs.BoundsCheck.{boundsCheck}
 
@@ -100,10 +101,16 @@ plainly-related (suc n) (suc m) = rw (shown-plainly 77 n, shown-plainly 78 m) (r
 abbrev guessed : ℕ → List Observation
 guessed secret = branch false ∷ readAt 0 4 ∷ readAt 1 secret ∷ []
 
-shown-guessing : (guessingShown original endless script (variables ++ (0 ∷ [])) (cells 77) 10 ≡ guessed 77)
-    × (guessingShown original endless script (variables ++ (0 ∷ [])) (cells 78) 10 ≡ guessed 78)
-unfolding opened original guessingShown
+abbrev ShownOn : (board : List Directive → Guide) → (secret : ℕ) → Type 0
+ShownOn board secret = shownOn original endless (board script) (variables ++ (0 ∷ [])) (cells secret) 10 ≡ guessed secret
+
+shown-guessing : ShownOn guessing 77 × ShownOn guessing 78
+unfolding opened original
 shown-guessing = (refl, refl)
+
+shown-rolling : ShownOn rolling 77 × ShownOn rolling 78
+unfolding opened original
+shown-rolling = (refl, refl)
 
 not-related : OneBegins (guessed 77) (guessed 78) → ⊥
 not-related h =
@@ -111,15 +118,22 @@ not-related h =
     let n : _≡_ {A = ℕ} 77 78 = cc in
     omega arith
 
--- "The same table" is no hardened table: the claim of demand 3 is false of it
-pub unhardened-differs : (t : Table) → readTable boundsCheck ≡ got t → ShowsTheSame (t .labels) t t → ⊥
-unhardened-differs t e h = refuted (subst (λ (p : Table). ShowsTheSame (p .labels) p p) same h)
+-- "The same table" is no hardened table: the claim of demand 3 is false of it on a board that shows this
+differs-on : (board : List Directive → Guide) → ShownOn board 77 × ShownOn board 78
+    → (t : Table) → readTable boundsCheck ≡ got t → ShowsTheSame board (t .labels) t t → ⊥
+differs-on board shown t e h = refuted (subst (λ (p : Table). ShowsTheSame board (p .labels) p p) same h)
   where
     same : t ≡ original
     same = cc reads
 
-    refuted : ShowsTheSame (original .labels) original original → ⊥
+    refuted : ShowsTheSame board (original .labels) original original → ⊥
     refuted g =
         not-related
-        (subst₂ OneBegins (shown-guessing .0) (shown-guessing .1)
+        (subst₂ OneBegins (shown .0) (shown .1)
         (g .related variables (cells 77) variables (cells 78) agreeing plainly-related script 10 10 endless endless))
+
+pub unhardened-differs : (t : Table) → readTable boundsCheck ≡ got t → ShowsTheSame guessing (t .labels) t t → ⊥
+unhardened-differs = differs-on guessing shown-guessing
+
+pub unhardened-differs-rolling : (t : Table) → readTable boundsCheck ≡ got t → ShowsTheSame rolling (t .labels) t t → ⊥
+unhardened-differs-rolling = differs-on rolling shown-rolling

@@ -7,7 +7,8 @@ use borrow.Author.Tests.{le-leb}
 use Rattle.bytes_le.specs.Numbers.{leAt}
 use Rattle.awhile.specs.Refusals.{got}
 use Rattle.entries.specs.Answers.{answered}
-use Rattle.entries.specs.Running.{Lent, runEntry, guessEntry}
+use Rattle.entries.specs.Running.{Lent, Ran, runEntry, guessEntry}
+use Rattle.entries.specs.Rolling.{rollbackEntry}
 use Rattle.entries.specs.Writing.{Written, writing, writtenAll, sheetEntry, questionsEntry, hardenEntry}
 
 -- the table is of so many nodes and so many bytes
@@ -38,14 +39,18 @@ Refuses entry table number at =
     (buffer answer : List ℕ) →
     entry table buffer answer ≡ record { result = number; buffer = buffer; answer = answered (number ∷ at ∷ []) answer }
 
+-- what the call of an entry that runs a table leaves where it is refused so: its slices as they were
+abbrev pub refusedRun : (number at : ℕ) → Lent → (answer : List ℕ) → Ran
+refusedRun number at lent answer = record { result = number; lent = lent; answer = answered (number ∷ at ∷ []) answer }
+
 -- every entry's call is refused so; all lent memory is unchanged
 abbrev pub AllRefuse : (table : List ℕ) → (number at : ℕ) → Type 0
 AllRefuse table number at =
     Refuses sheetEntry table number at × ((questions : List ℕ) → Refuses (λ t. questionsEntry t questions) table number at) × Refuses hardenEntry table number at
-    × ((lent : Lent) (budget : ℕ) (answer : List ℕ) →
-    runEntry table lent budget answer ≡ record { result = number; lent = lent; answer = answered (number ∷ at ∷ []) answer })
-    × ((directives : List ℕ) (lent : Lent) (budget : ℕ) (answer : List ℕ) →
-    guessEntry table directives lent budget answer ≡ record { result = number; lent = lent; answer = answered (number ∷ at ∷ []) answer })
+    × ((lent : Lent) (budget : ℕ) (answer : List ℕ) → runEntry table lent budget answer ≡ refusedRun number at lent answer)
+    × ((directives : List ℕ) (lent : Lent) (budget : ℕ) (answer : List ℕ) → guessEntry table directives lent budget answer ≡ refusedRun number at lent answer)
+    × ((directives : List ℕ) (lent : Lent) (saves : List ℕ) (budget : ℕ) (answer : List ℕ) →
+    rollbackEntry table directives lent saves budget answer ≡ record { ran = refusedRun number at lent answer; saves = saves })
 
 -- a table's sizes, read off it
 pub sized : (table : List ℕ) → Sized table (leAt 2 table 8) (length table)

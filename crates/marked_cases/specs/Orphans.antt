@@ -29,4 +29,11 @@ elevenOrphans =
 -- every entry refuses it by 6 at the record of node 1, the lowest-numbered orphan
 pub first-of-eleven : AllRefuse elevenOrphans 6 24
 unfolding opened
-first-of-eleven = (λ buffer answer. refl, λ questions buffer answer. refl, λ buffer answer. refl, λ lent budget answer. refl, λ directives lent budget answer. refl)
+first-of-eleven = (
+  λ buffer answer. refl,
+  λ questions buffer answer. refl,
+  λ buffer answer. refl,
+  λ lent budget answer. refl,
+  λ directives lent budget answer. refl,
+  λ directives lent saves budget answer. refl,
+)

@@ -9,7 +9,14 @@ use Rattle.marked_cases.specs.Claims.{HardensTo, Refuses, AllRefuse, wri
 -- P: no bytes are refused by 1 at 0, by each entry; all lent memory is unchanged
 pub no-bytes : AllRefuse [] 1 0
 unfolding opened
-no-bytes = (λ buffer answer. refl, λ questions buffer answer. refl, λ buffer answer. refl, λ lent budget answer. refl, λ directives lent budget answer. refl)
+no-bytes = (
+  λ buffer answer. refl,
+  λ questions buffer answer. refl,
+  λ buffer answer. refl,
+  λ lent budget answer. refl,
+  λ directives lent budget answer. refl,
+  λ directives lent saves budget answer. refl,
+)
 
 -- `skip`, 31 variables
 abbrev pub skip31 : List ℕ

@@ -15,12 +15,15 @@ use Rattle.awhile.specs.WellFormed.{WellFormed, Within}
 use Rattle.awhile.proofs.Accepted.{accepted-well-formed}
 use Rattle.awhile.proofs.Ranges.{root-within}
 use Rattle.labels.specs.Sheet.{annotated}
+use Rattle.machine.specs.Runs.{Guide, guessing, rolling}
+use Rattle.machine.specs.declared.Directive.{Directive}
 use Rattle.masks.specs.Decisions.{Decision, decide}
 use Rattle.masks.specs.Covering.{Covers}
 use Rattle.masks.specs.Hardening.{Origin, harden, hardenedProgram, tableOfHardened, hardenedTable}
 use Rattle.masks.specs.SameRun.{AssignsBelow, plainRun, SameRun}
 use Rattle.masks.specs.Growth.{MasksLargeConditions}
 use Rattle.masks.specs.ReadBack.{originIn, ReadsBack}
+use Rattle.masks.specs.Security.{ShowsTheSame}
 use Rattle.masks.specs.Demands.{Demands}
 use Rattle.masks.proofs.Decisions.{programFor, program-decided, decide-covers, assigns-below}
 use Rattle.masks.proofs.Growth.{decide-large}
@@ -52,6 +55,9 @@ module _ (t : Table) (w : WellFormed t) (small : length (t .nodes) ≤ 512) (fre
     originals : mapNotes (originIn program′) (rootOf table′) ≡ program′
     originals = ap (mapNotes (originIn program′)) (back .root) ∙ origins-kept program′
 
+    same-shown : (board : List Directive → Guide) → ShowsTheSame board (t .labels) t table′
+    same-shown board = secure-by t d program below board (t .labels) table′ (originIn program′) (back .counts) originals covers
+
     -- the demands hold for all decisions that cover the labels and mask no condition of fewer than three nodes
     pub demands-by : Demands t program′ (tableBytes table′)
     demands-by =
@@ -80,7 +86,8 @@ module _ (t : Table) (w : WellFormed t) (small : length (t .nodes) ≤ 512) (fre
               originals
               below
               width));
-          secure = secure-by t d program below (t .labels) table′ (originIn program′) (back .counts) originals covers;
+          secure = same-shown guessing;
+          secureRolling = same-shown rolling;
         }
 
   -- the demands hold for the decisions that the labels give

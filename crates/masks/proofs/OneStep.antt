@@ -19,7 +19,6 @@ use Rattle.labels.proofs.Values.{public-value}
 use Rattle.machine.specs.Observations.{branch, readAt, writeAt}
 use Rattle.machine.specs.Look.{quiet, fork, get, put, look}
 use Rattle.machine.specs.Steps.{State, inside, cellPlace, quietly, turned, loaded, stored}
-use Rattle.machine.specs.Runs.{plain}
 use Rattle.machine.proofs.PlainRuns.{stateOf, PlainRelated, plain-after, plain-shows, turn-quiet, turn-fork, turn-get, turn-put}
 use Rattle.machine.proofs.Closed.{Alike, quiet-alike, fork-alike, get-alike, put-alike, get-out-left, get-out-right, put-out-left, put-out-right}
 use Rattle.machine.proofs.Closed.{OneStep, over-alike, next-alike, Closed}
@@ -50,7 +49,7 @@ module _ {counts : List ℕ} where
   besides-quiet c rest p vs ws vs′ ws′ cs ds e₁ e₂ guessed = guessed
   besides-quiet c rest p vs ws vs′ ws′ cs ds e₁ e₂ (straight arrays lengths plainly) =
       straight arrays lengths
-      (plain-after counts _ _ plainly [] _ _ (turn-quiet counts c rest p vs vs′ cs false plain e₁) (turn-quiet counts c rest p ws ws′ ds false plain e₂))
+      (plain-after counts _ _ plainly [] _ _ (turn-quiet counts c rest p vs vs′ cs false e₁) (turn-quiet counts c rest p ws ws′ ds false e₂))
 
 module _ (counts : List ℕ) (f : ℕ) where
   -- ---- added updates of the flag variable

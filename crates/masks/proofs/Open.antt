@@ -4,9 +4,9 @@ use Rattle.machine.proofs.Open.{opened as opened-machine}
 use Rattle.masks.specs.Decisions.{decide}
 use Rattle.masks.specs.Hardening.{maskedCondition, zeroIfGuessing, maskedIndex, flagIfTrue, flagIfFalse, maskValueOf, harden, hardenedProgram, tableOfHardened, hardenedTable}
 use Rattle.masks.specs.SameRun.{plainRun, nextNote}
-use Rattle.masks.specs.Security.{plainlyShown, guessingShown}
+use Rattle.masks.specs.Security.{shownOn, plainlyShown}
 use Rattle.masks.specs.ReadBack.{origins, originIn}
 
 unfoldable pub opened : Unit {0}
-unfolding opened-labels opened-machine decide maskedCondition zeroIfGuessing maskedIndex flagIfTrue flagIfFalse maskValueOf harden hardenedProgram tableOfHardened hardenedTable plainRun nextNote plainlyShown guessingShown origins originIn
+unfolding opened-labels opened-machine decide maskedCondition zeroIfGuessing maskedIndex flagIfTrue flagIfFalse maskValueOf harden hardenedProgram tableOfHardened hardenedTable plainRun nextNote shownOn plainlyShown origins originIn
 opened = tt

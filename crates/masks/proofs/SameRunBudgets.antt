@@ -8,9 +8,9 @@ use lib.ListN.{length, getD, length-set}
 use Rattle.awhile.specs.Language.{Com, noteOf}
 use Rattle.machine.specs.Observations.{Observation, readAt, writeAt}
 use Rattle.machine.specs.Look.{Look, quiet, look}
-use Rattle.machine.specs.Steps.{State, inside, cellPlace, onlyIf, quietly, turned, loaded, stored, atFork, atGet, atPut}
+use Rattle.machine.specs.Steps.{State, inside, cellPlace, onlyIf, quietly, turned, loaded, stored, onward, atFork, atGet, atPut}
 use Rattle.machine.specs.Runs.{endless, holds, plain, Machine, Next, over, goes, Outcome}
-use Rattle.machine.specs.Runs.{moved, shownIf, shownStep, stepOf, nextOf, next, endNumber, endWithout, run}
+use Rattle.machine.specs.Runs.{rollbackNext, moved, ifRoom, stacked, stackedIf, shownIf, shownStep, stepOf, nextOf, nextBy, next, endNumber, endWithout, run}
 use Rattle.machine.specs.declared.End.{End}
 use Rattle.machine.specs.declared.End.the-variants.{Finished, Spent, Stuck}
 use Rattle.machine.proofs.Runs.{run-over, run-goes, ends-differ}
@@ -38,7 +38,7 @@ itself n = n
 -- a machine that does not guess, between two steps
 abbrev pub plainAt : {Note : Type 0} → List (Com Note) → (variables cells : List ℕ) → (steps used : ℕ) → List Observation → Machine Note
 plainAt cs vs cells k u os =
-    record { state = record { pending = cs; variables = vs; cells = cells; flag = false }; guide = plain; steps = k; used = u; shown = os }
+    record { state = record { pending = cs; variables = vs; cells = cells; flag = false }; saves = []; guide = plain; steps = k; used = u; shown = os }
 
 -- the original and the hardened program at corresponding places, perhaps with added commands before the next copy
 pub data Meets (f : ℕ) : Machine Decision → Machine Origin → Type 0 where
@@ -66,9 +66,9 @@ next-is-copy c cs h hs note = record { node = noteOf c .node; next = ap some (no
 -- a read or write happens in both, or both stick
 shown-copied :
     (f : ℕ) (m : Machine Decision) (h : Machine Origin) → NextIsCopy itself (numbers (m .state .pending)) (h .state .pending) → (o : Observation)
-    (fits : Bool) (s : State Decision) (s′ : State Origin) → Meets f (moved m s plain 0 (o ∷ [])) (moved h s′ plain 0 (o ∷ []))
-    → NextCopied f m h (shownIf endless m o plain 0 (onlyIf fits s)) (shownIf endless h o plain 0 (onlyIf fits s′))
-unfolding shownIf onlyIf holds
+    (fits : Bool) (s : State Decision) (s′ : State Origin) → Meets f (moved m s (m .saves) plain 0 (o ∷ [])) (moved h s′ (h .saves) plain 0 (o ∷ []))
+    → NextCopied f m h (shownIf endless m o plain 0 (onlyIf fits (onward s))) (shownIf endless h o plain 0 (onlyIf fits (onward s′)))
+unfolding shownIf stacked stackedIf ifRoom onlyIf onward holds
 shown-copied f m h copy o true s s′ meet = both-go meet
 shown-copied f m h copy o false s s′ meet = both-over (λ e. copy)
 
@@ -77,7 +77,7 @@ next-added :
     (counts : List ℕ) (h : Com Origin) (hs hs′ : List (Com Origin)) (vs cells : List ℕ) (k u : ℕ) (os : List Observation)
     → look h hs vs ≡ quiet hs′ vs
     → next counts endless (plainAt (h ∷ hs) vs cells k u os) ≡ goes (plainAt hs′ vs cells (k + 1) (u + 0) os)
-unfolding next nextOf stepOf quietly moved
+unfolding next rollbackNext nextBy nextOf stepOf quietly moved
 next-added counts h hs hs′ vs cells k u os e = rw (e, stepOf, append-nil)
 
 module _ (f : ℕ) (counts vs cells : List ℕ) (k u k′ u′ : ℕ) (os : List Observation) (width : length vs ≡ f) where
@@ -91,7 +91,7 @@ module _ (f : ℕ) (counts vs cells : List ℕ) (k u k′ u′ : ℕ) (os : List
       (plainAt hs (withFlag vs) cells k′ u′ os)
       (stepOf counts endless (plainAt cs vs cells k u os) l)
       (stepOf counts endless (plainAt hs (withFlag vs) cells k′ u′ os) l′)
-  unfolding stepOf moved quietly shownStep shownIf holds atFork turned atGet atPut onlyIf loaded stored
+  unfolding stepOf moved quietly shownStep shownIf stacked stackedIf ifRoom holds atFork turned atGet atPut onlyIf onward loaded stored
   step-copied cs hs copy (quiets e width′ s) = rw e (both-go (meets-copies width′ s))
   step-copied cs hs copy (forks e s) = rw e (both-go (meets-copies width s))
   step-copied cs hs copy (gets {x} {a} {i} e below s) =
@@ -110,7 +110,7 @@ module _ (f : ℕ) (counts vs cells : List ℕ) (k u k′ u′ : ℕ) (os : List
       (plainAt hs (withFlag vs) cells k′ u′ os)
       (next counts endless (plainAt cs vs cells k u os))
       (next counts endless (plainAt hs (withFlag vs) cells k′ u′ os))
-  unfolding next nextOf endNumber
+  unfolding next rollbackNext nextBy nextOf endNumber
   ready-copied nothing = both-over (λ e. absurd (ends-differ Finished Stuck refl e))
   ready-copied (copied {c} {cs} {h} {hs} note l) = step-copied (c ∷ cs) (h ∷ hs) (next-is-copy c cs h hs note) l
 
@@ -164,7 +164,7 @@ module _ (f : ℕ) (counts : List ℕ) where
       (vs cells : List ℕ) (k u k′ u′ : ℕ) (os : List Observation) → length vs ≡ f
       → {cs : List (Com Decision)} {hs : List (Com Origin)} → Ready f vs cs hs
       → Leads f (numbered (run counts endless 0 (plainAt cs vs cells k u os))) (run counts endless 0 (plainAt hs (withFlag vs) cells k′ u′ os))
-  unfolding run endWithout endNumber numbered numbers mapOutcome mapMachine mapState
+  unfolding run rollbackNext endWithout endNumber numbered numbers mapOutcome mapMachine mapState
   leads-zero vs cells k u k′ u′ os width nothing =
       record {
         paired = paired-meets _ _ (meets width (now nothing));
@@ -222,7 +222,7 @@ module _ (f : ℕ) (counts : List ℕ) where
 
   -- for each budget of the hardened program there is one of the original with a corresponding outcome
   pub follow : (n : ℕ) {m : Machine Decision} {h : Machine Origin} → Meets f m h → Followed f counts n m h
-  unfolding run endWithout
+  unfolding run rollbackNext endWithout
   follow zero (meets width (soon e s)) =
       record { budget = 0; holds = record { paired = paired-meets _ _ (meets width (soon e s)); ended = λ uncut. absurd (uncut refl) } }
   follow zero (meets {vs} {cells} {k} {u} {k′} {u′} {os} width (now r)) =

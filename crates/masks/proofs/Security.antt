@@ -1,4 +1,4 @@
--- Demand 3 for the hardened program of any decisions that cover the labels.
+-- Demand 3 for the hardened program of any decisions that cover the labels, on any board that takes a list of directives.
 use Prim.Native.Nat.{ℕ, _+_}
 use native.Mathlib.Omega.{arith}
 use mathlib.Core.Bool.{false}
@@ -11,19 +11,21 @@ use Rattle.awhile.specs.Trees.{rootOf}
 use Rattle.awhile.specs.declared.Labelling.{Labelling}
 use Rattle.labels.proofs.Order.{⊑-refl}
 use Rattle.machine.specs.Steps.{State}
-use Rattle.machine.specs.Runs.{Guide, plain, guessing, run, started}
+use Rattle.machine.specs.Runs.{Guide, run, started}
 use Rattle.machine.specs.Prefixes.{OneBegins}
+use Rattle.machine.specs.declared.Directive.{Directive}
 use Rattle.machine.proofs.Notes.{mapPending, mapState}
 use Rattle.machine.proofs.Prefixes.{beginnings-related}
 use Rattle.machine.proofs.Traces.{run-shows}
 use Rattle.machine.proofs.PlainRuns.{stateOf, PlainRelated}
 use Rattle.machine.proofs.Pulled.{Pulled, pulled-closed}
+use Rattle.machine.proofs.Closed.{neither}
 use Rattle.machine.proofs.Lockstep.{Abreast, abreast, runs-begin}
 use Rattle.masks.specs.Decisions.{Decision}
 use Rattle.masks.specs.Covering.{Covers}
 use Rattle.masks.specs.Hardening.{Origin, harden}
 use Rattle.masks.specs.SameRun.{AssignsBelow, SameRun, plainRun}
-use Rattle.masks.specs.Security.{plainlyShown, guessingShown, AgreeingStates, ShowsTheSame}
+use Rattle.masks.specs.Security.{plainlyShown, shownOn, AgreeingStates, ShowsTheSame}
 use Rattle.masks.proofs.Decisions.{programFor}
 use Rattle.masks.proofs.SameRunSteps.{withFlag, get-withFlag, flag-zero}
 use Rattle.masks.proofs.SameRunBudgets.{itself}
@@ -57,12 +59,12 @@ module _ (t : Table) (d : Com Decision) (program : programFor d ≡ rootOf t) (b
 
     -- the hardened program's plain runs are related because the original's are
     start-related : PlainRelated (t .counts) (startOf vs cs) (startOf ws ds)
-    unfolding plainlyShown plainRun started
+    unfolding plainlyShown shownOn plainRun started
     start-related =
         record {
           at = λ n m.
-              subst₂ OneBegins (run-shows (t .counts) n (started (harden (t .variables) d) (withFlag vs) cs plain))
-              (run-shows (t .counts) m (started (harden (t .variables) d) (withFlag ws) ds plain))
+              subst₂ OneBegins (run-shows (t .counts) n (startOf vs cs) [] 0 0 [])
+              (run-shows (t .counts) m (startOf ws ds) [] 0 0 [])
               (beginnings-related (same-from vs cs (a .leftVariables) .begins n .holds) (same-from ws ds (a .rightVariables) .begins m .holds) (plainly _ _));
         }
 
@@ -74,11 +76,11 @@ module _ (t : Table) (d : Com Decision) (program : programFor d ≡ rootOf t) (b
         (straight (a .onArrays) (a .leftCells ∙ sym (a .rightCells)) start-related)
 
     -- so are the machines that start on a table whose program is the hardened one but for its notes: abreast, with one pending list, on any board
-    start-abreast : Covers d false l → (c : Com ℕ) (g : ℕ → Origin) → mapNotes g c ≡ harden (t .variables) d → (board : Guide)
-        → Abreast (Pulled g (t .counts) (Locked (t .counts) (t .variables))) (started c (withFlag vs) cs board) (started c (withFlag ws) ds board)
+    start-abreast : Covers d false l → (c : Com ℕ) (g : ℕ → Origin) → mapNotes g c ≡ harden (t .variables) d → (guide : Guide)
+        → Abreast (Pulled g (t .counts) (Locked (t .counts) (t .variables))) (started c (withFlag vs) cs guide) (started c (withFlag ws) ds guide)
     unfolding started mapState mapPending
-    start-abreast covers c g same board =
-        abreast (stateOf (c ∷ []) (withFlag vs) cs false) (stateOf (c ∷ []) (withFlag ws) ds false) board 0 0 []
+    start-abreast covers c g same guide =
+        abreast (stateOf (c ∷ []) (withFlag vs) cs false) (stateOf (c ∷ []) (withFlag ws) ds false) [] [] guide 0 0 []
         (record {
           same = refl;
           related =
@@ -86,18 +88,19 @@ module _ (t : Table) (d : Com Decision) (program : programFor d ≡ rootOf t) (b
               (sym same)
               (start-locked covers);
         })
+        neither
 
   -- DEMAND 3 for any table whose program is the hardened one but for its notes, for all decisions that cover the labels
-  pub secure-by : (l : Labelling) (hardened : Table) (g : ℕ → Origin) → hardened .counts ≡ t .counts → mapNotes g (rootOf hardened) ≡ harden (t .variables) d
-      → Covers d false l → ShowsTheSame l t hardened
-  unfolding guessingShown
-  secure-by l hardened g counts same covers =
+  pub secure-by : (board : List Directive → Guide) (l : Labelling) (hardened : Table) (g : ℕ → Origin)
+      → hardened .counts ≡ t .counts → mapNotes g (rootOf hardened) ≡ harden (t .variables) d → Covers d false l → ShowsTheSame board l t hardened
+  unfolding shownOn
+  secure-by board l hardened g counts same covers =
       record {
         related = λ vs cs ws ds a plainly directives n m room other.
-            let left = started (rootOf hardened) (withFlag vs) cs (guessing directives) in
-            let right = started (rootOf hardened) (withFlag ws) ds (guessing directives) in
+            let left = started (rootOf hardened) (withFlag vs) cs (board directives) in
+            let right = started (rootOf hardened) (withFlag ws) ds (board directives) in
             subst (λ (k : List ℕ). OneBegins (run k room n left .machine .shown) (run k other m right .machine .shown)) (sym counts)
             (runs-begin (t .counts) (Pulled g (t .counts) (Locked (t .counts) (t .variables)))
             (pulled-closed g (t .counts) (Locked (t .counts) (t .variables)) (locked-closed (t .counts) (t .variables))) n m room other left right
-            (start-abreast l vs cs ws ds a plainly covers (rootOf hardened) g same (guessing directives)));
+            (start-abreast l vs cs ws ds a plainly covers (rootOf hardened) g same (board directives)));
       }

@@ -6,6 +6,7 @@ use lib.ListN.{length}
 use Rattle.awhile.specs.Language.{Com}
 use Rattle.awhile.specs.Tables.{Table, headerOf, nodesStart}
 use Rattle.awhile.specs.Trees.{rootOf}
+use Rattle.machine.specs.Runs.{guessing, rolling}
 use Rattle.masks.specs.Hardening.{Origin}
 use Rattle.masks.specs.ReadBack.{originIn, ReadsBack}
 use Rattle.masks.specs.SameRun.{plainRun, SameRun}
@@ -28,4 +29,6 @@ pub record Demands (original : Table) (program : Com Origin) (out : List ℕ) : 
       (plainRun (original .counts) (rootOf original) vs cells)
       (plainRun (hardened .counts) (rootOf hardened) (vs ++ (0 ∷ [])) cells)
   -- Demand 3: the hardened table's program shows the same from two states, whatever the attacker picks.
-  pub secure : ShowsTheSame (original .labels) original hardened
+  pub secure : ShowsTheSame guessing (original .labels) original hardened
+  -- P5: "A user of this machine gets from a hardened program what demand 3 gives on the forward one."
+  pub secureRolling : ShowsTheSame rolling (original .labels) original hardened

@@ -1,2 +1,4 @@
--- Laws of this crate.
+-- Laws for the running entries.
+pub mod RightLengths
 pub mod Runs
+pub mod Promises

@@ -1,2 +1,3 @@
--- What the code of the two entries that run a table answers and leaves.
+-- What the inner functions of the running entries answer and leave.
+pub mod Lengths
 pub mod Runs

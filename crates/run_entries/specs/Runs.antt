@@ -3,20 +3,24 @@ use Prim.Native.Nat.{ℕ}
 use mathlib.Core.Bool.{cond}
 use mathlib.Core.List.{List, [], _∷_}
 use mathlib.Core.Path.{_≡_}
+use lib.ListN.{length}
 use Rattle.awhile.specs.Refusals.{Answer, refused, got, check, andThen, refusalNumber}
 use Rattle.awhile.specs.Tables.{Table, readTable}
 use Rattle.reader.specs.Index.{tableOf}
 use Rattle.machine.specs.declared.Board.{Board}
+use Rattle.machine.specs.declared.Board.the-variants.{Rolling}
 use Rattle.awhile.specs.declared.Refusal.{Refusal}
 use Rattle.awhile.specs.declared.Refusal.the-variants.{BadDirectives}
-use Rattle.machine.specs.Directives.{readDirectives}
-use Rattle.directives.specs.Listed.{isSome}
+use Rattle.directives.specs.Listed.{isSome, readOn}
 use Rattle.machine.specs.Runs.{endNumber}
+use Rattle.machine.specs.Memory.{savesAfter}
 use Rattle.directives.specs.Guiding.{guideOf}
 use Rattle.interpreter.specs.Running.{reportOf}
 use Rattle.interpreter.specs.declared.run.Report.{Report}
 use Rattle.entries.specs.Answers.{refusalNumbers}
-use Rattle.entries.specs.Running.{Lent, lentFor, runIn, ranAll}
+use Rattle.entries.specs.Running.{Lent, runIn, ranAll}
+use Rattle.entries.specs.Rolling.{saveSize}
+use Rattle.run_entries.specs.Lengths.{fitFor}
 use Rattle.run_entries.specs.declared.machines.Done.{Done}
 use Rattle.run_entries.specs.declared.machines.Done.the-variants.{Refused, Ended}
 
@@ -33,20 +37,21 @@ abbrev pub numbersOf : Done → List ℕ
 numbersOf (Refused r) = refusalNumbers r
 numbersOf (Ended r) = 0 ∷ reportNumbers r
 
--- 10, then 20 to 22: a directive list that reads, and slices of the right lengths. The plain machine has an empty list
-unfoldable pub runnable : (directives : List ℕ) → Lent → Table → Answer Table
-runnable list lent t = check (isSome (readDirectives list)) BadDirectives (lentFor lent t)
+-- 10, then 20 to 24: a directive list that reads on the board, and slices of the right lengths. The plain machine has an empty list
+unfoldable pub runnable : Board → (directives : List ℕ) → Lent → (saves : List ℕ) → Table → Answer Table
+runnable board list lent saves t = check (isSome (readOn board list)) BadDirectives (fitFor board lent saves t)
 
--- what a call on an answer of the reader came to: the lent slices at exit
-pub data CameTo (a : Answer Table) (list : List ℕ) (board : Board) (budget : ℕ) (lent lent′ : Lent) : Done → Type 0 where
-  not-run : (r : Refusal) → a ≡ refused r → lent′ ≡ lent → CameTo a list board budget lent lent′ (Refused r)
+-- what a call on an answer of the reader came to: the lent slices at exit, the save words on the board that rolls back
+pub data CameTo (a : Answer Table) (list : List ℕ) (board : Board) (budget : ℕ) (lent : Lent) (ss : List ℕ) (lent′ : Lent) (ss′ : List ℕ) : Done → Type 0 where
+  not-run : (r : Refusal) → a ≡ refused r → lent′ ≡ lent → ss′ ≡ ss → CameTo a list board budget lent ss lent′ ss′ (Refused r)
   has-run : (t : Table) (r : Report) → a ≡ got t → lent′ ≡ ranAll t lent [] (runIn t lent budget (guideOf board list 0)) .lent
-      → r ≡ reportOf (runIn t lent budget (guideOf board list 0)) → CameTo a list board budget lent lent′ (Ended r)
+      → (board ≡ Rolling → ss′ ≡ savesAfter (length (t .nodes)) (saveSize t) (runIn t lent budget (guideOf board list 0) .machine .saves) ss)
+      → r ≡ reportOf (runIn t lent budget (guideOf board list 0)) → CameTo a list board budget lent ss lent′ ss′ (Ended r)
 
 -- for a table that was read
-pub record DoneAs (table list : List ℕ) (board : Board) (budget : ℕ) (lent lent′ : Lent) (done : Done) : Type 0 where
-  pub came : CameTo (runnable list lent (tableOf table)) list board budget lent lent′ done
+pub record DoneAs (table list : List ℕ) (board : Board) (budget : ℕ) (lent : Lent) (ss : List ℕ) (lent′ : Lent) (ss′ : List ℕ) (done : Done) : Type 0 where
+  pub came : CameTo (runnable board list lent ss (tableOf table)) list board budget lent ss lent′ ss′ done
 
 -- for any table
-pub record ReadDone (table list : List ℕ) (board : Board) (budget : ℕ) (lent lent′ : Lent) (done : Done) : Type 0 where
-  pub came : CameTo (andThen (readTable table) (runnable list lent)) list board budget lent lent′ done
+pub record ReadDone (table list : List ℕ) (board : Board) (budget : ℕ) (lent : Lent) (ss : List ℕ) (lent′ : Lent) (ss′ : List ℕ) (done : Done) : Type 0 where
+  pub came : CameTo (andThen (readTable table) (runnable board list lent ss)) list board budget lent ss lent′ ss′ done

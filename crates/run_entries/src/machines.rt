@@ -1,4 +1,6 @@
-// Runs of a table, on the plain machine and on the guessing one.
+// Runs of a table: on the plain machine, on the guessing one and on the one that rolls back.
+use crate::lengths::Lengths;
+use crate::lengths::lengths_for;
 use answers::slice::answer_refusal;
 use answers::slice::answer_run;
 use awhile::Declarations;
@@ -17,7 +19,7 @@ ghost use Rattle.machine.specs.Runs.{endNumber};
 ghost use Rattle.reader.specs.Index.{Ready};
 ghost use Rattle.entries.specs.Answers.{answered};
 ghost use Rattle.run_entries.specs.Runs.{resultOf, numbersOf, DoneAs, ReadDone};
-ghost use Rattle.entries.specs.Promises.{lentAt, Runs, Guesses};
+ghost use Rattle.entries.specs.Promises.{lentAt, Runs, Guesses, RollsBack};
 
 // What a call that runs came to.
 pub enum Done {
@@ -78,48 +80,47 @@ fn run_read(
     variables: &mut [u8],
     cells: &mut [u8],
     pending: &mut [u8],
+    saves: &mut [u8],
     observations: &mut [u8],
     budget: u32,
 ) -> Done
     requires { ⌜ Ready (now table) (now index) declared ⌝ }
     ensures { λ r. ⌜ DoneAs (now (table .entry)) (now (directives .entry)) board budget
-        (lentAt (now (variables .entry)) (now (cells .entry)) (now (pending .entry)) (now (observations .entry)))
-        (lentAt (now (variables .exit)) (now (cells .exit)) (now (pending .exit)) (now (observations .exit))) r ⌝ }
+        (lentAt (now (variables .entry)) (now (cells .entry)) (now (pending .entry)) (now (observations .entry))) (now (saves .entry))
+        (lentAt (now (variables .exit)) (now (cells .exit)) (now (pending .exit)) (now (observations .exit))) (now (saves .exit)) r ⌝ }
 {
-    let header = declared.header;
-    if !reads(directives) {
+    if !reads(directives, board) {
         return Done::Refused {
             refusal: Refusal::BadDirectives,
         };
     }
-    if variables.len() != 4 * header.variables {
-        return Done::Refused {
-            refusal: Refusal::WrongVariables,
-        };
-    }
-    if cells.len() != 4 * declared.cells {
-        return Done::Refused {
-            refusal: Refusal::WrongCells,
-        };
-    }
-    if pending.len() < 4 * header.nodes {
-        return Done::Refused {
-            refusal: Refusal::ShortPending,
-        };
-    }
-    let report = run(
-        table,
-        index,
-        header,
-        directives,
+    let lengths = lengths_for(
+        declared,
         board,
-        &mut *variables,
-        &mut *cells,
-        &mut *pending,
-        &mut *observations,
-        budget,
+        variables.len(),
+        cells.len(),
+        pending.len(),
+        saves.len(),
     );
-    Done::Ended { report }
+    match lengths {
+        Lengths::Wrong { refusal } => Done::Refused { refusal },
+        Lengths::Right => {
+            let report = run(
+                table,
+                index,
+                declared.header,
+                directives,
+                board,
+                &mut *variables,
+                &mut *cells,
+                &mut *pending,
+                &mut *saves,
+                &mut *observations,
+                budget,
+            );
+            Done::Ended { report }
+        }
+    }
 }
 
 // Reads a table and runs it.
@@ -130,12 +131,13 @@ fn read_and_run(
     variables: &mut [u8],
     cells: &mut [u8],
     pending: &mut [u8],
+    saves: &mut [u8],
     observations: &mut [u8],
     budget: u32,
 ) -> Done
     ensures { λ r. ⌜ ReadDone (now (table .entry)) (now (directives .entry)) board budget
-        (lentAt (now (variables .entry)) (now (cells .entry)) (now (pending .entry)) (now (observations .entry)))
-        (lentAt (now (variables .exit)) (now (cells .exit)) (now (pending .exit)) (now (observations .exit))) r ⌝ }
+        (lentAt (now (variables .entry)) (now (cells .entry)) (now (pending .entry)) (now (observations .entry))) (now (saves .entry))
+        (lentAt (now (variables .exit)) (now (cells .exit)) (now (pending .exit)) (now (observations .exit))) (now (saves .exit)) r ⌝ }
 {
     let mut index = [0u16; MAX_NODES];
     let found = read(table, &mut index);
@@ -150,6 +152,7 @@ fn read_and_run(
             &mut *variables,
             &mut *cells,
             &mut *pending,
+            &mut *saves,
             &mut *observations,
             budget,
         ),
@@ -170,8 +173,9 @@ pub fn run_plain(
         (lentAt (now (variables .entry)) (now (cells .entry)) (now (pending .entry)) (now (observations .entry))) budget (now (answer .entry)) r
         (lentAt (now (variables .exit)) (now (cells .exit)) (now (pending .exit)) (now (observations .exit))) (now (answer .exit)) ⌝ }
 {
-    // the plain machine asks for no directives
+    // the plain machine asks for no directives and saves nothing
     let none = &table[..0];
+    let mut unused = [0u8; 1];
     let done = read_and_run(
         table,
         none,
@@ -179,6 +183,7 @@ pub fn run_plain(
         &mut *variables,
         &mut *cells,
         &mut *pending,
+        &mut unused,
         &mut *observations,
         budget,
     );
@@ -200,6 +205,7 @@ pub fn run_guessing(
         (lentAt (now (variables .entry)) (now (cells .entry)) (now (pending .entry)) (now (observations .entry))) budget (now (answer .entry)) r
         (lentAt (now (variables .exit)) (now (cells .exit)) (now (pending .exit)) (now (observations .exit))) (now (answer .exit)) ⌝ }
 {
+    let mut unused = [0u8; 1];
     let done = read_and_run(
         table,
         directives,
@@ -207,6 +213,37 @@ pub fn run_guessing(
         &mut *variables,
         &mut *cells,
         &mut *pending,
+        &mut unused,
+        &mut *observations,
+        budget,
+    );
+    answer_done(&mut *answer, done)
+}
+
+// Runs a table on the machine that rolls back, under a list of directives.
+pub fn run_rolling(
+    table: &[u8],
+    directives: &[u8],
+    variables: &mut [u8],
+    cells: &mut [u8],
+    pending: &mut [u8],
+    saves: &mut [u8],
+    observations: &mut [u8],
+    budget: u32,
+    answer: &mut [u8],
+) -> u64
+    ensures { λ r. ⌜ RollsBack (now (table .entry)) (now (directives .entry))
+        (lentAt (now (variables .entry)) (now (cells .entry)) (now (pending .entry)) (now (observations .entry))) (now (saves .entry)) budget (now (answer .entry)) r
+        (lentAt (now (variables .exit)) (now (cells .exit)) (now (pending .exit)) (now (observations .exit))) (now (saves .exit)) (now (answer .exit)) ⌝ }
+{
+    let done = read_and_run(
+        table,
+        directives,
+        Board::Rolling,
+        &mut *variables,
+        &mut *cells,
+        &mut *pending,
+        &mut *saves,
         &mut *observations,
         budget,
     );

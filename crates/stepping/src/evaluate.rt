@@ -1,7 +1,7 @@
 // Values of expressions, straight from the table: numbers and truths call each other, and a child's node number is lower. `value` and `truth`
 // leave the parts of a node to functions of their own: only these copy the three slices to hand them on, and a node without parts is quick.
 use awhile::Node;
-use bytes_le::get::u32_at;
+use bytes_le::get::whole_u32;
 use reader::lookup::numeric_at;
 use reader::lookup::truth_at;
 use std::num::wrapping_add_u32;
@@ -70,7 +70,7 @@ pub fn value(table: &[u8], index: &[u16], variables: &[u8], n: usize) -> u32
     let node = numeric_at(table, index, n);
     match node {
         Node::Number { value } => value,
-        Node::Variable { variable } => u32_at(variables, 4 * variable),
+        Node::Variable { variable } => whole_u32(variables, 4 * variable),
         Node::Add { left, right } => {
             let of = both_values(table, index, variables, left, right);
             wrapping_add_u32(of.left, of.right)

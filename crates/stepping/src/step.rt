@@ -1,36 +1,24 @@
 // One step of a board, decided before anything is changed: why it is not taken, or all that it does.
 use crate::action::Action;
 use crate::action::look_at;
+use crate::guess::back_step;
+use crate::guess::force_step;
+use crate::next::Next;
+use crate::next::Seen;
 use crate::state::MachineState;
-use bytes_le::get::u32_at;
+use bytes_le::get::whole_u32;
 use directives::change::Change;
 use directives::change::Shown;
 use directives::fit::Fit;
 use directives::fit::fitting;
 use directives::guide::Guided;
 use directives::guide::guide;
+use directives::guide::rollback_next;
 use machine::Board;
 use machine::End;
+ghost use Prim.Native.Nat.{_≤_};
 ghost use mathlib.Core.Path.{_≡_};
-ghost use Rattle.stepping.specs.Stepping.{memoryAt, shownSize, Between, NextAs};
-
-// What a step shows, if anything.
-pub enum Seen {
-    Nothing,
-    Observed { shown: Shown },
-}
-
-// "nothing of a step happens when the run ends there"
-pub enum Next {
-    Over {
-        end: End,
-    },
-    Goes {
-        change: Change,
-        seen: Seen,
-        state: MachineState,
-    },
-}
+ghost use Rattle.stepping.specs.Stepping.{memoryAt, shownSize, Steppable, showStep, Between, NextAs};
 
 // The length of an observation's record.
 fn bytes_of(shown: Shown) -> usize
@@ -55,6 +43,29 @@ fn bytes_of(shown: Shown) -> usize
     }
 }
 
+// A shown step that fits, if its observation has room.
+fn show_step(
+    room: usize,
+    state: MachineState,
+    shown: Shown,
+    change: Change,
+    used: u32,
+    size: usize,
+) -> Next
+    requires { ⌜ Steppable state used size 0 × (state .shown ≤ room) ⌝ }
+    ensures { λ r. ⌜ r ≡ showStep room state shown change used size ⌝ }
+{
+    let bytes = bytes_of(shown);
+    if room - state.shown < bytes {
+        return Next::Over { end: End::Full };
+    }
+    Next::Goes {
+        change,
+        seen: Seen::Observed { shown },
+        state: state.stepped(change, state.flag, state.saved, used, size, bytes),
+    }
+}
+
 // The next step of a board. The five ends are checked in their order.
 pub fn next_step(
     table: &[u8],
@@ -73,6 +84,9 @@ pub fn next_step(
     ensures { λ r. ⌜ NextAs (now (table .entry)) (now (directives .entry)) board budget room state
         (memoryAt (now (variables .entry)) (now (cells .entry)) (now (pending .entry))) r ⌝ }
 {
+    if rollback_next(directives, board, state.at) {
+        return back_step(room, budget, state);
+    }
     let count = state.pending;
     if count == 0 {
         return Next::Over { end: End::Finished };
@@ -80,7 +94,7 @@ pub fn next_step(
     if budget <= state.steps {
         return Next::Over { end: End::Spent };
     }
-    let n = u32_at(pending, 4 * (count - 1)) as usize;
+    let n = whole_u32(pending, 4 * (count - 1)) as usize;
     let action = look_at(table, index, variables, n);
     match action {
         Action::Quiet { change } => Next::Goes {
@@ -99,18 +113,15 @@ pub fn next_step(
                     end: End::OutOfDirectives,
                 };
             };
-            let Fit::Goes { change, flag } = fitting(starts, cells, state.flag, shown, directive)
-            else {
-                return Next::Over { end: End::Stuck };
-            };
-            let bytes = bytes_of(shown);
-            if room - state.shown < bytes {
-                return Next::Over { end: End::Full };
-            }
-            Next::Goes {
-                change,
-                seen: Seen::Observed { shown },
-                state: state.stepped(change, flag, used, size, bytes),
+            let fit = fitting(starts, cells, state.flag, shown, directive);
+            match fit {
+                Fit::Unfit => Next::Over { end: End::Stuck },
+                Fit::Forced {
+                    value,
+                    right,
+                    wrong,
+                } => force_step(board, room, state, shown, value, right, wrong, used, size),
+                Fit::Goes { change } => show_step(room, state, shown, change, used, size),
             }
         }
     }

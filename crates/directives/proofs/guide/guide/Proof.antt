@@ -1,5 +1,6 @@
--- `guide` gives a step as the program has it on the plain board, and what the list has on the guessing one.
-use Rattle.directives.proofs.Guides.{goes-plainly}
+-- `guide` gives a step as the program has it on the plain board, and what the list has on the others.
+use Rattle.directives.proofs.Guides.{goes-plainly, guided-elsewhere}
+use denote.Ref.{now}
 use borrow.Author.Needs.{needs}
 use Rattle.directives.proofs.guide.guide.Statement.{statement}
 use Rattle.directives.proofs.guide.guide.Tie as tie
@@ -9,7 +10,6 @@ guide-spec =
     tie.close
     (tie.spec
     (λ c. search needs)
-    (λ c. search needs)
-    (λ c. rw (c .enum-told2 .given .1) (goes-plainly _ _ (c .before .before .before .pre)))
     (λ c κs. search needs)
-    (λ c. rw (c .before .enum-told .given .1) (c .next-listed .ensures)))
+    (λ c. let start = c .before .before .before in guided-elsewhere (start .args .board) (now (start .args .list)) (start .args .at) (c .next-listed .result) (c .before .match .keys2) (c .next-listed .ensures))
+    (λ c. rw (c .enum-told .given .1) (goes-plainly _ _ (c .before .before .before .pre))))

@@ -1,13 +1,13 @@
--- `directive_of` decodes each kind as document 01 lists it.
+-- `directive_of` decodes each kind as the documents list it.
 use borrow.Author.Tests.{ne-eqb}
 use Rattle.directives.specs.Listed.{listed}
 use Rattle.machine.specs.Directives.{directiveOf}
 use Rattle.directives.proofs.list.directive_of.Statement.{statement}
 use Rattle.directives.proofs.list.directive_of.Tie as tie
 
-returns-5 : tie.Need-returns-5
+returns-6 : tie.Need-returns-6
 unfolding directiveOf listed
-returns-5 c = simp (ne-eqb _ _ (c .match .rest .0 .0 .0 .1), ne-eqb _ _ (c .match .rest .0 .0 .1), ne-eqb _ _ (c .match .rest .0 .1), ne-eqb _ _ (c .match .rest .1))
+returns-6 c = simp (ne-eqb _ _ (c .match .rest .0 .0 .0 .0 .1), ne-eqb _ _ (c .match .rest .0 .0 .0 .1), ne-eqb _ _ (c .match .rest .0 .0 .1), ne-eqb _ _ (c .match .rest .0 .1), ne-eqb _ _ (c .match .rest .1))
 
 pub directive-of-spec : {M : Type 1} → statement M
 unfolding directiveOf listed
@@ -18,4 +18,5 @@ directive-of-spec =
     (λ c. simp (c .match .keys2))
     (λ c. simp (c .match .keys3))
     (λ c. simp (c .match .keys4))
-    returns-5)
+    (λ c. simp (c .match .keys5))
+    returns-6)

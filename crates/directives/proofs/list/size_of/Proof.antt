@@ -1,4 +1,4 @@
--- `size_of` is the length that document 01 gives each kind of directive.
+-- `size_of` is the length that the documents give each kind of directive.
 use Rattle.machine.specs.Directives.{directiveSize}
 use borrow.Author.Needs.{needs}
 use Rattle.directives.proofs.list.size_of.Statement.{statement}
@@ -9,6 +9,8 @@ unfolding directiveSize
 size-of-spec =
     tie.close
     (tie.spec
+    (λ c. search needs)
+    (λ c. search needs)
     (λ c. search needs)
     (λ c. search needs)
     (λ c. search needs)

@@ -6,7 +6,7 @@ use Rattle.run_entries.proofs.machines.read_and_run.Statement.{statemen
 use Rattle.run_entries.proofs.machines.read_and_run.Tie as tie
 
 returns-2 : tie.Need-returns-2
-returns-2 c = read-done _ _ _ _ _ _ _ _ (reader-ready (c .before .before .before .before .before .before .before .before .before .before .before .before .before .before .before .before .before .before .read .ensures) (c .before .before .before .before .before .before .before .before .before .before .before .before .before .before .before .found2 .given .1) .indexed) (c .before .before .before .before .before .before .before .before .run-read .ensures)
+returns-2 c = read-done _ _ _ _ _ _ _ _ _ _ (reader-ready (c .before .before .before .before .before .before .before .before .before .before .before .before .before .before .before .before .before .before .before .before .before .read .ensures) (c .before .before .before .before .before .before .before .before .before .before .before .before .before .before .before .before .before .before .found2 .given .1) .indexed) (c .before .before .before .before .before .before .before .before .before .before .run-read .ensures)
 
 pub read-and-run-spec : {M : Type 1} → statement M
 read-and-run-spec =
@@ -17,8 +17,9 @@ read-and-run-spec =
     (λ c. search needs)
     (λ c. search needs)
     (λ c. search needs)
-    (λ c κs. reader-ready (c .before .before .before .before .before .before .before .before .before .read .ensures) (c .before .before .before .before .before .before .found2 .given .1))
-    (λ c. read-refused _ _ _ _ _ _ _ _ (c .before .before .before .before .read .ensures) (c .before .found .given .1))
+    (λ c κs. reader-ready (c .before .before .before .before .before .before .before .before .before .before .read .ensures) (c .before .before .before .before .before .before .before .found2 .given .1))
+    (λ c. read-refused _ _ _ _ _ _ _ _ _ (c .before .before .before .before .read .ensures) (c .before .found .given .1))
+    (λ c. search needs)
     (λ c. search needs)
     (λ c. search needs)
     (λ c. search needs)

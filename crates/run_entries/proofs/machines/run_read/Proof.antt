@@ -1,42 +1,33 @@
--- `run_read` makes the tests 10 and 20 to 22 in their order, and runs what passes them.
-use Rattle.run_entries.proofs.Runs.{ready-small, bad-list, wrong-variables, wrong-cells, short-pending, run-asked, run-done}
+-- `run_read` makes the tests 10 and 20 to 24 in their order, and runs what passes them.
+use Rattle.run_entries.proofs.Runs.{ready-small, bad-list, wrong-lengths, run-asked, run-done}
 use Rattle.bytes_le.proofs.Numbers.{slice-bytes}
 use borrow.Author.Tests.{not-true, not-false}
 use denote.Ref.{now}
-use native.Mathlib.Omega.{arith}
 use borrow.Author.Needs.{needs}
 use Rattle.run_entries.proofs.machines.run_read.Statement.{statement}
 use Rattle.run_entries.proofs.machines.run_read.Tie as tie
 
 returns : tie.Need-returns
-returns c = bad-list _ _ _ _ (c .before .before .before .before .before .before .before .before .before .before .pre) _ _ _ _ _ _ _ (c .before .reads .ensures) (not-true _ (c .if1 .taken))
+returns c = bad-list _ _ _ _ (c .before .before .before .before .before .before .before .before .before .before .pre) _ _ _ _ _ _ _ _ (c .before .reads .ensures) (not-true _ (c .if1 .taken))
 
-mul-if2 : tie.Need-mul-if2
-mul-if2 c = let start = c .before .before .before .before .before .before .before .before .before .before .before in omega (arith, ready-small _ _ (now (start .args .directives)) _ (start .pre) (slice-bytes _ (c .before .before .before .before .before .before .before .before .before .before .shared-slice-known .given)) .0)
-
-returns-2 : tie.Need-returns-2
-returns-2 c = wrong-variables _ _ _ _ (c .before .before .before .before .before .before .before .before .before .before .before .before .pre) _ _ _ _ _ _ _ (c .before .before .before .reads .ensures) (not-false _ (c .before .before .if1 .left)) (c .if2 .taken)
-
-mul-if3 : tie.Need-mul-if3
-mul-if3 c = let start = c .before .before .before .before .before .before .before .before .before .before .before .before .before in omega (arith, ready-small _ _ (now (start .args .directives)) _ (start .pre) (slice-bytes _ (c .before .before .before .before .before .before .before .before .before .before .before .before .shared-slice-known .given)) .1)
-
-returns-3 : tie.Need-returns-3
-returns-3 c = wrong-cells _ _ _ _ (c .before .before .before .before .before .before .before .before .before .before .before .before .before .before .pre) _ _ _ _ _ _ _ (c .before .before .before .before .before .reads .ensures) (not-false _ (c .before .before .before .before .if1 .left)) (c .before .before .if2 .left) (c .if3 .taken)
-
-mul-if4 : tie.Need-mul-if4
-mul-if4 c = let start = c .before .before .before .before .before .before .before .before .before .before .before .before .before .before .before in omega (arith, ready-small _ _ (now (start .args .directives)) _ (start .pre) (slice-bytes _ (c .before .before .before .before .before .before .before .before .before .before .before .before .before .before .shared-slice-known .given)) .2)
-
-returns-4 : tie.Need-returns-4
-returns-4 c = short-pending _ _ _ _ (c .before .before .before .before .before .before .before .before .before .before .before .before .before .before .before .before .pre) _ _ _ _ _ _ _ (c .before .before .before .before .before .before .before .reads .ensures) (not-false _ (c .before .before .before .before .before .before .if1 .left)) (c .before .before .before .before .if2 .left) (c .before .before .if3 .left) (c .if4 .taken)
+lengths-for-requires : tie.Need-lengths-for-requires
+lengths-for-requires c κs = ready-small _ _ (now (c .before .before .before .before .before .before .before .before .before .before .args .directives)) _ (c .before .before .before .before .before .before .before .before .before .before .pre) (slice-bytes _ (c .before .before .before .before .before .before .before .before .before .shared-slice-known .given))
 
 run-requires : tie.Need-run-requires
 run-requires c κs =
-    let start = c .before .before .before .before .before .before .before .before .before .before .before .before .before .before .before .before .before .before .before .before in
-    run-asked _ _ _ _ (start .pre) (start .args .board) (start .args .budget) _ _ _ (now (start .args .observations)) _ (c .before .before .before .before .before .before .before .before .before .before .before .reads .ensures) (not-false _ (c .before .before .before .before .before .before .before .before .before .before .if1 .left)) (c .before .before .before .before .before .before .before .before .if2 .left) (c .before .before .before .before .before .before .if3 .left) (c .before .before .before .before .if4 .left)
+    let start = c .before .before .before .before .before .before .before .before .before .before .before .before .before .before .before .before .before .before in
+    run-asked _ _ _ _ (start .pre) (start .args .board) (start .args .budget) _ _ _ (now (start .args .observations)) _ _ (c .before .before .before .before .before .before .before .before .before .reads .ensures) (not-false _ (c .before .before .before .before .before .before .before .before .if1 .left))
+    _ (c .before .before .before .before .before .before .before .lengths-for .ensures) (c .before .before .before .before .before .enum-told .given .1)
 
-returns-5 : tie.Need-returns-5
-returns-5 c =
-    run-done _ _ _ _ (c .before .before .before .before .before .before .before .before .before .before .before .before .before .before .before .before .before .before .before .before .before .before .before .before .before .before .before .before .before .pre) _ _ _ _ _ _ _ (c .before .before .before .before .before .before .before .before .before .before .before .before .before .before .before .before .before .before .before .before .reads .ensures) (not-false _ (c .before .before .before .before .before .before .before .before .before .before .before .before .before .before .before .before .before .before .before .if1 .left)) (c .before .before .before .before .before .before .before .before .before .before .before .before .before .before .before .before .before .if2 .left) (c .before .before .before .before .before .before .before .before .before .before .before .before .before .before .before .if3 .left) (c .before .before .before .before .before .before .before .before .before .before .before .before .before .if4 .left) _ _ _ _ _ (c .before .before .before .before .before .before .before .before .run .ensures)
+returns-2 : tie.Need-returns-2
+returns-2 c =
+    wrong-lengths _ _ _ _ (c .before .before .before .before .before .before .before .before .before .before .before .before .before .before .pre) _ _ _ _ _ _ _ _ (c .before .before .before .before .before .reads .ensures) (not-false _ (c .before .before .before .before .if1 .left))
+    _ (c .before .before .before .lengths-for .ensures) _ (c .before .lengths .given .1)
+
+returns-3 : tie.Need-returns-3
+returns-3 c =
+    run-done _ _ _ _ (c .before .before .before .before .before .before .before .before .before .before .before .before .before .before .before .before .before .before .before .before .before .before .before .before .before .before .before .before .before .pre) _ _ _ _ _ _ _ _ (c .before .before .before .before .before .before .before .before .before .before .before .before .before .before .before .before .before .before .before .before .reads .ensures) (not-false _ (c .before .before .before .before .before .before .before .before .before .before .before .before .before .before .before .before .before .before .before .if1 .left))
+    _ (c .before .before .before .before .before .before .before .before .before .before .before .before .before .before .before .before .before .before .lengths-for .ensures) (c .before .before .before .before .before .before .before .before .before .before .before .before .before .before .before .before .enum-told .given .1) _ _ _ _ _ _ (c .before .before .before .before .before .before .before .before .before .before .run .ensures)
 
 pub run-read-spec : {M : Type 1} → statement M
 run-read-spec =
@@ -44,15 +35,14 @@ run-read-spec =
     (tie.spec
     (λ c κs. search needs)
     returns
-    mul-if2
-    returns-2
-    mul-if3
-    returns-3
-    mul-if4
-    returns-4
+    lengths-for-requires
+    (λ c. search needs)
+    (λ c. search needs)
     run-requires
+    returns-2
     (λ c. search needs)
     (λ c. search needs)
     (λ c. search needs)
     (λ c. search needs)
-    returns-5)
+    (λ c. search needs)
+    returns-3)

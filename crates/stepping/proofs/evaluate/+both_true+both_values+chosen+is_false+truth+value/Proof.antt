@@ -36,7 +36,7 @@ use Rattle.stepping.proofs.evaluate.+both_true+both_values+chosen+is_fa
 use Rattle.stepping.proofs.evaluate.value.Reads as value
 use Rattle.stepping.proofs.evaluate.value.Kinds as value-kinds
 use Rattle.stepping.proofs.evaluate.+both_true+both_values+chosen+is_false+truth+value.Lts-value as value-lts
-use Rattle.bytes_le.proofs.get.u32_at.Reads as u32-at-reads
+use Rattle.bytes_le.proofs.get.whole_u32.Reads as whole-u32-reads
 use Rattle.stepping.proofs.evaluate.difference.Reads as difference-reads
 use Rattle.stepping.proofs.evaluate.product.Reads as product-reads
 use Rattle.reader.proofs.lookup.numeric_at.Reads as numeric-at-reads
@@ -89,7 +89,7 @@ abbrev truth-calls : ℕ → truth-lts.Claims
 truth-calls t = (truth-at-reads.Asked, truth-at-reads.Learnt, below both-values-kinds.ps μ-both-values both-values.Pre t, both-values.Post, below is-false-kinds.ps μ-is-false is-false.Pre t, is-false.Post, below both-true-kinds.ps μ-both-true both-true.Pre t, both-true.Post)
 
 abbrev value-calls : ℕ → value-lts.Claims
-value-calls t = (numeric-at-reads.Asked, numeric-at-reads.Learnt, u32-at-reads.Asked, u32-at-reads.Learnt, below both-values-kinds.ps μ-both-values both-values.Pre t, both-values.Post, wrapping-add-u32-reads.Asked, wrapping-add-u32-reads.Learnt, difference-reads.Asked, difference-reads.Learnt, product-reads.Asked, product-reads.Learnt, below chosen-kinds.ps μ-chosen chosen.Pre t, chosen.Post)
+value-calls t = (numeric-at-reads.Asked, numeric-at-reads.Learnt, whole-u32-reads.Asked, whole-u32-reads.Learnt, below both-values-kinds.ps μ-both-values both-values.Pre t, both-values.Post, wrapping-add-u32-reads.Asked, wrapping-add-u32-reads.Learnt, difference-reads.Asked, difference-reads.Learnt, product-reads.Asked, product-reads.Learnt, below chosen-kinds.ps μ-chosen chosen.Pre t, chosen.Post)
 
 -- the parts of the node that was looked up
 module _ (t : ℕ) (d : truth-lts.After-truth-at (truth-calls t) (at truth-kinds.ps μ-truth truth.Pre t) truth.Post) where
@@ -144,14 +144,14 @@ pub +both-true+both-values+chosen+is-false+truth+value-spec : {M : Type 1} → s
     -- the node that is looked up, and what each kind asks
     (λ c κs. let asked = c .before .before .before .pre .1 in (asked .indexed, asked .inside, asked .isSort))
     (λ c. search needs)
-    (λ c. search needs) (λ c. let start = c .before .before .before .before .before .before .before in omega (arith, value-parts t (c .before .before .before) _ (c .before .node2 .given .1) .0, start .pre .1 .long, start .good .1 .1 .0 .0)) (λ c κs. search needs)
+    (λ c. search needs) (λ c. let start = c .before .before .before .before .before .before .before in omega (arith, value-parts t (c .before .before .before) _ (c .before .node2 .given .1) .0, start .pre .1 .long, start .good .1 .1 .0 .0)) (λ c κs. let start = c .before .before .before .before .before .before .before in omega (arith, value-parts t (c .before .before .before) _ (c .before .node2 .given .1) .0, start .pre .1 .long))
     (λ c. search needs) (λ c κs. call-pair (c .before .before .before .before .before .before .before .pre) (value-parts t (c .before .before .before) _ (c .before .node3 .given .1))) (λ c κs. search needs)
     (λ c. search needs) (λ c κs. call-pair (c .before .before .before .before .before .before .before .pre) (value-parts t (c .before .before .before) _ (c .before .node4 .given .1))) (λ c κs. search needs)
     (λ c. search needs) (λ c κs. call-pair (c .before .before .before .before .before .before .before .pre) (value-parts t (c .before .before .before) _ (c .before .node5 .given .1))) (λ c κs. search needs)
     (λ c. search needs) (λ c κs. call-choice (c .before .before .before .before .before .before .before .pre) (value-parts t (c .before .before .before) _ (c .before .node6 .given .1)))
     -- the value of each kind
     (λ c. value-number _ _ _ (value-parts t (c .before .before .before) _ (c .before .node .given .1)))
-    (λ c. value-variable _ _ _ (value-parts t (c .before .before .before .before) _ (c .before .before .node2 .given .1)) (c .u32-at .ensures))
+    (λ c. value-variable _ _ _ (value-parts t (c .before .before .before .before) _ (c .before .before .node2 .given .1)) (c .whole-u32 .ensures))
     (λ c. value-add _ _ _ (c .before .both-values .ensures) (value-parts t (c .before .before .before .before .before) _ (c .before .before .before .node3 .given .1)) (c .wrapping-add-u32 .ensures))
     (λ c. value-subtract _ _ _ (c .before .both-values2 .ensures) (value-parts t (c .before .before .before .before .before) _ (c .before .before .before .node4 .given .1)) (c .difference .ensures))
     (λ c. value-multiply _ _ _ (c .before .both-values3 .ensures) (value-parts t (c .before .before .before .before .before) _ (c .before .before .before .node5 .given .1)) (c .product .ensures))

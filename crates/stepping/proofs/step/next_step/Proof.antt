@@ -1,10 +1,9 @@
--- `next_step` is over for one of the five ends in their order, or takes the step that `next` takes.
-use Rattle.stepping.proofs.NextSteps.{ends-finished, ends-spent, ends-out, ends-stuck, ends-full, advances-quietly, advances-showing}
+-- `next_step` is over for one of the five ends in their order, goes back to a save, saves, or takes the step that `next` takes.
+use Rattle.stepping.proofs.NextSteps.{backs, ends-finished, ends-spent, ends-out, ends-stuck, shows, forces, advances-quietly}
 use Rattle.stepping.specs.declared.action.Action.{Action}
-use Rattle.directives.specs.declared.guide.Guided.the-variants.{By}
-use Rattle.machine.specs.declared.Directive.{Directive}
+use Rattle.machine.specs.Runs.{rollbackNext}
 use Rattle.stepping.specs.Stepping.{Steppable}
-use Rattle.directives.specs.Guiding.{GoesBy}
+use Rattle.directives.specs.Guiding.{guideOf, GoesBy}
 use Rattle.stepping.specs.Actions.{Looked}
 use Rattle.reader.proofs.Index.{indexed-few}
 use Rattle.reader.specs.Index.{tableOf}
@@ -12,6 +11,7 @@ use Rattle.bytes_le.proofs.Numbers.{slice-bytes}
 use Rattle.bytes_le.specs.Numbers.{leAt}
 use denote.Ref.{now}
 use lib.ListN.{length}
+use mathlib.Core.Option.{none}
 use mathlib.Core.Path.{_≡_}
 use native.Mathlib.Omega.{arith}
 use native.Mathlib.Nat.{pos-of-ne-zero}
@@ -23,97 +23,124 @@ use Rattle.stepping.proofs.step.next_step.Tie as tie
 below-it : {n : ℕ} → (n ≡ 0 → ⊥) → n - 1 < n
 below-it {n} h = let positive = pos-of-ne-zero h in omega arith
 
--- what is known after the look: something is pending, what the look says, and that a step can be counted
+-- ---- before the look
+returns : tie.Need-returns
+returns c = backs _ _ _ _ _ _ _ (rw (c .before .if1 .taken) at (c .before .before .rollback-next .ensures)) (c .before .before .before .before .before .before .before .before .before .before .pre .shownFit) _ (c .back-step .ensures)
+
+returns-2 : tie.Need-returns-2
+returns-2 c = ends-finished _ _ _ (c .before .before .before .before .before .before .before .before .before .before .args .budget) _ (c .before .before .before .before .before .before .before .before .before .before .args .state) _ (rw (c .before .if1 .left) at (c .before .before .rollback-next .ensures)) (c .if2 .taken)
+
+returns-3 : tie.Need-returns-3
+returns-3 c =
+    ends-spent _ _ _ (c .before .before .before .before .before .before .before .before .before .before .before .before .args .budget) _ (c .before .before .before .before .before .before .before .before .before .before .before .before .args .state) _ (rw (c .before .before .before .if1 .left) at (c .before .before .before .before .rollback-next .ensures))
+    (pos-of-ne-zero (c .before .before .if2 .left)) (c .if3 .taken)
+
+-- ---- after it
+-- what is known after the look: no rollback is next, something is pending, what the look says, and that a step can be counted
 module _ (d : tie.After-look-at) where
   abbrev start : tie.Start
-  start = d .before .before .before .before .before .before .before .before .before .before .before .before
+  start = d .before .before .before .before .before .before .before .before .before .before .before .before .before .before
+
+  forward : rollbackNext (guideOf (start .args .board) (now (start .args .directives)) (start .args .state .at)) ≡ none
+  forward = rw (d .before .before .before .before .before .if1 .left) at (d .before .before .before .before .before .before .rollback-next .ensures)
 
   here : 0 < start .args .state .pending
-  here = pos-of-ne-zero (d .before .before .before .before .if1 .left)
+  here = pos-of-ne-zero (d .before .before .before .before .if2 .left)
+
+  left : start .args .state .steps < start .args .budget
+  left = d .before .before .if3 .left
 
   looked : (a : Action) → d .look-at .result ≡ a
       → Looked (now (start .args .table)) (now (start .args .variables)) (leAt 4 (now (start .args .pending)) (4 * (start .args .state .pending - 1))) a
-  looked a is = rw (is, d .before .u32-at .ensures) at (d .look-at .ensures)
+  looked a is = rw (is, d .before .whole-u32 .ensures) at (d .look-at .ensures)
 
-  steppable : (used size bytes : ℕ) → used ≤ 1 → start .args .state .at + size ≤ length (now (start .args .directives)) → start .args .state .shown + bytes ≤ start .args .room
-      → Steppable (start .args .state) used size bytes
-  steppable used size bytes one within inside =
-      let few = indexed-few (now (start .args .table)) (now (start .args .index)) (slice-bytes (now (start .args .table)) (d .before .before .before .before .before .before .before .before .before .before .before .shared-slice-known .given)) (start .pre .indexed) in
-      let left = d .before .before .if2 .left in
+  -- a step can be counted before it is known what it shows
+  steppable : (used size : ℕ) → used ≤ 1 → start .args .state .at + size ≤ length (now (start .args .directives)) → Steppable (start .args .state) used size 0
+  steppable used size one within =
+      let few = indexed-few (now (start .args .table)) (now (start .args .index)) (slice-bytes (now (start .args .table)) (d .before .before .before .before .before .before .before .before .before .before .before .before .before .shared-slice-known .given)) (start .pre .indexed) in
       record {
         some = here;
         few = omega (arith, start .pre .few);
-        stepsFit = omega (arith, start .fits .budget);
-        usedFit = omega (arith, start .fits .budget, start .pre .usedFit);
+        stepsFit = omega (arith, left, start .fits .budget);
+        usedFit = omega (arith, left, start .fits .budget, start .pre .usedFit);
         atFit = omega (arith, start .good .1 .1 .1 .0 .0);
-        shownFit = omega (arith, start .fits .room);
+        shownFit = omega (arith, start .pre .shownFit, start .fits .room);
       }
 
-guided-by : (d : tie.After-guide) (e : Directive) (size used : ℕ) → d .guide .result ≡ By e size used
-    → GoesBy (d .before .before .before .before .before .before .before .before .before .before .before .before .before .before .before .before .args .board) (now (d .before .before .before .before .before .before .before .before .before .before .before .before .before .before .before .before .args .directives)) (d .before .before .before .before .before .before .before .before .before .before .before .before .before .before .before .before .args .state .at) e size used
-guided-by d e size used is = rw is at (d .guide .ensures)
+-- what is known once a directive guides the step
+module _ (e : tie.After-known-told3) where
+  abbrev look : tie.After-look-at
+  look = e .before .before .before .before .before .before .before
 
-returns-2 : tie.Need-returns-2
-returns-2 c = ends-spent _ _ _ (c .before .before .before .before .before .before .before .before .before .before .args .budget) _ (c .before .before .before .before .before .before .before .before .before .before .args .state) _ (pos-of-ne-zero (c .before .before .if1 .left)) (c .if2 .taken)
+  by : GoesBy (start look .args .board) (now (start look .args .directives)) (start look .args .state .at)
+      (e .before .directive .given .0 .0) (e .before .directive .given .0 .1 .0) (e .before .directive .given .0 .1 .1 .0)
+  by = rw (e .before .directive .given .1) at (e .before .before .before .guide .ensures)
+
+  counted : Steppable (start look .args .state) (e .before .directive .given .0 .1 .1 .0) (e .before .directive .given .0 .1 .0) 0
+  counted = steppable look _ _ (by .few) (by .readable .within)
+
+-- the next entry stands whole in the slice
+whole-u32-requires : tie.Need-whole-u32-requires
+whole-u32-requires c κs =
+    let begun = c .before .before .before .before .before .before .before .before .before .before .before .before in
+    omega (arith, begun .pre .few, begun .pre .pendingLong, pos-of-ne-zero (c .before .before .if2 .left))
 
 look-at-requires : tie.Need-look-at-requires
 look-at-requires c κs =
-    let begun = c .before .before .before .before .before .before .before .before .before .before .before in
-    let entry = begun .pre .entries (begun .args .state .pending - 1) (below-it (c .before .before .before .if1 .left)) in
-    rw (c .u32-at .ensures)
+    let begun = c .before .before .before .before .before .before .before .before .before .before .before .before .before in
+    let entry = begun .pre .entries (begun .args .state .pending - 1) (below-it (c .before .before .before .if2 .left)) in
+    rw (c .whole-u32 .ensures)
     (record { indexed = begun .pre .indexed; long = begun .pre .variablesLong; inside = entry .inside; isSort = entry .isCommand })
 
 stepped-silently-requires : tie.Need-stepped-silently-requires
 stepped-silently-requires c κs =
     let d = c .before .before .before in
-    steppable d 0 0 0 (omega arith) (omega (arith, start d .pre .readable .within)) (omega (arith, start d .pre .shownFit))
-
-returns-3 : tie.Need-returns-3
-returns-3 c =
-    let d = c .before .before .before .before .before .before in
-    let out = rw (c .enum-told .given .1) at (c .before .before .guide .ensures) in
-    ends-out _ _ _ _ _ _ _ (here d) (d .before .before .if2 .left) (start d .pre .usedFit) (start d .pre .shownFit) _ (looked d _ (c .before .before .before .before .action2 .given .1)) out
+    steppable d 0 0 (omega arith) (omega (arith, start d .pre .readable .within))
 
 returns-4 : tie.Need-returns-4
 returns-4 c =
-    let d = c .before .before .before .before .before .before .before .before .before .before in
-    ends-stuck _ _ _ _ _ _ _ (here d) (d .before .before .if2 .left) (start d .pre .usedFit) (start d .pre .shownFit) _ (looked d _ (c .before .before .before .before .before .before .before .before .action2 .given .1)) _ _ _ (guided-by (c .before .before .before .before .before .before) _ _ _ (c .before .before .before .before .directive .given .1)) _ (c .before .before .fitting .ensures (tableOf (start d .args .table .now) .counts) (start d .pre .begins)) (c .enum-told2 .given .1)
-
-sub-if3 : tie.Need-sub-if3
-sub-if3 c = omega (arith, start (c .before .before .before .before .before .before .before .before .before .before .before .before .before) .pre .shownFit)
+    let d = c .before .before .before .before .before .before in
+    let out = rw (c .enum-told .given .1) at (c .before .before .guide .ensures) in
+    ends-out _ _ _ _ _ _ _ (forward d) (here d) (left d) (start d .pre .usedFit) (start d .pre .shownFit) _ (looked d _ (c .before .before .before .before .action2 .given .1)) out
 
 returns-5 : tie.Need-returns-5
 returns-5 c =
-    let d = c .before .before .before .before .before .before .before .before .before .before .before .before .before .before in
-    ends-full _ _ _ _ _ _ _ (here d) (d .before .before .if2 .left) (start d .pre .usedFit) (start d .pre .shownFit) _ (looked d _ (c .before .before .before .before .before .before .before .before .before .before .before .before .action2 .given .1)) _ _ _ (guided-by (c .before .before .before .before .before .before .before .before .before .before) _ _ _ (c .before .before .before .before .before .before .before .before .directive .given .1)) _ (c .before .before .before .before .before .before .fitting .ensures (tableOf (start d .args .table .now) .counts) (start d .pre .begins)) _ _ (c .before .before .before .before .change .given .1) _ (c .before .before .bytes-of .ensures) (c .if3 .taken)
-
-stepped-requires : tie.Need-stepped-requires
-stepped-requires c κs =
-    let d = c .before .before .before .before .before .before .before .before .before .before .before .before .before .before in
-    let by = guided-by (c .before .before .before .before .before .before .before .before .before .before) _ _ _ (c .before .before .before .before .before .before .before .before .directive .given .1) in
-    steppable d _ _ _ (by .few) (by .readable .within) (omega (arith, start d .pre .shownFit))
+    let d = c .before .before .before .before in
+    rw (c .stepped-silently .ensures) (advances-quietly _ _ _ _ _ _ _ (forward d) (here d) (left d) (start d .pre .usedFit) (start d .pre .shownFit) (start d .pre .readable) _ (looked d _ (c .before .before .action .given .1)))
 
 returns-6 : tie.Need-returns-6
 returns-6 c =
-    let d = c .before .before .before .before in
-    rw (c .stepped-silently .ensures)
-    (advances-quietly _ _ _ _ _ _ _ (here d) (d .before .before .if2 .left) (start d .pre .usedFit) (start d .pre .shownFit) (start d .pre .readable) _ (looked d _ (c .before .before .action .given .1)))
+    let e = c .before .before .before in
+    let d = look e in
+    ends-stuck _ _ _ _ _ _ _ (forward d) (here d) (left d) (start d .pre .usedFit) (start d .pre .shownFit) _ (looked d _ (e .before .before .before .before .before .action2 .given .1)) _ _ _ (by e) (start d .pre .savedFit)
+    _ (c .before .before .fitting .ensures (tableOf (start d .args .table .now) .counts) (start d .pre .begins)) (c .enum-told2 .given .1)
 
 returns-7 : tie.Need-returns-7
 returns-7 c =
-    let d = c .before .before .before .before .before .before .before .before .before .before .before .before .before .before .before in
-    rw (c .stepped .ensures)
-    (advances-showing _ _ _ _ _ _ _ (here d) (d .before .before .if2 .left) (start d .pre .usedFit) (start d .pre .shownFit) _ (looked d _ (c .before .before .before .before .before .before .before .before .before .before .before .before .before .action2 .given .1)) _ _ _ (guided-by (c .before .before .before .before .before .before .before .before .before .before .before) _ _ _ (c .before .before .before .before .before .before .before .before .before .directive .given .1)) _ (c .before .before .before .before .before .before .before .fitting .ensures (tableOf (start d .args .table .now) .counts) (start d .pre .begins)) _ _ (c .before .before .before .before .before .change .given .1) _ (c .before .before .before .bytes-of .ensures) (c .before .if3 .left))
+    let e = c .before .before .before .before .before in
+    let d = look e in
+    forces _ _ _ _ _ _ _ (forward d) (here d) (left d) (start d .pre .usedFit) (start d .pre .shownFit) _ (looked d _ (e .before .before .before .before .before .action2 .given .1)) _ _ _ (by e) (start d .pre .savedFit)
+    _ (c .before .before .before .before .fitting .ensures (tableOf (start d .args .table .now) .counts) (start d .pre .begins)) _ _ _ (c .before .before .fit .given .1) _ (c .force-step .ensures)
+
+returns-8 : tie.Need-returns-8
+returns-8 c =
+    let e = c .before .before .before .before .before in
+    let d = look e in
+    shows _ _ _ _ _ _ _ (forward d) (here d) (left d) (start d .pre .usedFit) (start d .pre .shownFit) _ (looked d _ (e .before .before .before .before .before .action2 .given .1)) _ _ _ (by e) (start d .pre .savedFit)
+    _ (c .before .before .before .before .fitting .ensures (tableOf (start d .args .table .now) .counts) (start d .pre .begins)) _ (c .before .before .fit2 .given .1) _ (c .show-step .ensures)
 
 pub next-step-spec : {M : Type 1} → statement M
 next-step-spec =
     tie.close
     (tie.spec
-    (λ c. ends-finished _ _ _ _ _ _ _ (c .if1 .taken))
-    returns-2
-    (λ c. search needs)
-    (λ c. search needs)
     (λ c κs. search needs)
+    (λ c κs. search needs)
+    returns
+    returns-2
+    returns-3
+    (λ c. search needs)
+    (λ c. search needs)
+    whole-u32-requires
     (λ c. search needs)
     look-at-requires
     (λ c. search needs)
@@ -122,14 +149,14 @@ next-step-spec =
     (λ c κs. search needs)
     (λ c. search needs)
     (λ c. search needs)
-    returns-3
-    (λ c κs. search needs)
-    (λ c. search needs)
-    (λ c. search needs)
     returns-4
     (λ c κs. search needs)
-    sub-if3
+    (λ c. search needs)
+    (λ c. search needs)
+    (λ c κs. let e = c .before .before .before .before in (counted e, start (look e) .pre .shownFit))
+    (λ c. search needs)
+    (λ c κs. let e = c .before .before .before .before in (counted e, start (look e) .pre .shownFit))
     returns-5
-    stepped-requires
     returns-6
-    returns-7)
+    returns-7
+    returns-8)
