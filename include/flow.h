@@ -20,7 +20,8 @@
  * A REFUSED CALL changes no lent memory except the answer slice.  Nothing is ever refused but for the causes listed below.
  *
  * STACK.  A call recurses as deep as its table nests and allocates nothing.  On the deepest tables flow_sheet and flow_questions
- * take 616 KiB, flow_run and flow_guess 392 KiB, flow_harden 152 KiB (measured on x86-64 by `make -C bench run`): 1 MiB suffices.
+ * take 616 KiB, flow_run, flow_guess and flow_rollback 393 KiB, flow_harden 152 KiB (measured on x86-64 by `make -C bench run`):
+ * 1 MiB suffices.
  * An entry keeps nothing between calls: what it answers depends on what it is lent alone.
  */
 #ifndef FLOW_H

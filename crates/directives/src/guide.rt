@@ -5,7 +5,6 @@ use crate::list::size_of;
 use bytes_le::get::u16_at;
 use machine::Board;
 use machine::Directive;
-ghost use mathlib.Core.Path.{_≡_};
 ghost use Rattle.machine.specs.declared.Board.the-variants.{Guessing, Rolling};
 ghost use Rattle.directives.specs.Guiding.{Readable, GuidedAs, RollsAs, RollbackAs};
 

@@ -7,14 +7,13 @@ use lib.ListN.{length}
 use lib.Seq.{sets}
 use Rattle.bytes_le.proofs.Numbers.{Below}
 use Rattle.reader.specs.Index.{tableOf, nodesIn}
-use Rattle.machine.specs.Observations.{shownBytes}
 use Rattle.machine.specs.Runs.{Outcome, Machine, bytes, goes, next}
 use Rattle.stepping.specs.Evaluation.{variablesIn}
 use Rattle.stepping.specs.Actions.{changed}
 use Rattle.directives.specs.Changes.{heightOf}
 use Rattle.directives.specs.Guiding.{guideOf}
 use Rattle.stepping.specs.Stepping.{Memory, pendingOf, cellsIn, machineOf, seenList, steppedTo, Between, Advances}
-use Rattle.saves.specs.Places.{savesOf, PlacesHold}
+use Rattle.saves.specs.Places.{savesOf}
 use Rattle.interpreter.specs.Effects.{PerformFits, performed, WordFits, Performed, seenBytes}
 use Rattle.machine.specs.declared.Board.{Board}
 use Rattle.directives.specs.declared.change.Change.{Change}

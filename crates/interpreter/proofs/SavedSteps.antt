@@ -3,10 +3,10 @@ use Prim.Native.Nat.{ℕ, zero, suc, _+_, _*_, _-_, _^_, _≤_, _<_}
 use native.Mathlib.Numerals.{add-one}
 use native.Mathlib.Nat.{mul-assoc}
 use native.Mathlib.Omega.{arith}
-use mathlib.Core.Bool.{Bool, true, cond}
+use mathlib.Core.Bool.{Bool, cond}
 use mathlib.Core.Path.{_≡_, refl, sym, ap, subst, _∙_}
 use mathlib.Core.List.{List, [], _∷_, _++_, flatMap, append-nil}
-use lib.ListN.{length, getD, set, take, drop, length-set}
+use lib.ListN.{length, getD, take, length-set}
 use lib.Seq.{sets}
 use lib.Dec.{ltb}
 use borrow.Author.Tests.{lt-ltb}
@@ -15,7 +15,6 @@ use Rattle.bytes_le.proofs.Numbers.{Below}
 use Rattle.awhile.specs.Language.{Com}
 use Rattle.reader.specs.Index.{tableOf, nodesIn}
 use Rattle.machine.specs.Observations.{branch, rolledBack, observationBytes, shownBytes}
-use Rattle.machine.specs.Steps.{State}
 use Rattle.machine.specs.Runs.{Outcome, Machine, bytes, goes, next}
 use Rattle.stepping.specs.Evaluation.{variablesIn}
 use Rattle.stepping.specs.Actions.{backOn, changed, CommandAt}

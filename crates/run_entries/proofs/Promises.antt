@@ -1,6 +1,6 @@
 -- What the running entries promise, from what a call came to and answers.
 use Prim.Native.Nat.{ℕ}
-use mathlib.Core.Bool.{Bool, true, false, cond}
+use mathlib.Core.Bool.{Bool, true, false}
 use mathlib.Core.Option.{Option, none, some}
 use mathlib.Core.List.{List, []}
 use mathlib.Core.Path.{_≡_, refl, sym, _∙_}
@@ -18,8 +18,8 @@ use Rattle.directives.specs.Guiding.{orNone, directivesFrom, guideOf}
 use Rattle.interpreter.specs.Running.{reportOf}
 use Rattle.entries.specs.Answers.{answered}
 use Rattle.entries.specs.Running.{Lent, Ran, notRun, lentFor, ranAll, running, runEntry, guessWith, guessEntry}
-use Rattle.entries.specs.Rolling.{RanSaving, saveSize, savingFor, notRunSaving, ranSaving, savingRun, rollbackWith, rollbackEntry}
-use Rattle.entries.specs.Promises.{ranAt, ranSavingAt, Runs, Guesses, RollsBack}
+use Rattle.entries.specs.Rolling.{saveSize, savingFor, notRunSaving, ranSaving, savingRun, rollbackWith, rollbackEntry}
+use Rattle.entries.specs.Promises.{ranAt, Runs, Guesses, RollsBack}
 use Rattle.run_entries.specs.Lengths.{enoughFor, fitFor}
 use Rattle.run_entries.specs.Runs.{reportNumbers, resultOf, numbersOf, runnable, CameTo, not-run, has-run, ReadDone}
 use Rattle.run_entries.specs.declared.machines.Done.{Done}

@@ -2,12 +2,12 @@
 use Prim.Native.Nat.{ℕ, _+_, _*_, _≤_, _<_}
 use mathlib.Core.Bool.{Bool, true, false, cond}
 use mathlib.Core.List.{List}
-use mathlib.Core.Path.{_≡_, refl, sym, subst, _∙_}
+use mathlib.Core.Path.{_≡_, refl, sym, subst}
 use lib.ListN.{length}
 use lib.Dec.{eqb, leb}
 use borrow.Author.Tests.{eqb-true, leb-true, eq-eqb, ne-eqb, le-leb, lt-leb}
 use Rattle.awhile.specs.Lists.{sum}
-use Rattle.awhile.specs.Refusals.{Answer, refused, got, check, andThen}
+use Rattle.awhile.specs.Refusals.{got, check, andThen}
 use Rattle.awhile.specs.Tables.{Table}
 use Rattle.awhile.specs.declared.Declarations.{Declarations}
 use Rattle.awhile.specs.declared.Refusal.{Refusal}

@@ -7,8 +7,7 @@ use mathlib.Core.Path.{_≡_, refl, sym, ap, _∙_}
 use lib.ListN.{length}
 use borrow.Author.Tests.{leb-true}
 use Rattle.bytes_le.proofs.Numbers.{Below}
-use Rattle.awhile.specs.Refusals.{Answer, refused, got, check, andThen, refusalNumber}
-use Rattle.awhile.specs.Tables.{readTable}
+use Rattle.awhile.specs.Refusals.{refused, check, andThen, refusalNumber}
 use Rattle.reader.specs.Index.{Indexed, Ready, tableOf, nodesIn, Answers}
 use Rattle.reader.proofs.Index.{indexed-well-formed, indexed-few}
 use Rattle.reader.proofs.Ready.{ready-header, ready-variables, ready-nodes, ready-cells}

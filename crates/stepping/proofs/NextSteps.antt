@@ -5,7 +5,7 @@ use native.Mathlib.Omega.{arith}
 use mathlib.Core.Bool.{Bool, true, false, cond}
 use mathlib.Core.Path.{_≡_, refl, sym, ap, subst, _∙_}
 use mathlib.Core.Option.{none, some as just}
-use mathlib.Core.List.{List, [], _∷_, _++_, flatMap}
+use mathlib.Core.List.{List, [], _∷_, flatMap}
 use lib.ListN.{length, length-append}
 use lib.Dec.{eqb, leb, ltb}
 use borrow.Author.Tests.{le-leb, lt-leb, leb-true, leb-false, eqb-true, eqb-false, ltb-true, ltb-false}
@@ -21,11 +21,10 @@ use Rattle.stepping.specs.Actions.{BackFits, changed, observationOf, qui
 use Rattle.directives.specs.Fitting.{fitOf}
 use Rattle.directives.specs.Guiding.{Readable, guideOf, GoesBy, RunsOut, RollbackNext}
 use Rattle.stepping.specs.Stepping.{Memory, steppedState, showStep, wrongStep, saveStep, forceStep, backStep, pendingOf, cellsIn, machineOf, shownSize, seenList, ChangeFits, steppedTo, savedTo, undoneTo}
-use Rattle.stepping.specs.Stepping.{RunEnds, Counted, Advances, SavesRight, GoesBack, NextAs}
+use Rattle.stepping.specs.Stepping.{RunEnds, Advances, SavesRight, GoesBack, NextAs}
 use Rattle.machine.specs.declared.Board.{Board}
 use Rattle.machine.specs.declared.Board.the-variants.{Plain, Guessing, Rolling}
 use Rattle.machine.specs.declared.Directive.{Directive}
-use Rattle.machine.specs.declared.Directive.the-variants.{Step, Force, Load, Store, Rollback}
 use Rattle.machine.specs.declared.End.{End}
 use Rattle.machine.specs.declared.End.the-variants.{Finished, Spent, OutOfDirectives, Stuck, Full}
 use Rattle.directives.specs.declared.change.Back.{Back}

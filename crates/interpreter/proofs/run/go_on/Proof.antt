@@ -8,7 +8,6 @@ use lib.ListN.{length}
 use Rattle.bytes_le.proofs.Numbers.{Below, slice-bytes}
 use Rattle.stepping.specs.Stepping.{undoneState, Memory, memoryAt, RunEnds, Advances, SavesRight, GoesBack}
 use Rattle.interpreter.specs.Running.{runOf}
-use Rattle.machine.specs.declared.Board.{Board}
 use Rattle.machine.specs.declared.End.{End}
 use Rattle.directives.specs.declared.change.Back.{Back}
 use Rattle.directives.specs.declared.change.Change.{Change}
