@@ -91,7 +91,7 @@ fn own_or(own: Cell, other: Cell) -> Cell
 }
 
 // The side that a branch takes.
-pub fn side(value: bool, yes: Back, no: Back) -> Back
+fn side(value: bool, yes: Back, no: Back) -> Back
     ensures { λ r. ⌜ r ≡ cond value yes no ⌝ }
 {
     if value { yes } else { no }

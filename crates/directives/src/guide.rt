@@ -6,7 +6,7 @@ use bytes_le::get::u16_at;
 use machine::Board;
 use machine::Directive;
 ghost use Rattle.machine.specs.declared.Board.the-variants.{Guessing, Rolling};
-ghost use Rattle.directives.specs.Guiding.{Readable, GuidedAs, RollsAs, RollbackAs};
+ghost use Rattle.directives.specs.Guiding.{Readable, GuidedAs, RollbackAs};
 
 // The directive of the next shown step with the bytes and the directives that it uses up, or that none is left.
 pub enum Guided {
@@ -55,16 +55,6 @@ pub fn guide(list: &[u8], board: Board, at: usize) -> Guided
         size: 0,
         used: 0,
     }
-}
-
-// Whether it is the board that rolls back.
-pub fn rolls(board: Board) -> bool
-    ensures { λ r. ⌜ RollsAs board r ⌝ }
-{
-    let Board::Rolling = board else {
-        return false;
-    };
-    true
 }
 
 // Whether a rollback is next. A list that reads has a whole record here, so its kind tells.

@@ -1,5 +1,5 @@
 // The list of directives that steers a run.
-use crate::guide::rolls;
+use crate::board::rolls;
 use bytes_le::get::u16_at;
 use bytes_le::get::u32_at;
 use machine::Board;

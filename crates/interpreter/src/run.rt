@@ -15,7 +15,7 @@ use awhile::Header;
 use bytes_le::clear::clear;
 use bytes_le::get::u32_at;
 use bytes_le::put::put32;
-use directives::guide::rolls;
+use directives::board::rolls;
 use directives::places::find_starts;
 use machine::Board;
 use machine::End;

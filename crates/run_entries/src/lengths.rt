@@ -1,7 +1,7 @@
 // The lengths of the slices that are lent for a run: 20, 21, 22 and 24.
 use awhile::Declarations;
 use awhile::Refusal;
-use directives::guide::rolls;
+use directives::board::rolls;
 use machine::Board;
 ghost use Prim.Native.Nat.{_≤_};
 ghost use mathlib.Core.Path.{_≡_};

@@ -2,10 +2,10 @@
 use crate::next::Next;
 use crate::next::Seen;
 use crate::state::MachineState;
+use directives::board::rolls;
 use directives::change::Back;
 use directives::change::Change;
 use directives::change::Shown;
-use directives::guide::rolls;
 use machine::Board;
 use machine::End;
 ghost use Prim.Native.Nat.{_≤_};
