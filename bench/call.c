@@ -1,5 +1,6 @@
 #include "call.h"
 
+#include <inttypes.h>
 #include <stdlib.h>
 #include <string.h>
 
@@ -99,6 +100,21 @@ uint64_t call_reference(struct call *call)
     }
 }
 
+struct made make_call(const struct call *call, const char *by, performer *perform)
+{
+    struct made made = {.by = by, .after = call_copy(call)};
+    made.result = perform(&made.after);
+    return made;
+}
+
+bool made_alike(const struct made *one, const struct made *other)
+{
+    bool alike = one->result == other->result;
+    for (unsigned i = 0; i < SLICES; i++)
+        alike = alike && slice_equal(&one->after.slices[i], &other->after.slices[i]);
+    return alike;
+}
+
 uint64_t call_answer(const struct call *call, unsigned number)
 {
     const struct slice *answer = &call->slices[SLICE_ANSWER];
@@ -186,4 +202,28 @@ void print_hex(FILE *to, const uint8_t *bytes, size_t length)
         fputc('-', to); /* so that an empty slice is a word too */
     for (size_t i = 0; i < length; i++)
         fprintf(to, "%02x", bytes[i]);
+}
+
+void print_call(const struct call *call)
+{
+    printf("  %s, budget %" PRIu32 "\n", entry_names[call->entry], call->budget);
+    for (unsigned i = 0; i < SLICES; i++) {
+        printf("    %-13s %6zu bytes%s ", slice_names[i], call->slices[i].length, call->slices[i].bytes == NULL ? ", NULL" : "");
+        print_hex(stdout, call->slices[i].bytes, call->slices[i].length);
+        printf("\n");
+    }
+}
+
+void print_difference(const struct call *before, const struct made *one, const struct made *other)
+{
+    printf("result: %s %" PRIu64 ", %s %" PRIu64 "\n", one->by, one->result, other->by, other->result);
+    for (unsigned i = 0; i < SLICES; i++)
+        if (!slice_equal(&one->after.slices[i], &other->after.slices[i]))
+            printf("slice %s differs\n", slice_names[i]);
+    printf("at entry:\n");
+    print_call(before);
+    printf("after the %s:\n", one->by);
+    print_call(&one->after);
+    printf("after the %s:\n", other->by);
+    print_call(&other->after);
 }

@@ -46,8 +46,23 @@ bool slice_equal(const struct slice *one, const struct slice *other);
 struct call call_copy(const struct call *call);
 void call_free(struct call *call);
 
-uint64_t call_library(struct call *call);
-uint64_t call_reference(struct call *call);
+/* Makes a call: the entry of a library, or of what stands in for one. */
+typedef uint64_t performer(struct call *call);
+performer call_library, call_reference;
+
+/* A copy of a call, made, and by whom. */
+struct made {
+    const char *by;
+    uint64_t result;
+    struct call after;
+};
+
+struct made make_call(const struct call *call, const char *by, performer *perform);
+
+/* The same result, and the same bytes in every slice? */
+bool made_alike(const struct made *one, const struct made *other);
+void print_call(const struct call *call);
+void print_difference(const struct call *before, const struct made *one, const struct made *other);
 
 /* A number of the answer slice; 0 if the slice does not hold it whole. */
 uint64_t call_answer(const struct call *call, unsigned number);

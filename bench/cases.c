@@ -111,6 +111,40 @@ static void skips_table(struct buffer *t, uint32_t secret, unsigned variables)
     assemble_node3(t, FLOW_IF, condition, one, other);
 }
 
+/* Puts an expression given operands first, and answers its top: s is variable 0, a digit a number, m 65,536. */
+static unsigned expression(struct buffer *t, const char *form)
+{
+    unsigned tops[8], count = 0;
+    for (; *form; form++) {
+        if (*form == '*' || *form == '+') {
+            count--;
+            tops[count - 1] = assemble_node2(t, *form == '*' ? FLOW_MULTIPLY : FLOW_ADD, tops[count - 1], tops[count]);
+        } else if (*form == 's')
+            tops[count++] = variable(t, 0);
+        else
+            tops[count++] = number(t, *form == 'm' ? 65536 : (uint32_t)(*form - '0'));
+    }
+    return tops[0];
+}
+
+/* if s*0=0 then skip else skip, s 0 and secret */
+static void cleared_condition_table(struct buffer *t)
+{
+    assemble_table(t, 1, 0, NULL, 1, 0);
+    unsigned left = expression(t, "s0*");
+    unsigned condition = assemble_node2(t, FLOW_EQUAL, left, number(t, 0));
+    unsigned one = skip(t);
+    assemble_node3(t, FLOW_IF, condition, one, skip(t));
+}
+
+/* x:=a0[s*0], s 0 and secret, x 1, a0 public */
+static void cleared_index_table(struct buffer *t)
+{
+    static const uint16_t counts[] = {4};
+    assemble_table(t, 2, 1, counts, 1, 0);
+    assemble_node3(t, FLOW_READ, 1, 0, expression(t, "s0*"));
+}
+
 /* i, j, x are variables 0, 1, 2 */
 void bounds_check_table(struct buffer *t)
 {
@@ -261,6 +295,46 @@ static void case_sizes(void)
     buffer_free(&t);
     skips_table(&t, 0, 1);
     expect(harden(&t) == FLOW_ACCEPTED && get16(output + 8) == 22, "x public: 22 nodes");
+    buffer_free(&t);
+}
+
+/* The variable mask after y := the expression, s 0 and secret, y 1. */
+static uint32_t mask_after(const char *form)
+{
+    struct buffer t = {0};
+    assemble_table(&t, 2, 0, NULL, 1, 0);
+    assemble_node2(&t, FLOW_ASSIGN, 1, expression(&t, form));
+    expect(sheet(&t) == FLOW_ACCEPTED, form);
+    buffer_free(&t);
+    return get32(output + 8);
+}
+
+static void case_times_nought(void)
+{
+    expect(mask_after("s0*") == 1, "y:=s*0: y public");
+    expect(mask_after("0s*") == 1, "y:=0*s: y public");
+    expect(mask_after("s1+0*") == 1, "y:=(s+1)*0: y public");
+    expect(mask_after("s0*s0**") == 1, "y:=(s*0)*(s*0): y public");
+    expect(mask_after("s0*s*") == 3, "y:=(s*0)*s: y secret");
+    expect(mask_after("s00+*") == 3, "y:=s*(0+0): y secret");
+    expect(mask_after("s0*s+") == 3, "y:=s*0+s: y secret");
+    expect(mask_after("s1*") == 3, "y:=s*1: y secret");
+    expect(mask_after("sm*") == 3, "y:=s*65536, a number whose low 2 bytes are 0: y secret");
+}
+
+/* Where the product is not masked, the condition is copied three times as it is, and a read is followed by 8 nodes of mask. */
+static void case_nought_hardened(void)
+{
+    struct buffer t = {0};
+    cleared_condition_table(&t);
+    expect(t.length == 76 && harden(&t) == FLOW_ACCEPTED && answered(1) == 232 && get16(output + 8) == 28,
+           "if s*0=0: 8 nodes and 76 bytes become 28 nodes and 232 bytes");
+    buffer_free(&t);
+    cleared_index_table(&t);
+    expect(sheet(&t) == FLOW_ACCEPTED && get32(output + 8) == 1 && get16(output + 20) == 0 && get16(output + 22) == 0,
+           "x:=a0[s*0]: variable and index public");
+    expect(t.length == 58 && harden(&t) == FLOW_ACCEPTED && answered(1) == 120 && get16(output + 8) == 12,
+           "x:=a0[s*0]: 4 nodes and 58 bytes become 12 nodes and 120 bytes");
     buffer_free(&t);
 }
 
@@ -551,6 +625,8 @@ bool cases_hold(void)
     case_chain();
     case_branch();
     case_sizes();
+    case_times_nought();
+    case_nought_hardened();
     case_orphans();
     case_questions();
     case_questions_of_loops();

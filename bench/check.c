@@ -17,6 +17,7 @@
 #include "call.h"
 #include "cases.h"
 #include "demands.h"
+#include "factors.h"
 #include "flow.h"
 #include "generate.h"
 
@@ -27,35 +28,11 @@ struct tally {
     uint64_t ends[ENTRIES][MOST_END + 1];
     uint64_t alone; /* pairs of lists of questions that were asked alone too */
     struct led led[ENTRIES]; /* directives that calls of flow_guess and flow_rollback used */
+    struct factored factored[ENTRIES]; /* tables of accepted calls of flow_sheet, flow_questions and flow_harden */
     struct plays plays;
 };
 
 /* ---- Comparing ---------------------------------------------------------------------------------------------------------- */
-
-static void print_call(const struct call *call)
-{
-    printf("  %s, budget %" PRIu32 "\n", entry_names[call->entry], call->budget);
-    for (unsigned i = 0; i < SLICES; i++) {
-        printf("    %-13s %6zu bytes%s ", slice_names[i], call->slices[i].length, call->slices[i].bytes == NULL ? ", NULL" : "");
-        print_hex(stdout, call->slices[i].bytes, call->slices[i].length);
-        printf("\n");
-    }
-}
-
-static void print_difference(const struct call *before, const struct call *library, const struct call *reference,
-                             uint64_t library_result, uint64_t reference_result)
-{
-    printf("result: library %" PRIu64 ", reference %" PRIu64 "\n", library_result, reference_result);
-    for (unsigned i = 0; i < SLICES; i++)
-        if (!slice_equal(&library->slices[i], &reference->slices[i]))
-            printf("slice %s differs\n", slice_names[i]);
-    printf("at entry:\n");
-    print_call(before);
-    printf("after the library:\n");
-    print_call(library);
-    printf("after the reference:\n");
-    print_call(reference);
-}
 
 static bool guesses(enum entry entry)
 {
@@ -75,23 +52,22 @@ static void count_call(struct tally *tally, const struct call *reference, uint64
         tally->ends[entry][call_answer(reference, 1)]++;
     if (guesses(entry) && result == FLOW_ACCEPTED)
         call_led(reference, &tally->led[entry]);
+    const struct slice *table = &reference->slices[SLICE_TABLE];
+    if (!runs(entry) && result == FLOW_ACCEPTED)
+        count_factored(table->bytes, table->length, &tally->factored[entry]);
 }
 
 static bool compare_call(const struct call *call, struct tally *tally)
 {
-    struct call library = call_copy(call);
-    struct call reference = call_copy(call);
-    uint64_t library_result = call_library(&library);
-    uint64_t reference_result = call_reference(&reference);
-    bool same = library_result == reference_result;
-    for (unsigned i = 0; i < SLICES; i++)
-        same = same && slice_equal(&library.slices[i], &reference.slices[i]);
+    struct made library = make_call(call, "library", call_library);
+    struct made reference = make_call(call, "reference", call_reference);
+    bool same = made_alike(&library, &reference);
     if (same)
-        count_call(tally, &reference, reference_result);
+        count_call(tally, &reference.after, reference.result);
     else
-        print_difference(call, &library, &reference, library_result, reference_result);
-    call_free(&library);
-    call_free(&reference);
+        print_difference(call, &library, &reference);
+    call_free(&library.after);
+    call_free(&reference.after);
     return same;
 }
 
@@ -208,6 +184,13 @@ static void print_rolled(const struct led *led)
            led->at_rollback[FLOW_SPENT], led->at_rollback[FLOW_STUCK], led->at_rollback[FLOW_FULL]);
 }
 
+static void print_factored(const struct factored *factored)
+{
+    printf("    tables    %" PRIu64 " with a product with the number 0 (%" PRIu64 " have labels that are public by this alone), %" PRIu64
+           " with one with the number 1\n",
+           factored->nought, factored->lowered, factored->one);
+}
+
 static void print_leaks(const struct attack *attack)
 {
     printf("    (%" PRIu64 " scripts told the states apart on the program before hardening)\n", attack->leaks_before);
@@ -223,6 +206,8 @@ static void print_tally(const struct tally *tally)
         print_counts("refusals", tally->refusals[entry], 1, MOST_REFUSAL);
         if (runs(entry))
             print_counts("ends    ", tally->ends[entry], 1, MOST_END);
+        else
+            print_factored(&tally->factored[entry]);
         if (entry == ENTRY_GUESS)
             print_led(&tally->led[entry]);
         if (entry == ENTRY_ROLLBACK)
@@ -233,6 +218,7 @@ static void print_tally(const struct tally *tally)
     const struct plays *plays = &tally->plays;
     printf("  demand 2: %" PRIu64 " runs of hardened programs without guessing, as the original's\n", plays->same_runs);
     printf("  demand 3: %" PRIu64 " pairs of states, %" PRIu64 " with related plain runs\n", plays->pairs, plays->related);
+    print_factored(&plays->factored);
     printf("  demand 3 on flow_guess: %" PRIu64 " scripts played to these\n", plays->guessing.scripts);
     print_led(&plays->guessing.led);
     print_leaks(&plays->guessing);
@@ -268,6 +254,20 @@ static bool all_led(const struct tally *tally)
     const struct led *rolling = &tally->plays.rolling.led;
     bool played = all_played(&tally->plays.guessing.led) && all_played(rolling);
     return played && met(rolling->rollbacks > 0, "demand 3 was not played with rollbacks") && all_rolled(&tally->led[ENTRY_ROLLBACK]);
+}
+
+/* Have tables with products with 0 and with 1 been compared by each entry that labels, and played, some with labels by P6's rule alone? */
+static bool all_factored(const struct tally *tally)
+{
+    uint64_t lowered = 0;
+    bool compared = true;
+    for (enum entry entry = ENTRY_SHEET; entry <= ENTRY_HARDEN; entry++) {
+        compared = compared && tally->factored[entry].nought > 0 && tally->factored[entry].one > 0;
+        lowered += tally->factored[entry].lowered;
+    }
+    const struct factored *played = &tally->plays.factored;
+    return met(compared && lowered > 0, "flow_sheet, flow_questions and flow_harden were not compared with products with 0 and 1") &&
+           met(played->lowered > 0 && played->one > 0, "demand 3 was not played with products with 0 and 1");
 }
 
 static bool check_number(uint64_t seed, uint64_t number, struct tally *tally)
@@ -307,5 +307,5 @@ int main(int argc, char **argv)
     }
     printf("library and reference agree (seed %" PRIu64 ")\n", seed);
     print_tally(&tally);
-    return count < ENOUGH_TO_PLAY || all_led(&tally) ? 0 : 1;
+    return count < ENOUGH_TO_PLAY || (all_led(&tally) && all_factored(&tally)) ? 0 : 1;
 }

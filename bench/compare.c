@@ -8,6 +8,7 @@
 
 #include "absent.h"
 #include "call.h"
+#include "factors.h"
 #include "flow.h"
 #include "samples.h"
 #include "timing.h"
@@ -27,6 +28,30 @@ static const struct performers copies[RUNS] = {
 struct row {
     double before[RUNS], after[RUNS];
 };
+
+/* ---- Tables ------------------------------------------------------------------------------------------------------------- */
+
+/*
+ * The tables that are timed have products with the number 0, by chance: there labels, and hardened tables in length, are others
+ * since P6.  With 1 in its place a library of before P6 does the same as one of after it.
+ */
+static void same_mixed_table(unsigned nodes, unsigned sample, struct buffer *table)
+{
+    mixed_table(nodes, sample, table);
+    exchange_factors(table->bytes, table->length, 0, 1);
+}
+
+static void same_many_copies_table(unsigned nodes, unsigned sample, struct buffer *table)
+{
+    many_copies_table(nodes, sample, table);
+    exchange_factors(table->bytes, table->length, 0, 1);
+}
+
+static void same_few_copies_table(unsigned nodes, unsigned sample, struct buffer *table)
+{
+    few_copies_table(nodes, sample, table);
+    exchange_factors(table->bytes, table->length, 0, 1);
+}
 
 /* ---- Rows --------------------------------------------------------------------------------------------------------------- */
 
@@ -92,7 +117,7 @@ static void compare_samples(const char *what, enum entry entry, const unsigned *
 {
     for (; *sizes != 0; sizes++) {
         struct call calls[SAMPLES];
-        sample_calls(entry, mixed_table, *sizes, calls);
+        sample_calls(entry, same_mixed_table, *sizes, calls);
         compare_calls(what, *sizes, calls, SAMPLES);
     }
 }
@@ -185,9 +210,9 @@ int main(void)
     compare_samples("reading (a run refused by 20)", ENTRY_RUN, sample_sizes);
     compare_samples("labelling", ENTRY_SHEET, sample_sizes);
     compare_samples("256 questions", ENTRY_QUESTIONS, asked_sizes);
-    compare_rooms("mixed", mixed_table, sample_sizes);
-    compare_rooms("many copies", many_copies_table, copied_sizes);
-    compare_rooms("few copies", few_copies_table, copied_sizes);
+    compare_rooms("mixed", same_mixed_table, sample_sizes);
+    compare_rooms("many copies", same_many_copies_table, copied_sizes);
+    compare_rooms("few copies", same_few_copies_table, copied_sizes);
     compare_nesting();
     compare_machine("plain machine, so many steps", ENTRY_RUN);
     compare_machine("guessing machine, so many steps", ENTRY_GUESS);

@@ -51,6 +51,15 @@ static unsigned gadget_read(struct buffer *t, unsigned array, unsigned index)
     return assemble_node3(t, FLOW_READ, J, array, at);
 }
 
+/* j := j*0, which makes it public, or j := j*1, which does not; the number may stand first. */
+static unsigned gadget_product(struct random *r, struct buffer *t)
+{
+    unsigned one = assemble_node1(t, FLOW_VARIABLE, J);
+    unsigned other = assemble_node1(t, FLOW_NUMBER, random_below(r, 2));
+    bool swap = random_percent(r, 50);
+    return assemble_node2(t, FLOW_ASSIGN, J, assemble_node2(t, FLOW_MULTIPLY, swap ? other : one, swap ? one : other));
+}
+
 /* An access that shows j: x := a1[j], or a1[j] := k */
 static unsigned gadget_access(struct random *r, struct buffer *t)
 {
@@ -74,8 +83,8 @@ static unsigned gadget_start(struct random *r, struct buffer *t)
 }
 
 /*
- * start; if i<bound then (j:=a0[i]; access j) else skip, or its like with a loop or without the first read, with sizes and labels
- * by chance: the programs that leak most easily.
+ * start; if i<bound then (j:=a0[i]; access j) else skip, or its like with a loop, without the first read or with a product behind
+ * it, with sizes and labels by chance: the programs that leak most easily.
  */
 static void generate_gadget(struct random *r, struct buffer *t)
 {
@@ -85,7 +94,10 @@ static void generate_gadget(struct random *r, struct buffer *t)
     unsigned i = assemble_node1(t, FLOW_VARIABLE, I);
     unsigned condition = assemble_node2(t, FLOW_LESS, i, assemble_node1(t, FLOW_NUMBER, random_below(r, counts[0] + 1u)));
     unsigned body = gadget_access(r, t);
-    if (random_percent(r, 60))
+    bool reads = random_percent(r, 60);
+    if (random_percent(r, reads ? 20 : 50))
+        body = gadget_sequence(t, gadget_product(r, t), body);
+    if (reads)
         body = gadget_sequence(t, gadget_read(t, 0, I), body);
     if (random_percent(r, 50))
         body = assemble_node3(t, FLOW_IF, condition, body, assemble_node0(t, FLOW_SKIP));
@@ -102,6 +114,7 @@ static void generate_program(struct random *r, struct buffer *table)
     }
     struct plan plan = plan_small(r, random_percent(r, 80) ? 50 : 150);
     plan.accesses = 60;
+    plan.factors = 60;
     generate_table(r, &plan, table);
 }
 
@@ -392,6 +405,7 @@ bool play_demands(struct random *r, struct plays *plays)
         same = play_same_run(&scene, 0, plays) && play_same_run(&scene, 1, plays);
         if (same && plain_runs_related(&scene)) {
             plays->related++;
+            count_factored(scene.table.bytes, scene.table.length, &plays->factored);
             same = play_scripts(r, &scene, ENTRY_GUESS, &plays->guessing) && play_scripts(r, &scene, ENTRY_ROLLBACK, &plays->rolling);
         }
     }

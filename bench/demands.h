@@ -9,6 +9,7 @@
 #include <stdint.h>
 
 #include "call.h"
+#include "factors.h"
 #include "generate.h"
 
 /* Demand 3, played on one of the machines that guess. */
@@ -22,6 +23,7 @@ struct plays {
     uint64_t pairs;          /* programs, each with a pair of states */
     uint64_t same_runs;      /* runs without guessing compared with the original's */
     uint64_t related;        /* pairs whose plain runs are related, so that demand 3 speaks of them */
+    struct factored factored; /* the programs of these */
     struct attack guessing, rolling; /* on flow_guess and on flow_rollback */
 };
 

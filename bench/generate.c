@@ -81,6 +81,7 @@ static void plan_style(struct random *r, struct plan *plan)
     plan->loops = random_below(r, 4) * 12;
     plan->accesses = 20 + random_below(r, 50);
     plan->long_expressions = random_percent(r, 15) ? random_below(r, 40) : 0;
+    plan->factors = 30;
 }
 
 struct plan plan_small(struct random *r, unsigned most_nodes)
@@ -348,6 +349,39 @@ static void sketch_tree(struct sketch *s, char sort)
     }
 }
 
+/* The operand that is a number, or else one that is a variable; the one of two alike by chance.  NULL: both are larger. */
+static struct sketch_node *pick_operand(struct sketch *s, const struct sketch_node *node)
+{
+    unsigned side = random_below(s->random, 2);
+    struct sketch_node *one = &s->nodes[node->fields[side]], *other = &s->nodes[node->fields[1 - side]];
+    if (one->kind == FLOW_NUMBER || (one->kind == FLOW_VARIABLE && other->kind != FLOW_NUMBER))
+        return one;
+    return other->size == 1 ? other : NULL;
+}
+
+/* 0, or 1, or one that is 0 but for a higher byte. */
+static uint32_t random_factor(struct random *r)
+{
+    if (random_percent(r, 50))
+        return 0;
+    return (uint32_t)1 << (random_percent(r, 80) ? 0 : 8 * random_below(r, 4));
+}
+
+/* Makes products with such a number.  A plan without them draws nothing, so that tables which are timed stay as they were. */
+static void put_factors(struct sketch *s)
+{
+    for (unsigned at = 0; at < s->count && s->plan->factors > 0; at++) {
+        struct sketch_node *node = &s->nodes[at];
+        bool suits = node->kind == FLOW_ADD || node->kind == FLOW_SUBTRACT || node->kind == FLOW_MULTIPLY;
+        struct sketch_node *operand = suits && random_percent(s->random, s->plan->factors) ? pick_operand(s, node) : NULL;
+        if (operand != NULL) {
+            node->kind = FLOW_MULTIPLY;
+            operand->kind = FLOW_NUMBER;
+            operand->fields[0] = random_factor(s->random);
+        }
+    }
+}
+
 static unsigned pick_ready(struct sketch *s, unsigned first, unsigned count)
 {
     switch (s->plan->order) {
@@ -395,6 +429,7 @@ unsigned generate_part(struct random *r, const struct plan *plan, char sort, str
     s->random = r;
     s->count = 0;
     sketch_tree(s, sort);
+    put_factors(s);
     number_tree(s, table);
     unsigned top = s->nodes[0].number;
     free(s);

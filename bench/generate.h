@@ -36,6 +36,7 @@ struct plan {
     unsigned loops;     /* percent of the larger commands that are loops */
     unsigned accesses;  /* percent of the smaller commands that read or write an array */
     unsigned long_expressions; /* percent of commands whose expressions may take all their nodes */
+    unsigned factors;   /* percent of sums, differences and products that become products with the number 0 or 1, where they can */
 };
 
 struct plan plan_small(struct random *r, unsigned most_nodes);

@@ -204,15 +204,15 @@ static bool same_labelling(struct labelling one, struct labelling other)
 }
 
 /*
- * What the analysis knows of each node: for an expression, the variables in it; for a command, the context, the labelling that
- * enters it and the one that its sheet record is made from.  That is, of a sequence, the one after its first part; of a loop, the
- * settled one; of any other command, the one that enters it.  Inside a loop a later pass overwrites what an earlier one noted, so
- * the settled pass stays.
+ * What the analysis knows of each node: for an expression, the variables that, where secret, make it secret; for a command, the
+ * context, the labelling that enters it and the one that its sheet record is made from.  That is, of a sequence, the one after its
+ * first part; of a loop, the settled one; of any other command, the one that enters it.  Inside a loop a later pass overwrites what
+ * an earlier one noted, so the settled pass stays.
  */
 struct analysis {
     const struct program *program;
     struct labelling final;
-    uint32_t variables_in[FLOW_MAX_NODES];
+    uint32_t telling[FLOW_MAX_NODES];
     struct labelling entering[FLOW_MAX_NODES];
     struct labelling noted[FLOW_MAX_NODES];
     bool context[FLOW_MAX_NODES];
@@ -220,10 +220,25 @@ struct analysis {
 
 static bool is_secret(const struct analysis *a, unsigned expression, struct labelling at)
 {
-    return (a->variables_in[expression] & at.variables) != 0;
+    return (a->telling[expression] & at.variables) != 0;
 }
 
-/* Children stand below their parents, so one pass in rising order finds every expression's variables. */
+/* A number node of value 0; an expression that comes to 0 is none. */
+static bool is_nought(const struct program *p, unsigned node)
+{
+    return kind_at(p, node) == FLOW_NUMBER && number_at(p, node) == 0;
+}
+
+/* P6: a product with such an operand is public, and no variable in it tells anything to an expression around it. */
+static bool is_times_nought(const struct program *p, unsigned node)
+{
+    return kind_at(p, node) == FLOW_MULTIPLY && (is_nought(p, field_at(p, node, 0)) || is_nought(p, field_at(p, node, 1)));
+}
+
+/*
+ * All variables in an expression count but those in a product with nought.  Children stand below their parents, so one pass in
+ * rising order finds them for every expression.
+ */
 static void collect_variables(struct analysis *a)
 {
     const struct program *p = a->program;
@@ -232,13 +247,13 @@ static void collect_variables(struct analysis *a)
         uint32_t in = 0;
         if (kind == FLOW_VARIABLE)
             in = (uint32_t)1 << field_at(p, node, 0);
-        else if (sort_of(kind) != 'C') {
+        else if (sort_of(kind) != 'C' && !is_times_nought(p, node)) {
             const char *fields = fields_of(kind);
             for (unsigned i = 0; fields[i]; i++)
                 if (is_child(fields[i]))
-                    in |= a->variables_in[field_at(p, node, i)];
+                    in |= a->telling[field_at(p, node, i)];
         }
-        a->variables_in[node] = in;
+        a->telling[node] = in;
     }
 }
 

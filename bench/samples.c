@@ -37,6 +37,7 @@ static struct plan sample_plan(struct random *r, unsigned nodes)
     plan.shape = SHAPE_BUSHY;
     plan.loops = 0;
     plan.long_expressions = 0;
+    plan.factors = 0;
     return plan;
 }
 

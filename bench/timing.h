@@ -6,8 +6,6 @@
 
 enum { MOST_GROUPS = 3 };
 
-typedef uint64_t performer(struct call *call);
-
 /* The library, and what it is timed beside: the reference, or another library. */
 struct performers {
     performer *library, *other;

@@ -140,8 +140,9 @@ enum flow_kind {
 };
 
 /*
- * Labels a table and writes its label sheet to the front of `sheet`.  Bytes of `sheet` beyond the reported length are unchanged;
- * exact length suffices.  Refusals: 1 to 7, 23.
+ * Labels a table and writes its label sheet to the front of `sheet`.  An expression is secret if a variable in it is, but a product
+ * with a number node of value 0 as an operand is public, and a variable inside one makes no larger expression secret.  Bytes of
+ * `sheet` beyond the reported length are unchanged; exact length suffices.  Refusals: 1 to 7, 23.
  */
 uint64_t flow_sheet(const uint8_t *table, size_t table_len,
                     uint8_t *sheet, size_t sheet_len,

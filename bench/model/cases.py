@@ -9,10 +9,12 @@ from harden_cases import add_harden_cases, add_hardened_runs
 from tree_cases import add_tree_cases
 from questions_cases import add_questions_cases
 from rollback_cases import add_rollback_cases
+from nought_cases import add_nought_cases
 FOLDER = os.path.dirname(os.path.abspath(__file__)) + '/../../crates/cases/'
 written = []
 def main():
-    for add in (add_sheet_cases, add_machine_cases, add_harden_cases, add_hardened_runs, add_tree_cases, add_questions_cases, add_rollback_cases): add()
+    for add in (add_sheet_cases, add_machine_cases, add_harden_cases, add_hardened_runs, add_tree_cases, add_questions_cases, add_rollback_cases,
+                add_nought_cases): add()
     write_files(FOLDER)
     written.append({name: sum(call[0] == entry for call in calls) for entry, name in NAMES.items()})
 thread = threading.Thread(target=main); thread.start(); thread.join()

@@ -74,6 +74,7 @@ def strip(t):
 # ---- labels (trees with numbers)
 def vars_of(t):
     if t[1] == 'var': return {t[2]}
+    if t[1] == 'mul' and ('num', 0) in (t[2][1:], t[3][1:]): return set()   # P6: an operand that is itself a number node of value 0; what stands in the product counts for nothing
     s = set()
     for p in t[2:]:
         if isinstance(p, tuple): s |= vars_of(p)

@@ -3,13 +3,14 @@ use Prim.Native.Nat.{ℕ}
 use mathlib.Core.Bool.{false, true≢false}
 use mathlib.Core.Path.{_≡_, refl, sym, subst, _∙_}
 use native.Mathlib.Omega.{arith}
-use Rattle.awhile.specs.Language.{AExp, number, variable, add, subtract, multiply, choice}
-use Rattle.awhile.specs.Language.{BExp, constant, equal, less, not, and}
-use Rattle.awhile.specs.Language.{Com, skip, assign, sequence, if, while, read, write}
+use Rattle.awhile.specs.Language.{AExp, BExp, Com, skip, assign, sequence, if, while, read, write}
 use Rattle.awhile.specs.declared.Labelling.{Labelling}
 use Rattle.labels.specs.Labellings.{Mark, variableMark, arrayMark, labelOf, setLabel, labelOfA, labelOfB, _⊑_}
 use Rattle.labels.specs.Analysis.{readLabel, writeLabel, analyse}
+use Rattle.labels.specs.Places.{SecretCounts}
+use Rattle.labels.proofs.Booleans.{not-secret}
 use Rattle.labels.proofs.Masks.{bit-above}
+use Rattle.labels.proofs.Places.{secret-by-places}
 use Rattle.labels.proofs.Order.{⊑-refl, ⊑-antisym, join-least, equal-labels, label-set, label-set-other, mark-discrete}
 use Rattle.labels.proofs.Analysis.{loop-settles}
 
@@ -30,23 +31,15 @@ public-least l = record { at = λ k e. absurd (true≢false (sym e ∙ label-not
 nothing-only : (l : Labelling) → l ⊑ nothing → l ≡ nothing
 nothing-only l h = ⊑-antisym h (public-least l)
 
-mutual
-  unfolding labelOfA
+-- so no expression is secret: no variable that has a place in it is
+no-secret-counts : {Counts : ℕ → Type 0} → SecretCounts nothing Counts → ⊥
+no-secret-counts c = true≢false (sym (c .secret) ∙ label-nothing (variableMark (c .variable)))
 
-  nothing-in-A : (a : AExp) → labelOfA nothing a ≡ false
-  nothing-in-A (number n) = refl
-  nothing-in-A (variable x) = label-nothing (variableMark x)
-  nothing-in-A (add a b) = rw (nothing-in-A a, nothing-in-A b)
-  nothing-in-A (subtract a b) = rw (nothing-in-A a, nothing-in-A b)
-  nothing-in-A (multiply a b) = rw (nothing-in-A a, nothing-in-A b)
-  nothing-in-A (choice c a b) = rw (nothing-in-B c, nothing-in-A a, nothing-in-A b)
+nothing-in-A : (a : AExp) → labelOfA nothing a ≡ false
+nothing-in-A a = not-secret (labelOfA nothing a) (λ e. no-secret-counts (secret-by-places nothing .numeric a .0 e))
 
-  pub nothing-in-B : (b : BExp) → labelOfB nothing b ≡ false
-  nothing-in-B (constant b) = refl
-  nothing-in-B (equal a b) = rw (nothing-in-A a, nothing-in-A b)
-  nothing-in-B (less a b) = rw (nothing-in-A a, nothing-in-A b)
-  nothing-in-B (not b) = nothing-in-B b
-  nothing-in-B (and b c) = rw (nothing-in-B b, nothing-in-B c)
+pub nothing-in-B : (b : BExp) → labelOfB nothing b ≡ false
+nothing-in-B b = not-secret (labelOfB nothing b) (λ e. no-secret-counts (secret-by-places nothing .truth b .0 e))
 
 -- a public label that is set leaves nothing secret
 set-nothing : (k : Mark) → setLabel nothing k false ≡ nothing

@@ -12,6 +12,11 @@ pub or-false-right : (a b : Bool) → (a || b) ≡ false → b ≡ false
 or-false-right true b e = absurd (true≢false e)
 or-false-right false b e = e
 
+-- what is not secret is public
+pub not-secret : (a : Bool) → (a ≡ true → ⊥) → a ≡ false
+not-secret true h = absurd (h refl)
+not-secret false h = refl
+
 -- what is below a public label is public
 pub atMost-false : {a b : Bool} → atMost a b → b ≡ false → a ≡ false
 atMost-false {a = true} h e = sym (h refl) ∙ e

@@ -3,8 +3,9 @@ use Prim.Native.Nat.{ℕ}
 use mathlib.Core.Bool.{true, false}
 use mathlib.Core.List.{List, [], _∷_, map}
 use mathlib.Core.Path.{_≡_, refl}
-use Rattle.awhile.specs.Language.{number, variable, constant, less, Com, assign, sequence, while}
+use Rattle.awhile.specs.Language.{AExp, number, variable, add, multiply, constant, less, Com, assign, sequence, while}
 use Rattle.awhile.specs.declared.Labelling.{Labelling}
+use Rattle.labels.specs.Labellings.{labelOfA}
 use Rattle.labels.specs.Analysis.{analyse}
 use Rattle.labels.specs.Annotation.{annotate}
 use Rattle.labels.specs.Questions.{answerTo}
@@ -61,3 +62,52 @@ inner-asked = refl
 pub outer-asked : asked nested 14 ≡ 0 ∷ 0 ∷ 0 ∷ 1 ∷ []
 unfolding opened
 outer-asked = refl
+
+-- ---- products with 0; s is variable 3
+abbrev s : AExp
+s = variable 3
+
+abbrev cleared : AExp
+cleared = multiply s (number 0)
+
+-- "A product with a number node of value 0 as either operand is public": `s*0`, `0*s`
+pub nought-on-the-right : labelOfA labels cleared ≡ false
+unfolding opened
+nought-on-the-right = refl
+
+pub nought-on-the-left : labelOfA labels (multiply (number 0) s) ≡ false
+unfolding opened
+nought-on-the-left = refl
+
+-- The operand itself is the number: in `(s*0)*s` and `s*(0+0)` it is an expression, of value 0, and in `s*1` the number is another.
+pub product-no-nought : labelOfA labels (multiply cleared s) ≡ true
+unfolding opened
+product-no-nought = refl
+
+pub sum-no-nought : labelOfA labels (multiply s (add (number 0) (number 0))) ≡ true
+unfolding opened
+sum-no-nought = refl
+
+pub one-no-nought : labelOfA labels (multiply s (number 1)) ≡ true
+unfolding opened
+one-no-nought = refl
+
+-- "a variable's place inside one makes no larger expression secret": `s*0+x`; a place beside it does: `s*0+s`
+pub place-inside : labelOfA labels (add cleared (variable 0)) ≡ false
+unfolding opened
+place-inside = refl
+
+pub place-beside : labelOfA labels (add cleared s) ≡ true
+unfolding opened
+place-beside = refl
+
+-- `while x<3 do (x:=y; (y:=z*0; z:=s))`
+abbrev brokenChain : Com ℕ
+brokenChain =
+    while 13 (less (variable 0) (number 3))
+    (sequence 12 (assign 4 0 (variable 1)) (sequence 11 (assign 8 1 (multiply (variable 2) (number 0))) (assign 10 2 s)))
+
+-- z becomes secret, and x and y stay public
+pub broken-chain-settles : analyse brokenChain false labels ≡ record { variables = 12; arrays = 0 }
+unfolding opened
+broken-chain-settles = refl

@@ -5,6 +5,7 @@ pub mod Booleans
 pub mod Masks
 pub mod Order
 pub mod Values
+pub mod Places
 pub mod Passes
 pub mod Analysis
 pub mod Notes

@@ -1,6 +1,6 @@
 -- A labelling says which variables and arrays are secret. A label is a Bool: true is secret.
 use Prim.Native.Nat.{ℕ}
-use mathlib.Core.Bool.{Bool, true, false, _&&_, _||_}
+use mathlib.Core.Bool.{Bool, true, false, cond, _&&_, _||_}
 use mathlib.Core.Path.{_≡_}
 use lib.Bits.{bitOr}
 use lib.Dec.{eqb}
@@ -34,14 +34,27 @@ infix 4 _⊑_
 pub record _⊑_ (l m : Labelling) : Type 0 where
   pub at : (k : Mark) → labelOf l k ≡ true → labelOf m k ≡ true
 
--- "An expression is secret if any variable in it is."
+-- a number node of value 0: the node itself, not an expression whose value is 0
+unfoldable pub isNought : AExp → Bool
+isNought (number n) = eqb n 0
+isNought (variable x) = false
+isNought (add a b) = false
+isNought (subtract a b) = false
+isNought (multiply a b) = false
+isNought (choice c a b) = false
+
+-- "a product with a number node of value 0 as either operand"
+unfoldable pub timesNought : (left right : AExp) → Bool
+timesNought a b = isNought a || isNought b
+
+-- "An expression is secret if any variable in it is", but for the variables inside a product with such a number, which is public.
 unfoldable mutual
   pub labelOfA : Labelling → AExp → Bool
   labelOfA l (number n) = false
   labelOfA l (variable x) = labelOf l (variableMark x)
   labelOfA l (add a b) = labelOfA l a || labelOfA l b
   labelOfA l (subtract a b) = labelOfA l a || labelOfA l b
-  labelOfA l (multiply a b) = labelOfA l a || labelOfA l b
+  labelOfA l (multiply a b) = cond (timesNought a b) false (labelOfA l a || labelOfA l b)
   labelOfA l (choice c a b) = labelOfB l c || (labelOfA l a || labelOfA l b)
 
   pub labelOfB : Labelling → BExp → Bool

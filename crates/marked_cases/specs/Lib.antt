@@ -6,6 +6,7 @@ pub mod Orphans
 pub mod Labelled
 pub mod Asked
 pub mod Hardened
+pub mod Nought
 pub mod BoundsCheck
 pub mod RolledBack
 pub mod Chain

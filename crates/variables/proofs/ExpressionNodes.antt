@@ -1,5 +1,6 @@
--- The nodes that no arm of a `match` over expressions names: numbers and constants, which name no variable.
+-- The nodes that no arm of a `match` over expressions names: numbers and constants, which name no variable, and where 0 is looked for, what is no number.
 use Prim.Native.Nat.{ℕ}
+use mathlib.Core.Bool.{false}
 use mathlib.Core.List.{List, [], _∷_}
 use mathlib.Core.Path.{_≡_}
 use denote.Enum.Declared.{tagOf}
@@ -13,6 +14,7 @@ use Rattle.awhile.specs.declared.Node.the-variants.{Constant, Equal, Less, Not,
 use Rattle.awhile.specs.declared.Node.the-variants.{Skip, Assign, Sequence, If, While, Read, Write}
 use Rattle.reader.proofs.Index.{Parts}
 use Rattle.awhile.proofs.Node.{the-type}
+use Rattle.labels.specs.Labellings.{isNought}
 use Rattle.variables.specs.Variables.{variablesOfA, variablesOfB}
 
 -- the kinds of nodes that `numeric_variables` does not name
@@ -22,6 +24,10 @@ unnamedNumeric = 0 ∷ 6 ∷ 7 ∷ 8 ∷ 9 ∷ 10 ∷ 11 ∷ 12 ∷ 13 ∷ 14 �
 -- the kinds of nodes that `truth_variables` does not name
 abbrev pub unnamedTruth : List ℕ
 unnamedTruth = 0 ∷ 1 ∷ 2 ∷ 3 ∷ 4 ∷ 5 ∷ 6 ∷ 11 ∷ 12 ∷ 13 ∷ 14 ∷ 15 ∷ 16 ∷ 17 ∷ []
+
+-- the kinds of nodes that `is_nought` does not name
+abbrev pub unnamedNought : List ℕ
+unnamedNought = 1 ∷ 2 ∷ 3 ∷ 4 ∷ 5 ∷ 6 ∷ 7 ∷ 8 ∷ 9 ∷ 10 ∷ 11 ∷ 12 ∷ 13 ∷ 14 ∷ 15 ∷ 16 ∷ 17 ∷ []
 
 module _ (table : List ℕ) (n : ℕ) where
   -- a numeric node that is not named is a number, which names no variable
@@ -67,3 +73,25 @@ module _ (table : List ℕ) (n : ℕ) where
   constant-names-none (While b c) o s p = cc
   constant-names-none (Read x a i) o s p = cc
   constant-names-none (Write a i e) o s p = cc
+
+  -- a numeric node that is not a number is no nought
+  pub no-nought : (m : Node) → OneOf unnamedNought (tagOf the-type m) → sortOf m ≡ Numeric → Parts table n m → false ≡ isNought (numericIn table n)
+  unfolding sortOf form isNought
+  no-nought (Number v) o s p = absurd (miss unnamedNought 0 tt o)
+  no-nought (Variable x) o s p = rw (p .1)
+  no-nought (Add a b) o s p = rw (p .2)
+  no-nought (Subtract a b) o s p = rw (p .2)
+  no-nought (Multiply a b) o s p = rw (p .2)
+  no-nought (Choice c a b) o s p = rw (p .3)
+  no-nought (Constant v) o s p = cc
+  no-nought (Equal a b) o s p = cc
+  no-nought (Less a b) o s p = cc
+  no-nought (Not a) o s p = cc
+  no-nought (And a b) o s p = cc
+  no-nought Skip o s p = cc
+  no-nought (Assign x e) o s p = cc
+  no-nought (Sequence c d) o s p = cc
+  no-nought (If b c d) o s p = cc
+  no-nought (While b c) o s p = cc
+  no-nought (Read x a i) o s p = cc
+  no-nought (Write a i e) o s p = cc

@@ -1,7 +1,7 @@
--- An expression's label under a labelling is whether its variables and the labelling's secret ones meet.
+-- An expression's label under a labelling is whether the variables that can make it secret and the labelling's secret ones meet.
 use Prim.Native.Nat.{ℕ, zero, suc, _+_, _*_, _/_, _%_, _^_, _<_, min}
 use native.Mathlib.Omega.{arith}
-use mathlib.Core.Bool.{Bool, true, false, _||_, _&&_}
+use mathlib.Core.Bool.{Bool, true, false, cond, _||_, _&&_}
 use mathlib.Core.Bool.{not as negated}
 use mathlib.Core.Path.{_≡_, refl, sym, ap, ap₂, _∙_}
 use lib.Bits.{bitAnd, bitOr, and-step, and-zero-r, and-mask, or-add-and, and-le-l, and-le-r}
@@ -12,7 +12,7 @@ use Rattle.awhile.specs.Language.{AExp, number, variable, add, subtract, multip
 use Rattle.awhile.specs.Language.{BExp, constant, equal, less, not, and}
 use Rattle.awhile.specs.declared.Labelling.{Labelling}
 use Rattle.labels.specs.Masks.{bit}
-use Rattle.labels.specs.Labellings.{labelOf, labelOfA, labelOfB}
+use Rattle.labels.specs.Labellings.{labelOf, timesNought, labelOfA, labelOfB}
 use Rattle.labels.proofs.Masks.{bit-or, bit-ext}
 use Rattle.variables.specs.Variables.{variablesOfA, variablesOfB, meet}
 
@@ -63,6 +63,11 @@ meet-nothing : (m : ℕ) → meet m 0 ≡ false
 unfolding meet
 meet-nothing m = rw (and-zero-r m)
 
+-- nor does it meet a mask that is taken for nothing
+meet-unless : (m : ℕ) (nothing : Bool) (a : ℕ) → meet m (cond nothing 0 a) ≡ cond nothing false (meet m a)
+meet-unless m true a = meet-nothing m
+meet-unless m false a = refl
+
 -- a join is something where either mask is
 some-or : (x y : ℕ) → negated (eqb (bitOr x y) 0) ≡ (negated (eqb x 0) || negated (eqb y 0))
 some-or x y = go (ℕ-discrete x 0) (ℕ-discrete y 0)
@@ -111,7 +116,7 @@ meet-one m (suc x) =
     ∙ some-twice (bitAnd (m / 2) (2 ^ x))
     ∙ meet-one (m / 2) x
 
--- ---- THE LAW: "An expression is secret if any variable in it is"
+-- ---- THE LAW: "An expression is secret if any variable in it is", of those that a product with a number node of value 0 does not hide
 mutual
   unfolding labelOfA labelOf variablesOfA
 
@@ -120,7 +125,9 @@ mutual
   label-meets-A l (variable x) = sym (meet-one (l .variables) x)
   label-meets-A l (add a b) = ap₂ _||_ (label-meets-A l a) (label-meets-A l b) ∙ sym (meet-or (l .variables) (variablesOfA a) (variablesOfA b))
   label-meets-A l (subtract a b) = ap₂ _||_ (label-meets-A l a) (label-meets-A l b) ∙ sym (meet-or (l .variables) (variablesOfA a) (variablesOfA b))
-  label-meets-A l (multiply a b) = ap₂ _||_ (label-meets-A l a) (label-meets-A l b) ∙ sym (meet-or (l .variables) (variablesOfA a) (variablesOfA b))
+  label-meets-A l (multiply a b) =
+      ap (cond (timesNought a b) false) (ap₂ _||_ (label-meets-A l a) (label-meets-A l b) ∙ sym (meet-or (l .variables) (variablesOfA a) (variablesOfA b)))
+      ∙ sym (meet-unless (l .variables) (timesNought a b) (bitOr (variablesOfA a) (variablesOfA b)))
   label-meets-A l (choice c a b) =
       ap₂ _||_ (label-meets-B l c) (ap₂ _||_ (label-meets-A l a) (label-meets-A l b) ∙ sym (meet-or (l .variables) (variablesOfA a) (variablesOfA b)))
       ∙ sym (meet-or (l .variables) (variablesOfB c) (bitOr (variablesOfA a) (variablesOfA b)))

@@ -1,3 +1,3 @@
--- The variables in an expression, and what the code notes of them.
+-- The variables that can make an expression secret, and what the code notes of them.
 pub mod Variables
 pub mod Named

@@ -1,4 +1,4 @@
--- What a slice notes of a table: at the node of each expression that a command holds, the variables in it.
+-- What a slice notes of a table: at the node of each expression that a command holds, the variables that can make it secret.
 use Prim.Native.Nat.{ℕ, _<_, _≤_}
 use mathlib.Core.List.{List, [], _∷_, flatMap, List·Memᴰ}
 use mathlib.Core.Logic.{_⊎_}
@@ -27,7 +27,7 @@ fieldExpressions (child s c) = expressionOf s c
 unfoldable pub expressionsOf : Node → List ℕ
 expressionsOf n = flatMap fieldExpressions (form n .fields)
 
--- the variables of the expression at a node
+-- those of the expression at a node
 abbrev pub namedAt : (table : List ℕ) → (node : ℕ) → ℕ
 namedAt table n = variablesOf (treeIn table n)
 

@@ -1,13 +1,14 @@
--- The variables in an expression, as a mask: the expression is secret under a labelling if the two masks meet ("An expression is secret if any
--- variable in it is"; the law is `label-meets-A`). The mask does not depend on the labelling.
+-- The variables that can make an expression secret, as a mask: those in it that have a place outside every product with a number node of value 0.
+-- The expression is secret under a labelling if the two masks meet (the law is `label-meets-A`). The mask does not depend on the labelling.
 use Prim.Native.Nat.{ℕ, _^_}
-use mathlib.Core.Bool.{Bool}
+use mathlib.Core.Bool.{Bool, cond}
 use mathlib.Core.Bool.{not as negated}
 use lib.Bits.{bitAnd, bitOr}
 use lib.Dec.{eqb}
 use Rattle.awhile.specs.Language.{AExp, number, variable, add, subtract, multiply, choice}
 use Rattle.awhile.specs.Language.{BExp, constant, equal, less, not, and}
 use Rattle.awhile.specs.Trees.{Tree, numeric, truth, command}
+use Rattle.labels.specs.Labellings.{timesNought}
 
 unfoldable mutual
   pub variablesOfA : AExp → ℕ
@@ -15,7 +16,7 @@ unfoldable mutual
   variablesOfA (variable x) = 2 ^ x
   variablesOfA (add a b) = bitOr (variablesOfA a) (variablesOfA b)
   variablesOfA (subtract a b) = bitOr (variablesOfA a) (variablesOfA b)
-  variablesOfA (multiply a b) = bitOr (variablesOfA a) (variablesOfA b)
+  variablesOfA (multiply a b) = cond (timesNought a b) 0 (bitOr (variablesOfA a) (variablesOfA b))
   variablesOfA (choice c a b) = bitOr (variablesOfB c) (bitOr (variablesOfA a) (variablesOfA b))
 
   pub variablesOfB : BExp → ℕ
@@ -29,7 +30,7 @@ unfoldable mutual
 unfoldable pub meet : ℕ → ℕ → Bool
 meet m n = negated (eqb (bitAnd m n) 0)
 
--- the variables in a node's tree; a command is no expression
+-- those of a node's tree; a command is no expression
 unfoldable pub variablesOf : Tree → ℕ
 variablesOf (numeric a) = variablesOfA a
 variablesOf (truth b) = variablesOfB b

@@ -1,4 +1,4 @@
-// For each expression that a command holds, the variables in it are noted at its node, once a table.
+// For each expression that a command holds, the variables that can make it secret are noted at its node, once a table.
 use crate::expressions::numeric_variables;
 use crate::expressions::truth_variables;
 use awhile::Node;

@@ -1,11 +1,13 @@
-// The variables in an expression. Numbers and truths nest in each other, so the two functions call each other; the parts of a node are left to
-// functions of their own: only these copy slices to hand them on, and a node without parts is quick.
+// The variables that can make an expression secret. Numbers and truths nest in each other, so the two functions call each other; the parts of a
+// node are left to functions of their own: only these copy slices to hand them on, and a node without parts is quick.
 use crate::meeting::mark;
+use crate::noughts::times_nought;
 use awhile::Node;
 use reader::lookup::numeric_at;
 use reader::lookup::truth_at;
 ghost use mathlib.Core.Path.{_≡_};
 ghost use lib.Bits.{bitOr};
+ghost use Rattle.awhile.specs.Language.{multiply};
 ghost use Rattle.reader.specs.Index.{numericIn, truthIn, OfSort};
 ghost use Rattle.awhile.specs.declared.Sort.the-variants.{Numeric, Truth};
 ghost use Rattle.variables.specs.Variables.{variablesOfA, variablesOfB};
@@ -20,7 +22,7 @@ pub fn numeric_variables(table: &[u8], index: &[u16], n: usize) -> u64
         Node::Variable { variable } => mark(variable),
         Node::Add { left, right } => both_variables(table, index, left, right),
         Node::Subtract { left, right } => both_variables(table, index, left, right),
-        Node::Multiply { left, right } => both_variables(table, index, left, right),
+        Node::Multiply { left, right } => product_variables(table, index, left, right),
         Node::Choice { condition, yes, no } => choice_variables(table, index, condition, yes, no),
         // a number; nodes of other sorts never stand here
         _ => 0,
@@ -51,6 +53,17 @@ fn both_variables(table: &[u8], index: &[u16], left: usize, right: usize) -> u64
     let first = numeric_variables(table, index, left);
     let second = numeric_variables(table, index, right);
     first | second
+}
+
+// The variables in a product; none where a number node of value 0 is an operand.
+fn product_variables(table: &[u8], index: &[u16], left: usize, right: usize) -> u64
+    requires { ⌜ OfSort (now table) (now index) Numeric left × OfSort (now table) (now index) Numeric right ⌝ }
+    ensures { λ r. ⌜ r ≡ variablesOfA (multiply (numericIn (now (table .entry)) left) (numericIn (now (table .entry)) right)) ⌝ }
+{
+    if times_nought(table, index, left, right) {
+        return 0;
+    }
+    both_variables(table, index, left, right)
 }
 
 // The variables in a choice.
