@@ -1,5 +1,6 @@
 -- Labels as truths: a label is at most another (`le` of mathlib.Core.Bool) if the second is secret where the first is.
-use mathlib.Core.Bool.{Bool, true, false, le as atMost, _&&_, _||_, true≢false}
+use mathlib.Core.Bool.{Bool, true, false, le as atMost, cond, _&&_, _||_, true≢false}
+use mathlib.Core.Logic.{_⊎_, inl, inr}
 use mathlib.Core.Path.{_≡_, refl, sym, _∙_}
 
 -- a public join has a public first part
@@ -56,3 +57,19 @@ and-left false b e = e
 pub and-right : (a b : Bool) → (a && b) ≡ true → b ≡ true
 and-right true b e = e
 and-right false b e = absurd (true≢false (sym e))
+
+-- ---- a label that is public where something holds, as that of a product does with a number node of value 0
+-- larger labels give larger ones
+pub unless-mono : (holds : Bool) {a b : Bool} → atMost a b → atMost (cond holds false a) (cond holds false b)
+unless-mono true h = λ e. e
+unless-mono false h = h
+
+-- where it is secret, that does not hold, and the label is secret
+pub unless-true : (holds : Bool) {a : Bool} → cond holds false a ≡ true → (holds ≡ false) × (a ≡ true)
+unless-true true e = absurd (true≢false (sym e))
+unless-true false e = (refl, e)
+
+-- where it is public, that holds, or the label is public
+pub unless-false : (holds : Bool) {a : Bool} → cond holds false a ≡ false → (holds ≡ true) ⊎ (a ≡ false)
+unless-false true e = inl refl
+unless-false false e = inr e

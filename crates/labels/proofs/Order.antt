@@ -1,6 +1,6 @@
 -- The order of labellings: a partial order with `join` as the least upper bound; what setting a label does; expressions' labels are monotone.
 use Prim.Native.Nat.{ℕ}
-use mathlib.Core.Bool.{Bool, true, false, le as atMost, cond, _||_, or-self}
+use mathlib.Core.Bool.{Bool, true, le as atMost, _||_, or-self}
 use mathlib.Core.Logic.{_↔_}
 use mathlib.Core.Path.{_≡_, refl, sym, ap, ap₂, _∙_, subst}
 use native.Mathlib.Decide.{ℕ-discrete, map-dec}
@@ -11,7 +11,7 @@ use Rattle.awhile.specs.Language.{AExp, number, variable, add, subtract, multip
 use Rattle.awhile.specs.Language.{BExp, constant, equal, less, not, and}
 use Rattle.awhile.specs.declared.Labelling.{Labelling}
 use Rattle.labels.specs.Labellings.{Mark, variableMark, arrayMark, labelOf, setLabel, join, same, _⊑_, timesNought, labelOfA, labelOfB}
-use Rattle.labels.proofs.Booleans.{or-left, or-right, or-least, or-mono, atMost-antisym, and-left, and-right}
+use Rattle.labels.proofs.Booleans.{or-left, or-right, or-least, or-mono, atMost-antisym, and-left, and-right, unless-mono}
 use Rattle.labels.proofs.Masks.{bit-put, bit-put-other, bit-or, bit-ext}
 
 -- labellings with equal masks are equal
@@ -106,11 +106,6 @@ set-mono {l} {m} k {b} {c} p h = record { at = λ j e. go j (mark-discrete k j) 
     go j (yes q) = subst (λ (i : Mark). atMost (labelOf (setLabel l k b) i) (labelOf (setLabel m k c) i)) q (λ e. label-set m k c ∙ h (sym (label-set l k b) ∙ e))
     go j (no n) = λ e. label-set-other m k j c n ∙ p .at j (sym (label-set-other l k j b n) ∙ e)
 
--- what is public whatever the labelling is no obstacle
-public-mono : (public : Bool) {x y : Bool} → atMost x y → atMost (cond public false x) (cond public false y)
-public-mono true h = λ e. e
-public-mono false h = h
-
 module _ {l m : Labelling} (p : l ⊑ m) where
   mutual
     unfolding labelOfA
@@ -121,7 +116,7 @@ module _ {l m : Labelling} (p : l ⊑ m) where
     labelOfA-mono (variable x) = p .at (variableMark x)
     labelOfA-mono (add a b) = or-mono (labelOfA-mono a) (labelOfA-mono b)
     labelOfA-mono (subtract a b) = or-mono (labelOfA-mono a) (labelOfA-mono b)
-    labelOfA-mono (multiply a b) = public-mono (timesNought a b) (or-mono (labelOfA-mono a) (labelOfA-mono b))
+    labelOfA-mono (multiply a b) = unless-mono (timesNought a b) (or-mono (labelOfA-mono a) (labelOfA-mono b))
     labelOfA-mono (choice c a b) = or-mono (labelOfB-mono c) (or-mono (labelOfA-mono a) (labelOfA-mono b))
 
     -- a larger labelling gives a truth a larger label

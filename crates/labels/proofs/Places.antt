@@ -1,6 +1,6 @@
 -- An expression is secret exactly if a secret variable has a place in it that counts.
 use Prim.Native.Nat.{ℕ}
-use mathlib.Core.Bool.{Bool, true, false, cond, _||_, true≢false}
+use mathlib.Core.Bool.{Bool, true, false, _||_, true≢false}
 use mathlib.Core.Logic.{_⊎_, inl, inr, ⊎-elim}
 use mathlib.Core.Path.{_≡_, refl, sym, ap, _∙_}
 use Rattle.awhile.specs.Language.{AExp, number, variable, add, subtract, multiply, choice}
@@ -8,12 +8,7 @@ use Rattle.awhile.specs.Language.{BExp, constant, equal, less, not, and}
 use Rattle.awhile.specs.declared.Labelling.{Labelling}
 use Rattle.labels.specs.Labellings.{variableMark, labelOf, timesNought, labelOfA, labelOfB}
 use Rattle.labels.specs.Places.{CountsInA, CountsInB, SecretCounts, SecretByPlaces}
-use Rattle.labels.proofs.Booleans.{or-left, or-right}
-
--- what is secret though it may be taken for public is not taken so, and is secret
-not-taken : (public : Bool) {x : Bool} → cond public false x ≡ true → (public ≡ false) × (x ≡ true)
-not-taken true e = absurd (true≢false (sym e))
-not-taken false e = (refl, e)
+use Rattle.labels.proofs.Booleans.{or-left, or-right, unless-true}
 
 -- what counts in one of two parts, where one of the two is secret
 module _ {l : Labelling} {P Q : ℕ → Type 0} where
@@ -35,7 +30,7 @@ module _ (l : Labelling) where
     counts-A (add a b) = counts-in-either (labelOfA l a) (labelOfA l b) (counts-A a) (counts-A b)
     counts-A (subtract a b) = counts-in-either (labelOfA l a) (labelOfA l b) (counts-A a) (counts-A b)
     counts-A (multiply a b) = λ e.
-        let t : (timesNought a b ≡ false) × ((labelOfA l a || labelOfA l b) ≡ true) = not-taken (timesNought a b) e in
+        let t : (timesNought a b ≡ false) × ((labelOfA l a || labelOfA l b) ≡ true) = unless-true (timesNought a b) e in
         let c : SecretCounts l (λ x. CountsInA x a ⊎ CountsInA x b) = counts-in-either (labelOfA l a) (labelOfA l b) (counts-A a) (counts-A b) (t .1) in
         record { variable = c .variable; counts = (t .0, c .counts); secret = c .secret }
     counts-A (choice c a b) =

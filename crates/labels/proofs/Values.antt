@@ -3,6 +3,7 @@ use Prim.Native.Nat.{ℕ, zero, suc, _+_, _-_, _*_, _%_, _^_}
 use mathlib.Core.Bool.{Bool, true, false, cond, true≢false, _&&_, _||_}
 use mathlib.Core.Bool.{not as negated}
 use mathlib.Core.List.{List, [], _∷_}
+use mathlib.Core.Logic.{⊎-elim}
 use mathlib.Core.Path.{_≡_, refl, sym, ap, ap₂, _∙_}
 use native.Mathlib.Decide.{ℕ-discrete}
 use native.Mathlib.Nat.{zero-mul, mul-zero}
@@ -16,18 +17,13 @@ use Rattle.awhile.specs.Language.{BExp, constant, equal, less, not, and, truthO
 use Rattle.awhile.specs.declared.Labelling.{Labelling}
 use Rattle.labels.specs.Labellings.{variableMark, labelOf, setLabel, _⊑_, isNought, timesNought, labelOfA, labelOfB}
 use Rattle.labels.specs.Rules.{AgreeOn}
-use Rattle.labels.proofs.Booleans.{or-false-left, or-false-right, atMost-false}
+use Rattle.labels.proofs.Booleans.{or-false-left, or-false-right, atMost-false, unless-false}
 use Rattle.labels.proofs.Order.{label-set, label-set-other}
 
 -- an operation on two parts gives one result where the join of their labels is public and public parts are the same
 by-parts : {A B C : Type 0} {a c : A} {b d : B} (f : A → B → C) (p q : Bool)
     → (p ≡ false → a ≡ c) → (q ≡ false → b ≡ d) → (p || q) ≡ false → f a b ≡ f c d
 by-parts f p q left right e = ap₂ f (left (or-false-left p q e)) (right (or-false-right p q e))
-
--- what is public for one of two reasons is the same if each of them makes it so
-by-either : {A : Type 0} {a c : A} (public : Bool) {x : Bool} → (public ≡ true → a ≡ c) → (x ≡ false → a ≡ c) → cond public false x ≡ false → a ≡ c
-by-either true h k e = h refl
-by-either false h k e = k e
 
 -- a number node of value 0 is 0 in every state
 pub nought-value : (e : AExp) (vs : List ℕ) → isNought e ≡ true → valueOf e vs ≡ 0
@@ -58,9 +54,10 @@ module _ (l : Labelling) (vs ws : List ℕ) (agree : AgreeOn l vs ws) where
     public-value (variable x) = agree .at x
     public-value (add a b) = by-parts (λ u w. (u + w) % 2 ^ 32) (labelOfA l a) (labelOfA l b) (public-value a) (public-value b)
     public-value (subtract a b) = by-parts (λ u w. (u + 2 ^ 32 - w) % 2 ^ 32) (labelOfA l a) (labelOfA l b) (public-value a) (public-value b)
-    public-value (multiply a b) =
-        by-either (timesNought a b) (λ e. nought-product a b vs e ∙ sym (nought-product a b ws e))
+    public-value (multiply a b) = λ e.
+        ⊎-elim (λ n. nought-product a b vs n ∙ sym (nought-product a b ws n))
         (by-parts (λ u w. (u * w) % 2 ^ 32) (labelOfA l a) (labelOfA l b) (public-value a) (public-value b))
+        (unless-false (timesNought a b) e)
     public-value (choice c a b) =
         by-parts (λ t (f : Bool → ℕ). f t) (labelOfB l c) (labelOfA l a || labelOfA l b) (public-truth c)
         (by-parts (λ u w t. cond t u w) (labelOfA l a) (labelOfA l b) (public-value a) (public-value b))

@@ -1,4 +1,4 @@
--- What a node that was looked up tells: its parts, and the kinds of commands.
+-- What a node that was looked up tells: its parts, and the kinds of numbers and of commands.
 use Prim.Native.Nat.{ℕ, _<_}
 use mathlib.Core.List.{List, [], _∷_}
 use mathlib.Core.Path.{_≡_, refl, sym, subst, _∙_}
@@ -7,7 +7,7 @@ use denote.Enum.Declared.{tagOf}
 use types.Run.{OneOf, miss}
 use Rattle.bytes_le.proofs.Numbers.{Below}
 use Rattle.awhile.specs.Nodes.{form, sortOf}
-use Rattle.awhile.specs.declared.Sort.the-variants.{Command}
+use Rattle.awhile.specs.declared.Sort.the-variants.{Numeric, Command}
 use Rattle.awhile.specs.declared.Node.{Node}
 use Rattle.awhile.specs.declared.Node.the-variants.{Number, Variable, Add, Subtract, Multiply, Choice}
 use Rattle.awhile.specs.declared.Node.the-variants.{Constant, Equal, Less, Not, And}
@@ -20,6 +20,29 @@ use Rattle.reader.proofs.Index.{Parts, indexed-parts}
 pub node-parts : {table index : List ℕ} {n : ℕ} {r : Node} → Below 256 table → Indexed table index → n < nodesIn table → r ≡ nodeIn table n
     → (m : Node) → r ≡ m → Parts table n m
 node-parts {table} {index} {n} bytes indexed inside e m h = indexed-parts table index bytes indexed n inside m (sym e ∙ h)
+
+-- what holds of every kind of number holds of every numeric node
+pub numeric-kinds : (P : Node → Type 0) → ((v : ℕ) → P (Number v)) → ((x : ℕ) → P (Variable x)) → ((a b : ℕ) → P (Add a b)) → ((a b : ℕ) → P (Subtract a b))
+    → ((a b : ℕ) → P (Multiply a b)) → ((c a b : ℕ) → P (Choice c a b)) → (m : Node) → sortOf m ≡ Numeric → P m
+unfolding sortOf form
+numeric-kinds P number variable add subtract multiply choice (Number v) sort = number v
+numeric-kinds P number variable add subtract multiply choice (Variable x) sort = variable x
+numeric-kinds P number variable add subtract multiply choice (Add a b) sort = add a b
+numeric-kinds P number variable add subtract multiply choice (Subtract a b) sort = subtract a b
+numeric-kinds P number variable add subtract multiply choice (Multiply a b) sort = multiply a b
+numeric-kinds P number variable add subtract multiply choice (Choice c a b) sort = choice c a b
+numeric-kinds P number variable add subtract multiply choice (Constant v) sort = absurd (let z : _≡_ {A = ℕ} 0 1 = cc in omega arith)
+numeric-kinds P number variable add subtract multiply choice (Equal a b) sort = absurd (let z : _≡_ {A = ℕ} 0 1 = cc in omega arith)
+numeric-kinds P number variable add subtract multiply choice (Less a b) sort = absurd (let z : _≡_ {A = ℕ} 0 1 = cc in omega arith)
+numeric-kinds P number variable add subtract multiply choice (Not a) sort = absurd (let z : _≡_ {A = ℕ} 0 1 = cc in omega arith)
+numeric-kinds P number variable add subtract multiply choice (And a b) sort = absurd (let z : _≡_ {A = ℕ} 0 1 = cc in omega arith)
+numeric-kinds P number variable add subtract multiply choice Skip sort = absurd (let z : _≡_ {A = ℕ} 0 1 = cc in omega arith)
+numeric-kinds P number variable add subtract multiply choice (Assign x e) sort = absurd (let z : _≡_ {A = ℕ} 0 1 = cc in omega arith)
+numeric-kinds P number variable add subtract multiply choice (Sequence c d) sort = absurd (let z : _≡_ {A = ℕ} 0 1 = cc in omega arith)
+numeric-kinds P number variable add subtract multiply choice (If b c d) sort = absurd (let z : _≡_ {A = ℕ} 0 1 = cc in omega arith)
+numeric-kinds P number variable add subtract multiply choice (While b c) sort = absurd (let z : _≡_ {A = ℕ} 0 1 = cc in omega arith)
+numeric-kinds P number variable add subtract multiply choice (Read x a i) sort = absurd (let z : _≡_ {A = ℕ} 0 1 = cc in omega arith)
+numeric-kinds P number variable add subtract multiply choice (Write a i e) sort = absurd (let z : _≡_ {A = ℕ} 0 1 = cc in omega arith)
 
 -- what holds of every kind of command holds of every command node
 pub command-kinds : (P : Node → Type 0) → P Skip → ((x e : ℕ) → P (Assign x e)) → ((c d : ℕ) → P (Sequence c d)) → ((b c d : ℕ) → P (If b c d))

@@ -13,6 +13,7 @@ use Rattle.awhile.specs.declared.Node.the-variants.{Number, Variable, Add, Subt
 use Rattle.awhile.specs.declared.Node.the-variants.{Constant, Equal, Less, Not, And}
 use Rattle.awhile.specs.declared.Node.the-variants.{Skip, Assign, Sequence, If, While, Read, Write}
 use Rattle.reader.proofs.Index.{Parts}
+use Rattle.reader.proofs.NodeKinds.{numeric-kinds}
 use Rattle.awhile.proofs.Node.{the-type}
 use Rattle.labels.specs.Labellings.{isNought}
 use Rattle.variables.specs.Variables.{variablesOfA, variablesOfB}
@@ -31,26 +32,28 @@ unnamedNought = 1 ∷ 2 ∷ 3 ∷ 4 ∷ 5 ∷ 6 ∷ 7 ∷ 8 ∷ 9 ∷ 10 ∷ 11 
 
 module _ (table : List ℕ) (n : ℕ) where
   -- a numeric node that is not named is a number, which names no variable
-  pub number-names-none : (m : Node) → OneOf unnamedNumeric (tagOf the-type m) → sortOf m ≡ Numeric → Parts table n m → 0 ≡ variablesOfA (numericIn table n)
-  unfolding sortOf form variablesOfA
-  number-names-none (Number v) o s p = rw p
-  number-names-none (Variable x) o s p = absurd (miss unnamedNumeric 1 tt o)
-  number-names-none (Add a b) o s p = absurd (miss unnamedNumeric 2 tt o)
-  number-names-none (Subtract a b) o s p = absurd (miss unnamedNumeric 3 tt o)
-  number-names-none (Multiply a b) o s p = absurd (miss unnamedNumeric 4 tt o)
-  number-names-none (Choice c a b) o s p = absurd (miss unnamedNumeric 5 tt o)
-  number-names-none (Constant v) o s p = cc
-  number-names-none (Equal a b) o s p = cc
-  number-names-none (Less a b) o s p = cc
-  number-names-none (Not a) o s p = cc
-  number-names-none (And a b) o s p = cc
-  number-names-none Skip o s p = cc
-  number-names-none (Assign x e) o s p = cc
-  number-names-none (Sequence c d) o s p = cc
-  number-names-none (If b c d) o s p = cc
-  number-names-none (While b c) o s p = cc
-  number-names-none (Read x a i) o s p = cc
-  number-names-none (Write a i e) o s p = cc
+  pub number-names-none : (m : Node) → sortOf m ≡ Numeric → OneOf unnamedNumeric (tagOf the-type m) → Parts table n m → 0 ≡ variablesOfA (numericIn table n)
+  unfolding variablesOfA
+  number-names-none =
+      numeric-kinds (λ m. OneOf unnamedNumeric (tagOf the-type m) → Parts table n m → 0 ≡ variablesOfA (numericIn table n))
+      (λ v o p. rw p)
+      (λ x o p. absurd (miss unnamedNumeric 1 tt o))
+      (λ a b o p. absurd (miss unnamedNumeric 2 tt o))
+      (λ a b o p. absurd (miss unnamedNumeric 3 tt o))
+      (λ a b o p. absurd (miss unnamedNumeric 4 tt o))
+      (λ c a b o p. absurd (miss unnamedNumeric 5 tt o))
+
+  -- one that is not a number is no nought
+  pub no-nought : (m : Node) → sortOf m ≡ Numeric → OneOf unnamedNought (tagOf the-type m) → Parts table n m → false ≡ isNought (numericIn table n)
+  unfolding isNought
+  no-nought =
+      numeric-kinds (λ m. OneOf unnamedNought (tagOf the-type m) → Parts table n m → false ≡ isNought (numericIn table n))
+      (λ v o p. absurd (miss unnamedNought 0 tt o))
+      (λ x o p. rw (p .1))
+      (λ a b o p. rw (p .2))
+      (λ a b o p. rw (p .2))
+      (λ a b o p. rw (p .2))
+      (λ c a b o p. rw (p .3))
 
   -- a truth node that is not named is a constant, which names none
   pub constant-names-none : (m : Node) → OneOf unnamedTruth (tagOf the-type m) → sortOf m ≡ Truth → Parts table n m → 0 ≡ variablesOfB (truthIn table n)
@@ -73,25 +76,3 @@ module _ (table : List ℕ) (n : ℕ) where
   constant-names-none (While b c) o s p = cc
   constant-names-none (Read x a i) o s p = cc
   constant-names-none (Write a i e) o s p = cc
-
-  -- a numeric node that is not a number is no nought
-  pub no-nought : (m : Node) → OneOf unnamedNought (tagOf the-type m) → sortOf m ≡ Numeric → Parts table n m → false ≡ isNought (numericIn table n)
-  unfolding sortOf form isNought
-  no-nought (Number v) o s p = absurd (miss unnamedNought 0 tt o)
-  no-nought (Variable x) o s p = rw (p .1)
-  no-nought (Add a b) o s p = rw (p .2)
-  no-nought (Subtract a b) o s p = rw (p .2)
-  no-nought (Multiply a b) o s p = rw (p .2)
-  no-nought (Choice c a b) o s p = rw (p .3)
-  no-nought (Constant v) o s p = cc
-  no-nought (Equal a b) o s p = cc
-  no-nought (Less a b) o s p = cc
-  no-nought (Not a) o s p = cc
-  no-nought (And a b) o s p = cc
-  no-nought Skip o s p = cc
-  no-nought (Assign x e) o s p = cc
-  no-nought (Sequence c d) o s p = cc
-  no-nought (If b c d) o s p = cc
-  no-nought (While b c) o s p = cc
-  no-nought (Read x a i) o s p = cc
-  no-nought (Write a i e) o s p = cc

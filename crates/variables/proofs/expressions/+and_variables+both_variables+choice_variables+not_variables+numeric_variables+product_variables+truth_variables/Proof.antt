@@ -153,8 +153,8 @@ unfolding variablesOfA variablesOfB
     (λ c. c .product-variables .ensures ∙ sym (ap variablesOfA (numeric-parts t (c .before .before .before .before) _ (c .before .before .node4 .given .1) .2)))
     (λ c. c .choice-variables .ensures ∙ sym (ap variablesOfA (numeric-parts t (c .before .before .before .before) _ (c .before .before .node5 .given .1) .3)))
     (λ c. let start = c .before .before .before .before in
-    number-names-none (now (start .args .table)) (start .args .n) (c .before .numeric-at .result) (c .match .keys6)
-    (ap sortOf (c .before .numeric-at .ensures) ∙ start .pre .1 .isSort) (numeric-parts t (c .before) (c .before .numeric-at .result) refl)))
+    number-names-none (now (start .args .table)) (start .args .n) (c .before .numeric-at .result)
+    (ap sortOf (c .before .numeric-at .ensures) ∙ start .pre .1 .isSort) (c .match .keys6) (numeric-parts t (c .before) (c .before .numeric-at .result) refl)))
     (λ t. product-variables-lts.spec (product-variables-calls t) (at product-variables-kinds.ps μ-product-variables product-variables.Pre t) product-variables.Post
     (λ c κs. c .before .before .pre .1)
     (λ c. rw (sym (c .before .times-nought .ensures) ∙ c .if1 .taken))

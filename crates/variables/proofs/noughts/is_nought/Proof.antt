@@ -31,5 +31,5 @@ is-nought-spec =
     (λ c. search needs)
     (λ c. sym (ap isNought (node-parts-of (c .before .before .before) _ (c .before .node .given .1))))
     (λ c. let start = c .before .before .before .before in
-    no-nought (now (start .args .table)) (start .args .n) (c .before .numeric-at .result) (c .match .keys2)
-    (ap sortOf (c .before .numeric-at .ensures) ∙ start .pre .isSort) (node-parts-of (c .before) (c .before .numeric-at .result) refl)))
+    no-nought (now (start .args .table)) (start .args .n) (c .before .numeric-at .result)
+    (ap sortOf (c .before .numeric-at .ensures) ∙ start .pre .isSort) (c .match .keys2) (node-parts-of (c .before) (c .before .numeric-at .result) refl)))
