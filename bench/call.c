@@ -5,7 +5,7 @@
 #include <string.h>
 
 #include "flow.h"
-#include "little_endian.h"
+#include "records/little_endian.h"
 #include "reference.h"
 
 const char *const entry_names[ENTRIES] = {"flow_sheet", "flow_questions", "flow_harden", "flow_run", "flow_guess", "flow_rollback"};

@@ -3,9 +3,9 @@
 #include <stdio.h>
 #include <string.h>
 
-#include "assemble.h"
+#include "records/assemble.h"
 #include "flow.h"
-#include "little_endian.h"
+#include "records/little_endian.h"
 
 static bool all_hold;
 
@@ -146,7 +146,7 @@ static void cleared_index_table(struct buffer *t)
 }
 
 /* i, j, x are variables 0, 1, 2 */
-void bounds_check_table(struct buffer *t)
+static void bounds_check_table(struct buffer *t)
 {
     static const uint16_t counts[] = {4, 256, 1};
     assemble_table(t, 3, 3, counts, 0, 4);

@@ -7,8 +7,4 @@
 /* Tries each case on the library; prints those that fail. */
 bool cases_hold(void);
 
-/* Hands a table of these cases back, for programs that need an example. */
-struct buffer;
-void bounds_check_table(struct buffer *table); /* if i<4 then (j:=a0[i]; x:=a1[j]) else skip */
-
 #endif

@@ -4,7 +4,7 @@
 #include <string.h>
 
 #include "flow.h"
-#include "little_endian.h"
+#include "records/little_endian.h"
 
 enum {
     MOST_STEPS = 600,

@@ -5,8 +5,8 @@
 
 #include "call.h"
 #include "flow.h"
-#include "kinds.h"
-#include "little_endian.h"
+#include "records/kinds.h"
+#include "records/little_endian.h"
 #include "reference.h"
 
 static bool is_number(const uint8_t *node, uint32_t value)

@@ -1,10 +1,10 @@
 /* Speed and stack of libflow.a beside the reference, as Markdown tables.  Both are timed in the same run, on the same calls. */
 #include <stdio.h>
 
-#include "assemble.h"
+#include "records/assemble.h"
 #include "call.h"
 #include "flow.h"
-#include "little_endian.h"
+#include "records/little_endian.h"
 #include "samples.h"
 #include "stack.h"
 #include "timing.h"

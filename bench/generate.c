@@ -4,8 +4,8 @@
 #include <string.h>
 
 #include "copies.h"
-#include "kinds.h"
-#include "little_endian.h"
+#include "records/kinds.h"
+#include "records/little_endian.h"
 #include "reference.h"
 
 /* ---- Chance ------------------------------------------------------------------------------------------------------------- */

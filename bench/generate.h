@@ -6,7 +6,7 @@
 #include <stddef.h>
 #include <stdint.h>
 
-#include "assemble.h"
+#include "records/assemble.h"
 #include "call.h"
 #include "flow.h"
 

@@ -7,8 +7,8 @@
 #include "copies.h"
 #include "flow.h"
 #include "generate.h"
-#include "kinds.h"
-#include "little_endian.h"
+#include "records/kinds.h"
+#include "records/little_endian.h"
 
 const unsigned sample_sizes[] = {8, 64, 128, 256, 512, 1024, 2048, 4096, 0};
 const unsigned asked_sizes[] = {64, 512, 4096, 0};

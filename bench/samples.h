@@ -2,7 +2,7 @@
 #ifndef SAMPLES_H
 #define SAMPLES_H
 
-#include "assemble.h"
+#include "records/assemble.h"
 #include "call.h"
 
 enum { SAMPLES = 8 }; /* tables of each size */

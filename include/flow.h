@@ -22,10 +22,18 @@
  * STACK.  A call recurses as deep as its table nests and allocates nothing.  On the deepest tables flow_sheet and flow_questions
  * take 616 KiB, flow_run, flow_guess and flow_rollback 393 KiB, flow_harden 152 KiB (measured on x86-64 by `make -C bench run`):
  * 1 MiB suffices.
- * An entry keeps nothing between calls: what it answers depends on what it is lent alone.
+ *
+ * THREADS.  An entry keeps nothing between calls and shares nothing with other calls: what it answers depends on what it is lent
+ * alone.  So entries may be called from many threads at once, without a lock, as long as no two calls at a time are lent memory
+ * that overlaps and that one of them may write.  Mind a thread's stack (above).
+ *
+ * The meaning of refusals and ends, as texts, stands in flow_words.h.
  */
 #ifndef FLOW_H
 #define FLOW_H
+
+/* The release of this header and of the library that belongs to it (CHANGELOG.md). */
+#define FLOW_RELEASE "1.7"
 
 #include <stddef.h>
 #include <stdint.h>
@@ -55,6 +63,20 @@ enum {
     FLOW_SAVES_BYTES = 4 * FLOW_MAX_SAVES * (FLOW_MAX_VARIABLES + FLOW_MAX_CELLS + FLOW_MAX_NODES),
     FLOW_ANSWER_BYTES = 56
 };
+
+/* What flow_answer_number gives where the answer slice does not hold the number: no number of any answer is as large. */
+#define FLOW_NO_NUMBER UINT64_MAX
+
+/* Number i of an answer slice, from 0: 0 is the refusal, 1 the bytes written, the end of a run or the place of a refusal. */
+static inline uint64_t flow_answer_number(const uint8_t *answer, size_t answer_len, size_t i)
+{
+    uint64_t number = 0;
+    if (i >= answer_len / 8)
+        return FLOW_NO_NUMBER;
+    for (unsigned byte = 0; byte < 8; byte++)
+        number |= (uint64_t)answer[8 * i + byte] << 8 * byte;
+    return number;
+}
 
 /*
  * Refusals.  The place is the byte offset, in the table, of the record concerned; for 7 it is the offset of the first extra byte,

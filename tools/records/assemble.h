@@ -10,6 +10,8 @@ struct buffer {
     size_t length, capacity;
 };
 
+/* Makes room for so many bytes more.  The program ends where there is no memory, here and below. */
+void buffer_reserve(struct buffer *b, size_t more);
 void buffer_append(struct buffer *b, const uint8_t *bytes, size_t length);
 void buffer_append16(struct buffer *b, uint32_t value);
 void buffer_append32(struct buffer *b, uint32_t value);

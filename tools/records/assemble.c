@@ -1,13 +1,13 @@
-#include "assemble.h"
+#include "records/assemble.h"
 
 #include <stdio.h>
 #include <stdlib.h>
 #include <string.h>
 
-#include "kinds.h"
-#include "little_endian.h"
+#include "records/kinds.h"
+#include "records/little_endian.h"
 
-static void buffer_reserve(struct buffer *b, size_t more)
+void buffer_reserve(struct buffer *b, size_t more)
 {
     if (b->capacity - b->length >= more)
         return;

@@ -1,0 +1,269 @@
+/* flow attack: one script, played to a table from two states; does it tell them apart? */
+#include <inttypes.h>
+#include <stdio.h>
+
+#include "commands/command.h"
+#include "commands/numbers.h"
+#include "commands/open_table.h"
+#include "files/messages.h"
+#include "flow_words.h"
+#include "library/runs.h"
+#include "records/kinds.h"
+#include "records/little_endian.h"
+#include "text/faults.h"
+#include "text/script.h"
+#include "text/state.h"
+#include "text/words.h"
+
+static const char usage[] =
+    "flow attack [--rollback] [--harden] [--budget STEPS] [--flag] [--names SOURCE] TABLE SCRIPT STATE STATE\n"
+    "  Plays a script to a table that guesses, from two states, and says whether what it shows tells them apart.\n"
+    "  SCRIPT is text, as \"force; load 2 0; step\" (also store ARRAY INDEX and rollback), or @FILE: of text or of records.\n"
+    STATE_USAGE
+    "  --rollback      on the machine that undoes wrong guesses\n"
+    "  --harden        before and after hardening the table; the verdict is that on the hardened one\n"
+    BUDGET_USAGE
+    NAMING_USAGE
+    "  Exit status: 0 one list of observations begins the other; 1 refused; 2 wrong usage, or a file cannot be read;\n"
+    "  3 the states are told apart; 4 no verdict, since a run was cut.\n";
+
+enum { MOST_PRINTED = 40 }; /* of observations and directives: a run may show thousands */
+
+/* Two runs of a table, one from each state, and what they say together. */
+struct pair {
+    struct run runs[2];
+    struct verdict verdict;
+};
+
+struct attack {
+    struct naming naming;
+    bool rollback, harden;
+    uint32_t budget;
+    struct open_table original, hardened;
+    struct script script;
+    struct state states[2];
+    struct pair plain, guessing; /* of the original, without guessing and with it */
+    struct pair guessing_hardened;
+};
+
+/* ---- Runs --------------------------------------------------------------------------------------------------------------- */
+
+static enum machine machine_of(const struct attack *attack)
+{
+    return attack->rollback ? MACHINE_ROLLBACK : MACHINE_GUESSING;
+}
+
+/* Does the script, as far as its records go, hold a rollback? */
+static bool holds_rollback(const struct buffer *script)
+{
+    size_t length;
+    for (size_t at = 0; script->length - at >= RECORD_HEAD; at += length) {
+        length = get16(script->bytes + at);
+        if (get16(script->bytes + at + 2) == FLOW_ROLLBACK)
+            return true;
+        if (length < RECORD_HEAD || length > script->length - at)
+            return false;
+    }
+    return false;
+}
+
+static void print_refused(const struct attack *attack, const struct open_table *opened, struct answer answer)
+{
+    bool of_script = answer.refusal == FLOW_BAD_DIRECTIVES;
+    print_refusal(stderr, of_script ? attack->script.name : opened->name, &opened->bytes, answer);
+    if (of_script && !attack->rollback && holds_rollback(&attack->script.directives))
+        complain(attack->script.name, "a rollback is a directive with --rollback only");
+}
+
+/* False, with a message: the library refused. */
+static bool play(const struct attack *attack, const struct open_table *opened, enum machine machine, struct pair *pair)
+{
+    for (unsigned i = 0; i < 2; i++) {
+        struct answer answer = run_table(&opened->table, machine, &attack->script.directives, &attack->states[i],
+                                         attack->budget, &pair->runs[i]);
+        if (answer.refusal != FLOW_ACCEPTED) {
+            print_refused(attack, opened, answer);
+            return false;
+        }
+    }
+    pair->verdict = compare_runs(pair->runs);
+    return true;
+}
+
+/* All runs come before all printing: a refusal stands alone. */
+static bool play_all(struct attack *attack)
+{
+    return play(attack, &attack->original, machine_of(attack), &attack->guessing) &&
+           play(attack, &attack->original, MACHINE_PLAIN, &attack->plain) &&
+           (!attack->harden || play(attack, &attack->hardened, machine_of(attack), &attack->guessing_hardened));
+}
+
+/* The pair whose verdict is that of the attack. */
+static const struct pair *deciding_pair(const struct attack *attack)
+{
+    return attack->harden ? &attack->guessing_hardened : &attack->guessing;
+}
+
+static void pair_free(struct pair *pair)
+{
+    run_free(&pair->runs[0]);
+    run_free(&pair->runs[1]);
+}
+
+/* ---- Printing ----------------------------------------------------------------------------------------------------------- */
+
+static void print_run(const struct open_table *opened, const struct run *run, unsigned state)
+{
+    printf("  state %u: %s\n", state + 1, flow_end_words(run->end));
+    printf("    steps %" PRIu64 ", directives used %" PRIu64 ", flag %" PRIu64 ", next node %" PRIu64 "\n", run->steps,
+           run->directives, run->flag, run->next);
+    print_observations(stdout, "    ", &run->observations, MOST_PRINTED);
+    print_saves(stdout, "    ", &opened->names, &opened->table, &run->saves, run->open_saves);
+}
+
+static void print_difference(const struct pair *pair)
+{
+    const struct verdict *verdict = &pair->verdict;
+    printf("  observation %zu: ", verdict->observation);
+    print_observation(stdout, pair->runs[0].observations.bytes + verdict->at);
+    printf(" from state 1, ");
+    print_observation(stdout, pair->runs[1].observations.bytes + verdict->at);
+    printf(" from state 2\n");
+}
+
+static void print_verdict(const char *indent, const struct pair *pair)
+{
+    const struct verdict *verdict = &pair->verdict;
+    printf("%sverdict: ", indent);
+    if (verdict->kind == VERDICT_TOLD_APART)
+        printf("the lists differ at observation %zu: the states are told apart\n", verdict->observation);
+    else if (verdict->kind == VERDICT_ALIKE)
+        printf("one list of observations begins the other: the states are not told apart\n");
+    else
+        printf("none, since the run from state %u was cut: %s\n", verdict->cut + 1,
+               flow_end_words(pair->runs[verdict->cut].end));
+}
+
+/* Two runs under a heading, and in the end where they first differ. */
+static void print_pair(const struct attack *attack, const char *heading, const char *machine, const struct open_table *opened,
+                       const struct pair *pair)
+{
+    printf("%s%s:\n", attack->harden ? heading : "", machine);
+    for (unsigned i = 0; i < 2; i++)
+        print_run(opened, &pair->runs[i], i);
+    if (pair->verdict.kind == VERDICT_TOLD_APART)
+        print_difference(pair);
+}
+
+/* `differs` is what the states differ in that the table labels public, or NULL. */
+static void print_agreement(const char *differs)
+{
+    if (differs == NULL)
+        printf("the states agree on what the table labels public\n");
+    else
+        printf("the states do not agree on what the table labels public: they differ in %s\n", differs);
+}
+
+/* Where hardening promises nothing, or it is not known whether it does. */
+static void print_notes(const struct attack *attack, const char *differs)
+{
+    static const char promise[] = "hardening promises nothing of such states";
+    if (differs != NULL)
+        printf("note: the states do not agree on what is public: %s\n", promise);
+    if (attack->plain.verdict.kind == VERDICT_TOLD_APART)
+        printf("note: the program itself, without guessing, tells the states apart: %s\n", promise);
+    if (attack->plain.verdict.kind == VERDICT_NONE)
+        printf("note: a run without guessing was cut: whether the program itself tells the states apart is not known\n");
+}
+
+static void print_attack(const struct attack *attack)
+{
+    const char *machine = attack->rollback ? "guessing and rolling back" : "guessing";
+    const char *differs = public_difference(attack->states, &attack->original.table, &attack->original.names);
+    printf("script: ");
+    print_directives(stdout, &attack->script.directives, MOST_PRINTED);
+    printf("\n");
+    print_agreement(differs);
+    print_pair(attack, "before hardening, ", "without guessing", &attack->original, &attack->plain);
+    print_verdict("  ", &attack->plain);
+    print_pair(attack, "before hardening, ", machine, &attack->original, &attack->guessing);
+    if (attack->harden) {
+        print_verdict("  ", &attack->guessing);
+        print_pair(attack, "hardened, ", machine, &attack->hardened, &attack->guessing_hardened);
+    }
+    print_notes(attack, differs);
+    print_verdict("", deciding_pair(attack));
+}
+
+/* ---- The command -------------------------------------------------------------------------------------------------------- */
+
+static int status_of(enum verdict_kind kind)
+{
+    switch (kind) {
+    case VERDICT_ALIKE: return STATUS_DONE;
+    case VERDICT_TOLD_APART: return STATUS_TOLD_APART;
+    default: return STATUS_NO_VERDICT;
+    }
+}
+
+static bool read_operands(struct attack *attack, char **argv)
+{
+    static const char *const called[2] = {"STATE 1", "STATE 2"};
+    const struct open_table *original = &attack->original;
+    if (!read_script(argv[1], &original->names, &attack->script))
+        return false;
+    for (unsigned i = 0; i < 2; i++)
+        if (!read_state(argv[2 + i], called[i], &original->table, &original->names, state_variables(original, attack->naming),
+                        &attack->states[i]))
+            return false;
+    return true;
+}
+
+static int run_opened(struct attack *attack, char **argv)
+{
+    int status = open_table(&attack->original, argv[0], attack->naming);
+    if (status == STATUS_DONE && !read_operands(attack, argv))
+        status = STATUS_TROUBLE;
+    if (status == STATUS_DONE && attack->harden)
+        status = open_hardened(&attack->hardened, &attack->original);
+    if (status != STATUS_DONE)
+        return status;
+    if (!play_all(attack))
+        return STATUS_REFUSED;
+    print_attack(attack);
+    return status_of(deciding_pair(attack)->verdict.kind);
+}
+
+static void attack_free(struct attack *attack)
+{
+    close_table(&attack->original);
+    close_table(&attack->hardened);
+    script_free(&attack->script);
+    state_free(&attack->states[0]);
+    state_free(&attack->states[1]);
+    pair_free(&attack->plain);
+    pair_free(&attack->guessing);
+    pair_free(&attack->guessing_hardened);
+}
+
+static int run_attack(const struct command *self, int argc, char **argv)
+{
+    const char *budget = NULL;
+    struct attack attack = {0};
+    const struct option options[] = {{"--rollback", &attack.rollback, NULL},
+                                     {"--harden", &attack.harden, NULL},
+                                     {"--budget", NULL, &budget},
+                                     {"--flag", &attack.naming.flag, NULL},
+                                     {"--names", NULL, &attack.naming.source},
+                                     {NULL, NULL, NULL}};
+    if (!take_options(self, options, &argc, argv, 4, 4) || !take_budget(self, budget, &attack.budget) ||
+        !reads_standard_input_once(self, attack.naming, argc, argv))
+        return STATUS_TROUBLE;
+    if (attack.harden && attack.naming.flag)
+        return misused(self, "--harden and --flag exclude each other: a table that has a flag is hardened already");
+    int status = run_opened(&attack, argv);
+    attack_free(&attack);
+    return status;
+}
+
+const struct command command_attack = {"attack", usage, run_attack};

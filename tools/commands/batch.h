@@ -1,0 +1,28 @@
+/* The files of one call of flow harden: the tables that are read, where each goes, and the report; and that these do not meet. */
+#ifndef BATCH_H
+#define BATCH_H
+
+#include <stdbool.h>
+#include <stddef.h>
+
+struct batch {
+    char *const *files;
+    size_t count;
+    const char *into;   /* the folder that all go to, or NULL: then there is one file, which goes to `out` */
+    const char *out;
+    const char *report; /* or NULL */
+};
+
+/* Where hardened table number i goes.  To be freed. */
+char *batch_out(const struct batch *batch, size_t i);
+
+/*
+ * Before anything is written: the folder is there, no two tables would get one name in it, and no file that is read would be
+ * written, but that a single table may be replaced.  False: there was a message.
+ */
+bool batch_is_in_order(const struct batch *batch);
+
+/* Once the tables are written: the report's file is none of theirs.  False: there was a message. */
+bool batch_report_is_apart(const struct batch *batch);
+
+#endif

@@ -1,0 +1,42 @@
+/* The commands of `flow`: a function each, what they have in common, and how they end. */
+#ifndef COMMAND_H
+#define COMMAND_H
+
+#include <stdbool.h>
+
+/* The exit status of `flow`. */
+enum {
+    STATUS_DONE = 0,
+    STATUS_REFUSED = 1,    /* the library refused a table, script or question, or a text does not read */
+    STATUS_TROUBLE = 2,    /* wrong usage, or something could not be read or written */
+    STATUS_TOLD_APART = 3, /* attack: the script tells the two states apart */
+    STATUS_NO_VERDICT = 4  /* attack: a run was cut before it said anything */
+};
+
+struct command {
+    const char *name;
+    const char *usage; /* all lines that --help prints, each with its line feed */
+    int (*run)(const struct command *self, int argc, char **argv); /* argv: what stands behind the command's name */
+};
+
+extern const struct command command_harden, command_list, command_assemble, command_explain, command_sheet, command_ask,
+    command_run, command_attack;
+
+/* An option: `given` is set where it takes no value, else `value`.  A list of them ends with one that has no name. */
+struct option {
+    const char *name; /* with its dashes */
+    bool *given;
+    const char **value;
+};
+
+/*
+ * Takes the options out of the arguments, wherever they stand, and leaves the operands: "-" is one, and so is everything behind
+ * "--".  False, with a message on standard error: an option that is unknown, given twice or lacks its value, or fewer or more
+ * operands than allowed.
+ */
+bool take_options(const struct command *self, const struct option *options, int *argc, char **argv, int fewest, int most);
+
+/* Says what is wrong with the usage, prints the command's own, and returns STATUS_TROUBLE. */
+int misused(const struct command *self, const char *format, ...);
+
+#endif

@@ -1,0 +1,81 @@
+/* flow explain: why a table is refused, in words. */
+#include <inttypes.h>
+#include <limits.h>
+#include <stdio.h>
+
+#include "commands/command.h"
+#include "files/files.h"
+#include "files/messages.h"
+#include "files/paths.h"
+#include "flow_words.h"
+#include "library/calls.h"
+#include "records/table.h"
+#include "text/faults.h"
+
+static const char usage[] =
+    "flow explain TABLE..\n"
+    "  Says of each table whether it is accepted, and if it is not, why: the library's refusal, the byte of the record concerned\n"
+    "  and the faults in words, a line each.  Also why hardening would refuse a table that can be labelled and run.\n"
+    "  Exit status: 0 all can be hardened; 1 one is refused; 2 wrong usage, or a file cannot be read (the others are explained).\n";
+
+static void print_count(const char *before, size_t count, const char *what)
+{
+    printf("%s%zu %s%s", before, count, what, count == 1 ? "" : "s");
+}
+
+static void print_accepted(const struct buffer *bytes)
+{
+    struct table table;
+    table_open(&table, bytes);
+    print_count("accepted, and hardening accepts it: ", table.nodes, "node");
+    print_count(", ", table.variables, "variable");
+    print_count(", ", table.arrays, "array");
+    print_count(", ", table.cells, "cell");
+    putchar('\n');
+}
+
+/* Up to 7 no entry takes the table; from 8 up it is labelled and run, but not hardened. */
+static void print_refused(const struct buffer *table, struct answer answer)
+{
+    const char *words = flow_refusal_words(answer.refusal);
+    if (answer.refusal <= FLOW_EXTRA_BYTES)
+        printf("refused by %" PRIu64 " at byte %" PRIu64 ": %s\n", answer.refusal, answer.second, words);
+    else
+        printf("accepted, but hardening refuses it by %" PRIu64 ": %s\n", answer.refusal, words);
+    print_faults(stdout, "  ", table, answer);
+}
+
+static int explain_table(const char *path)
+{
+    struct buffer table = {0}, hardened = {0};
+    int status = STATUS_TROUBLE;
+    if (read_file(path, &table)) {
+        struct answer answer = harden_table(&table, &hardened);
+        printf("%s: ", name_in_words(path));
+        if (answer.refusal == FLOW_ACCEPTED)
+            print_accepted(&table);
+        else
+            print_refused(&table, answer);
+        status = answer.refusal == FLOW_ACCEPTED ? STATUS_DONE : STATUS_REFUSED;
+    }
+    buffer_free(&table);
+    buffer_free(&hardened);
+    return status;
+}
+
+static int run_explain(const struct command *self, int argc, char **argv)
+{
+    const struct option none[] = {{NULL, NULL, NULL}};
+    int worst = STATUS_DONE; /* trouble is worse than a refusal */
+    if (!take_options(self, none, &argc, argv, 1, INT_MAX))
+        return STATUS_TROUBLE;
+    if (count_dashes(argv, (size_t)argc) > 1)
+        return misused(self, "standard input can be read once only");
+    for (int i = 0; i < argc; i++) {
+        int status = explain_table(argv[i]);
+        worst = status > worst ? status : worst;
+    }
+    return worst;
+}
+
+const struct command command_explain = {"explain", usage, run_explain};

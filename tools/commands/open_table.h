@@ -1,0 +1,41 @@
+/* A table that a command is about: read, judged, taken apart and named. */
+#ifndef OPEN_TABLE_H
+#define OPEN_TABLE_H
+
+#include "commands/command.h"
+#include "records/table.h"
+#include "text/names.h"
+
+/* The lines of a usage that say how names are chosen. */
+#define NAMING_USAGE \
+    "  --flag          the last variable is the flag of a hardened table, and is called f\n" NAMES_USAGE
+#define NAMES_USAGE \
+    "  --names SOURCE  variables and arrays have the names that SOURCE declares, not v0, v1, .. and a0, a1, ..\n"
+
+/* Which names a table's variables and arrays have: see take_names. */
+struct naming {
+    bool flag;
+    const char *source; /* or NULL */
+};
+
+struct open_table {
+    const char *name; /* its file's, for messages */
+    struct buffer bytes, sheet;
+    struct table table;
+    struct names names;
+};
+
+/* Returns an exit status: STATUS_DONE where the table is open, else there was a message.  close_table, whatever it is. */
+int open_table(struct open_table *opened, const char *path, struct naming naming);
+void close_table(struct open_table *opened);
+
+/* The same for a table that open_table has opened, hardened: its last variable is f. */
+int open_hardened(struct open_table *hardened, const struct open_table *original);
+
+/* How many variables of the table are part of a state: all but the flag. */
+unsigned state_variables(const struct open_table *opened, struct naming naming);
+
+/* Standard input can be read once.  False, with a message: it is more than one of the names' source and the operands. */
+bool reads_standard_input_once(const struct command *self, struct naming naming, int argc, char **argv);
+
+#endif

@@ -1,0 +1,25 @@
+/* The report of flow harden: a table of tab-separated text, a line for each file. */
+#ifndef REPORT_H
+#define REPORT_H
+
+#include <stdbool.h>
+#include <stdio.h>
+
+#include "commands/hardening.h"
+
+struct report {
+    const char *path;
+    FILE *lines;
+    char *text; /* the lines, once they are closed */
+    size_t length;
+};
+
+/* Starts a report for this path; for NULL one that nobody wants, of which nothing is kept.  False: there is no memory for it. */
+bool report_open(struct report *report, const char *path);
+
+void report_add(struct report *report, const struct hardening *hardening);
+
+/* Writes the file, if it is wanted still, and frees the report.  False: it is not written, and there was a message of why. */
+bool report_close(struct report *report, bool wanted);
+
+#endif

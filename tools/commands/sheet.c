@@ -1,0 +1,63 @@
+/* flow sheet: a table's label sheet. */
+#include <errno.h>
+#include <stdio.h>
+#include <stdlib.h>
+#include <string.h>
+
+#include "commands/command.h"
+#include "commands/open_table.h"
+#include "files/files.h"
+#include "files/messages.h"
+#include "text/words.h"
+
+static const char usage[] =
+    "flow sheet [--raw] [-o OUT] [--flag] [--names SOURCE] TABLE\n"
+    "  Writes a table's label sheet in words, a line for each record.  Nodes have the numbers of `flow list --nodes`.\n"
+    "  --raw           the sheet's bytes instead\n"
+    "  -o OUT          where the sheet goes, standard output if not given\n"
+    NAMING_USAGE;
+
+static int write_words(const struct open_table *opened, const char *output)
+{
+    char *words = NULL;
+    size_t length = 0;
+    FILE *stream = open_memstream(&words, &length);
+    bool printed = stream != NULL;
+    if (printed) {
+        print_sheet(stream, &opened->names, &opened->sheet);
+        printed = !ferror(stream);
+        printed = fclose(stream) == 0 && printed;
+    }
+    if (!printed)
+        complain(opened->name, "the sheet cannot be put in words: %s", strerror(errno));
+    bool written = printed && write_file(output, (const uint8_t *)words, length);
+    free(words);
+    return written ? STATUS_DONE : STATUS_TROUBLE;
+}
+
+static int write_bytes(const struct open_table *opened, const char *output)
+{
+    return write_file(output, opened->sheet.bytes, opened->sheet.length) ? STATUS_DONE : STATUS_TROUBLE;
+}
+
+static int run_sheet(const struct command *self, int argc, char **argv)
+{
+    bool raw = false;
+    const char *output = NULL;
+    struct naming naming = {0};
+    const struct option options[] = {{"--raw", &raw, NULL},
+                                     {"-o", NULL, &output},
+                                     {"--flag", &naming.flag, NULL},
+                                     {"--names", NULL, &naming.source},
+                                     {NULL, NULL, NULL}};
+    struct open_table opened;
+    if (!take_options(self, options, &argc, argv, 1, 1) || !reads_standard_input_once(self, naming, argc, argv))
+        return STATUS_TROUBLE;
+    int status = open_table(&opened, argv[0], naming);
+    if (status == STATUS_DONE)
+        status = (raw ? write_bytes : write_words)(&opened, output != NULL ? output : "-");
+    close_table(&opened);
+    return status;
+}
+
+const struct command command_sheet = {"sheet", usage, run_sheet};

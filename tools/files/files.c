@@ -1,0 +1,191 @@
+#include "files/files.h"
+
+#include <errno.h>
+#include <fcntl.h>
+#include <signal.h>
+#include <stdio.h>
+#include <stdlib.h>
+#include <string.h>
+#include <sys/stat.h>
+#include <unistd.h>
+
+#include "files/messages.h"
+#include "files/paths.h"
+
+static bool complain_why(const char *path)
+{
+    complain(path, "%s", strerror(errno));
+    return false;
+}
+
+/* Closes, and keeps the errno of what failed before. */
+static bool close_after(int file, bool done)
+{
+    int why = errno;
+    bool closed = close(file) == 0;
+    if (!done)
+        errno = why;
+    return done && closed;
+}
+
+/* ---- Reading ---- */
+
+/* At most `most` bytes; -1 is an error. */
+static ssize_t read_some(int file, uint8_t *bytes, size_t most)
+{
+    ssize_t length;
+    do
+        length = read(file, bytes, most);
+    while (length < 0 && errno == EINTR);
+    return length;
+}
+
+/* Appends the rest of an open file. */
+static bool read_rest(int file, struct buffer *contents)
+{
+    enum { PART = 1 << 16 };
+    size_t start = contents->length;
+    for (;;) {
+        buffer_reserve(contents, PART);
+        ssize_t length = read_some(file, contents->bytes + contents->length, PART);
+        if (length <= 0)
+            return length == 0;
+        contents->length += (size_t)length;
+        if (contents->length - start > LONGEST_FILE)
+            return errno = EFBIG, false;
+    }
+}
+
+bool read_file(const char *path, struct buffer *contents)
+{
+    if (is_dash(path))
+        return read_rest(STDIN_FILENO, contents) || complain_why(path);
+    int file = open(path, O_RDONLY | O_NOCTTY | O_CLOEXEC);
+    if (file < 0)
+        return complain_why(path);
+    return close_after(file, read_rest(file, contents)) || complain_why(path);
+}
+
+/* ---- Writing ---- */
+
+static bool write_all(int file, const uint8_t *bytes, size_t length)
+{
+    while (length > 0) {
+        ssize_t written = write(file, bytes, length);
+        if (written < 0 && errno == EINTR)
+            continue;
+        if (written <= 0)
+            return false;
+        bytes += written;
+        length -= (size_t)written;
+    }
+    return true;
+}
+
+/* What was printed before goes out first. */
+static bool write_to_standard_output(const uint8_t *bytes, size_t length)
+{
+    if (fflush(stdout) != 0 || !write_all(STDOUT_FILENO, bytes, length))
+        return complain_why("standard output");
+    return true;
+}
+
+static bool is_standard_output(const struct stat *there)
+{
+    struct stat output;
+    return fstat(STDOUT_FILENO, &output) == 0 && output.st_dev == there->st_dev && output.st_ino == there->st_ino;
+}
+
+static bool write_into(const char *path, const uint8_t *bytes, size_t length)
+{
+    int file = open(path, O_WRONLY | O_NOCTTY | O_CLOEXEC);
+    return file >= 0 && close_after(file, write_all(file, bytes, length));
+}
+
+/* The mode that a plain creation would give. */
+static mode_t mode_of_new_file(void)
+{
+    mode_t mask = umask(0);
+    umask(mask);
+    return 0666 & ~mask;
+}
+
+/* After a failure, whose errno is kept: no temporary file is left. */
+static bool drop(const char *temporary)
+{
+    int why = errno;
+    unlink(temporary);
+    errno = why;
+    return false;
+}
+
+/* Fills a new file, whose name mkstemp makes. */
+static bool write_temporary(char *temporary, mode_t mode, const uint8_t *bytes, size_t length)
+{
+    int file = mkstemp(temporary);
+    if (file < 0)
+        return false;
+    bool done = write_all(file, bytes, length) && fchmod(file, mode) == 0 && fsync(file) == 0;
+    return close_after(file, done) || drop(temporary);
+}
+
+static bool rename_temporary(const char *temporary, const char *target)
+{
+    return rename(temporary, target) == 0 || drop(temporary);
+}
+
+/* Makes the new name last.  A file system that cannot sync a folder (EINVAL) has nothing to sync. */
+static bool sync_folder(int folder, const char *path)
+{
+    if (close_after(folder, fsync(folder) == 0 || errno == EINVAL))
+        return true;
+    complain(path, "is written, but its folder is not synced: %s", strerror(errno));
+    return false;
+}
+
+/* Replaces the target, a regular file or none; `path` is its name in messages. */
+static bool replace(const char *target, const char *path, mode_t mode, const uint8_t *bytes, size_t length)
+{
+    char *temporary = path_beside(target, ".flow-XXXXXX"), *parent = path_beside(target, ".");
+    int folder = open(parent, O_RDONLY | O_DIRECTORY | O_CLOEXEC);
+    bool renamed = folder >= 0 && write_temporary(temporary, mode, bytes, length) && rename_temporary(temporary, target);
+    if (!renamed)
+        complain_why(path);
+    free(temporary);
+    free(parent);
+    if (renamed)
+        return sync_folder(folder, path);
+    if (folder >= 0)
+        close(folder);
+    return false;
+}
+
+/* A file that may not be written is not replaced either. */
+static bool replace_existing(const char *path, mode_t mode, const uint8_t *bytes, size_t length)
+{
+    char *target = realpath(path, NULL);
+    bool done = target != NULL && access(target, W_OK) == 0;
+    done = done ? replace(target, path, mode, bytes, length) : complain_why(path);
+    free(target);
+    return done;
+}
+
+bool write_file(const char *path, const uint8_t *bytes, size_t length)
+{
+    struct stat there;
+    signal(SIGXFSZ, SIG_IGN); /* a write beyond the limit on file sizes then fails, and is reported, as on a full disk */
+    if (is_dash(path))
+        return write_to_standard_output(bytes, length);
+    if (stat(path, &there) == 0) {
+        if (is_standard_output(&there))
+            return write_to_standard_output(bytes, length);
+        if (!S_ISREG(there.st_mode))
+            return write_into(path, bytes, length) || complain_why(path);
+        return replace_existing(path, there.st_mode & 0777, bytes, length);
+    }
+    if (errno != ENOENT)
+        return complain_why(path);
+    if (lstat(path, &there) == 0)
+        return complain(path, "is a link that leads nowhere"), false;
+    return replace(path, path, mode_of_new_file(), bytes, length);
+}

@@ -1,0 +1,129 @@
+#include "records/walk.h"
+
+#include <limits.h>
+
+#include "records/kinds.h"
+#include "records/little_endian.h"
+
+void walk_open(struct walk *walk, const struct buffer *bytes)
+{
+    *walk = (struct walk){.table = {.bytes = bytes->bytes, .length = bytes->length}, .part = PART_HEADER};
+}
+
+size_t walk_left(const struct walk *walk)
+{
+    return walk->table.length - walk->place;
+}
+
+size_t walk_length(const struct walk *walk)
+{
+    return get16(walk->table.bytes + walk->place);
+}
+
+unsigned walk_kind(const struct walk *walk)
+{
+    return get16(walk->table.bytes + walk->place + 2);
+}
+
+/* ---- What belongs where ---- */
+
+static const struct {
+    unsigned kind;
+    size_t length;
+} layouts[] = {[PART_HEADER] = {FLOW_HEADER, 10}, [PART_LABELS] = {FLOW_LABELS, 10}, [PART_ARRAY] = {FLOW_ARRAY, 6}};
+
+unsigned kind_of_part(enum part part)
+{
+    return layouts[part].kind;
+}
+
+size_t length_of_part(enum part part)
+{
+    return layouts[part].length;
+}
+
+/* How long a record of this kind is in this part; 0: there is none of this kind. */
+static size_t length_wanted(enum part part, unsigned kind)
+{
+    if (part == PART_END)
+        return 0;
+    if (part == PART_NODE)
+        return fields_of(kind) == NULL ? 0 : record_length(fields_of(kind));
+    return kind == kind_of_part(part) ? length_of_part(part) : 0;
+}
+
+bool walk_fits(const struct walk *walk)
+{
+    if (walk_left(walk) < RECORD_HEAD)
+        return false;
+    size_t wanted = length_wanted(walk->part, walk_kind(walk));
+    return wanted != 0 && walk_length(walk) == wanted && walk_left(walk) >= wanted;
+}
+
+/* ---- Going on ---- */
+
+/* What a header says.  False: beyond the limits, so that nothing can be told of what stands behind it. */
+static bool take_header(struct table *table, const uint8_t *fields)
+{
+    unsigned variables = fields[2], arrays = fields[3], nodes = get16(fields + 4);
+    if (variables > FLOW_MAX_VARIABLES || arrays > FLOW_MAX_ARRAYS || nodes > FLOW_MAX_NODES)
+        return false;
+    table->variables = variables;
+    table->arrays = arrays;
+    table->nodes = nodes;
+    return true;
+}
+
+/* What a record that fits says. */
+static bool take_record(struct walk *walk)
+{
+    struct table *table = &walk->table;
+    const uint8_t *fields = table->bytes + walk->place + RECORD_HEAD;
+    switch (walk->part) {
+    case PART_HEADER:
+        return take_header(table, fields);
+    case PART_LABELS:
+        table->secret_variables = get32(fields);
+        table->secret_arrays = get16(fields + 4);
+        return true;
+    case PART_ARRAY:
+        table->counts[walk->number] = get16(fields);
+        table->cells += get16(fields);
+        return true;
+    case PART_NODE:
+        table->places[walk->number] = walk->place;
+        return true;
+    default:
+        return false;
+    }
+}
+
+static unsigned records_in_part(const struct walk *walk)
+{
+    switch (walk->part) {
+    case PART_ARRAY: return walk->table.arrays;
+    case PART_NODE: return walk->table.nodes;
+    case PART_END: return UINT_MAX; /* nothing comes behind it */
+    default: return 1;
+    }
+}
+
+bool walk_on(struct walk *walk)
+{
+    if (!walk_fits(walk) || !take_record(walk))
+        return false;
+    walk->place += walk_length(walk);
+    walk->number++;
+    while (walk->number >= records_in_part(walk)) {
+        walk->part++;
+        walk->number = 0;
+    }
+    return true;
+}
+
+bool walk_to(struct walk *walk, uint64_t place)
+{
+    while (walk->place < place && walk_on(walk))
+        ;
+    return walk->place == place;
+}

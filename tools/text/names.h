@@ -1,0 +1,30 @@
+/* The names of a table's variables and arrays.  A table holds none: they are v0, v1, .. and a0, a1, .., or those of a source. */
+#ifndef NAMES_H
+#define NAMES_H
+
+#include <stdbool.h>
+
+#include "records/table.h"
+
+enum { NAME_BYTES = 64 }; /* with the zero at its end */
+
+struct names {
+    unsigned variables, arrays; /* how many have a name */
+    char variable[FLOW_MAX_VARIABLES][NAME_BYTES];
+    char array[FLOW_MAX_ARRAYS][NAME_BYTES];
+};
+
+/* v0, v1, .. and a0, a1, .. for a table; with `flag` its last variable, if it has one, is f. */
+void number_names(struct names *names, const struct table *table, bool flag);
+
+/*
+ * The same, but with the path of a source (or NULL) the names that it declares: it must declare the table's variables (with `flag` all but the
+ * last) and arrays.  False, with a message: it does not, or it cannot be read.
+ */
+bool take_names(struct names *names, const struct table *table, bool flag, const char *path);
+
+/* The number of a variable or array; -1: none has this name. */
+int variable_named(const struct names *names, const char *name, size_t length);
+int array_named(const struct names *names, const char *name, size_t length);
+
+#endif

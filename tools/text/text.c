@@ -1,0 +1,151 @@
+#include "text/text.h"
+
+#include <ctype.h>
+#include <stdarg.h>
+#include <string.h>
+
+static bool starts_name(int c)
+{
+    return (c >= 'a' && c <= 'z') || (c >= 'A' && c <= 'Z') || c == '_';
+}
+
+static bool is_digit(int c)
+{
+    return c >= '0' && c <= '9';
+}
+
+static bool in_name(int c)
+{
+    return starts_name(c) || is_digit(c) || c == '\'';
+}
+
+static int peek(const struct text *text, size_t ahead)
+{
+    return (size_t)(text->end - text->at) > ahead ? (unsigned char)text->at[ahead] : -1;
+}
+
+static void skip_blanks(struct text *text)
+{
+    bool comment = false;
+    for (; text->at < text->end; text->at++, text->column++) {
+        int c = peek(text, 0);
+        comment = comment ? c != '\n' : c == '-' && peek(text, 1) == '-';
+        if (!comment && c != ' ' && c != '\t' && c != '\r' && c != '\n')
+            return;
+        if (c == '\n') {
+            text->line++;
+            text->column = 0;
+        }
+    }
+}
+
+static void read_name(struct text *text, struct token *token)
+{
+    token->kind = TOKEN_NAME;
+    while (in_name(peek(text, token->length)))
+        token->length++;
+}
+
+static void read_number(struct text *text, struct token *token)
+{
+    uint64_t number = 0;
+    token->kind = TOKEN_NUMBER;
+    for (; is_digit(peek(text, token->length)); token->length++)
+        if (number <= UINT32_MAX)
+            number = 10 * number + (uint64_t)(peek(text, token->length) - '0');
+    if (number > UINT32_MAX)
+        text_fail(text, token, "%s is above 4294967295", token_in_words(token).words);
+    else if (in_name(peek(text, token->length)))
+        text_fail(text, token, "a number runs into a name");
+    token->number = (uint32_t)number;
+}
+
+static void read_symbol(struct text *text, struct token *token)
+{
+    int c = peek(text, 0);
+    token->kind = TOKEN_SYMBOL;
+    token->length = c == ':' && peek(text, 1) == '=' ? 2 : 1;
+    if (c == 0 || c > 126 || strchr("+-*=<?:;,()[]", c) == NULL)
+        text_fail(text, token, c >= ' ' && c <= '~' ? "no word begins with '%c'" : "no word holds the byte %d", c);
+}
+
+static void read_token(struct text *text)
+{
+    if (text->failed)
+        return;
+    skip_blanks(text);
+    struct token token = {.kind = TOKEN_END, .at = text->at, .line = text->line, .column = text->column};
+    int c = peek(text, 0);
+    if (starts_name(c))
+        read_name(text, &token);
+    else if (is_digit(c))
+        read_number(text, &token);
+    else if (c >= 0)
+        read_symbol(text, &token);
+    if (text->failed)
+        return;
+    text->at += token.length;
+    text->column += (unsigned)token.length;
+    text->next = token;
+}
+
+void text_open(struct text *text, const char *name, const uint8_t *bytes, size_t length, FILE *errors)
+{
+    *text = (struct text){.name = name, .errors = errors, .at = length > 0 ? (const char *)bytes : "", .line = 1, .column = 1};
+    text->end = text->at + length;
+    read_token(text);
+}
+
+struct token text_take(struct text *text)
+{
+    text->last = text->next;
+    read_token(text);
+    return text->last;
+}
+
+bool text_is(const struct text *text, const char *what)
+{
+    const struct token *next = &text->next;
+    return next->kind != TOKEN_END && next->kind != TOKEN_NUMBER && strlen(what) == next->length &&
+           memcmp(what, next->at, next->length) == 0;
+}
+
+bool text_accept(struct text *text, const char *what)
+{
+    bool is = text_is(text, what);
+    if (is)
+        text_take(text);
+    return is;
+}
+
+void text_expect(struct text *text, const char *what)
+{
+    if (!text_accept(text, what))
+        text_fail(text, &text->next, "'%s' is wanted here, not %s", what, token_in_words(&text->next).words);
+}
+
+void text_fail(struct text *text, const struct token *where, const char *format, ...)
+{
+    va_list arguments;
+    if (text->failed)
+        return;
+    fprintf(text->errors, "%s:%u:%u: ", text->name, where->line, where->column);
+    va_start(arguments, format);
+    vfprintf(text->errors, format, arguments);
+    va_end(arguments);
+    fputc('\n', text->errors);
+    text->failed = true;
+    text->next = (struct token){.kind = TOKEN_END, .at = text->end, .line = text->line, .column = text->column};
+}
+
+struct token_words token_in_words(const struct token *token)
+{
+    struct token_words words;
+    enum { SHOWN = 32 };
+    if (token->kind == TOKEN_END)
+        snprintf(words.words, sizeof words.words, "the end");
+    else
+        snprintf(words.words, sizeof words.words, "'%.*s%s'", token->length > SHOWN ? SHOWN : (int)token->length, token->at,
+                 token->length > SHOWN ? ".." : "");
+    return words;
+}
