@@ -37,26 +37,33 @@ $(BUILD)/test/%: $(BUILD)/tools/test/%.o $(call objects,tools/test/memory.c $(PA
 check: check-transcripts check-round-trips check-explain check-fuzz check-install
 
 # What every command prints, with its exit status; the examples of README among them.
-check-transcripts: $(BUILD)/flow
+check-transcripts: $(BUILD)/flow $(BUILD)/test/failing.so
 	python3 tools/test/transcripts.py $(BUILD) tools/test/*.txt README.md
+
+$(BUILD)/test/failing.so: tools/test/failing.c
+	@mkdir -p $(@D)
+	$(CC) $(CFLAGS) -D_GNU_SOURCE -Wno-pedantic -fPIC -shared -o $@ $< -ldl
 
 check-round-trips: $(BUILD)/test/round_trips
 	$(BUILD)/test/round_trips $(SEED)
 
-# Refusals in words, against a check of each by brute force.  (A pipe forgets how its first part ended: the check wants a last line.)
+# Refusals in words, against a check of each by brute force.  (A pipe forgets how its first part ended: the check wants a last
+# line.)
 check-explain: $(BUILD)/test/explain_words
 	$< $(SEED) | python3 tools/test/explain_check.py
 
 costs: $(BUILD)/flow
 	python3 tools/test/costs.py $(BUILD)
 
-# The parsers once more, with the sanitizers, in a folder of their own.
+# With the sanitizers, in a folder of their own: the parsers on any input, and all transcripts again.
 SANITIZE = -fsanitize=address,undefined -fno-sanitize-recover=all
 SANITIZED = $(BUILD)/sanitized
 
 check-fuzz:
-	$(MAKE) BUILD=$(SANITIZED) CFLAGS='$(CFLAGS) $(SANITIZE)' LDFLAGS='$(SANITIZE)' $(SANITIZED)/test/fuzz
-	ASAN_OPTIONS=log_path=stdout UBSAN_OPTIONS=log_path=stdout $(SANITIZED)/test/fuzz $(SEED) 2>/dev/null
+	$(MAKE) BUILD=$(SANITIZED) CFLAGS='$(CFLAGS) $(SANITIZE)' LDFLAGS='$(SANITIZE)' \
+		$(SANITIZED)/test/fuzz $(SANITIZED)/flow
+	ASAN_OPTIONS=log_path=stdout UBSAN_OPTIONS=log_path=stdout timeout 120 $(SANITIZED)/test/fuzz $(SEED) 2>/dev/null
+	python3 tools/test/transcripts.py $(SANITIZED) $(filter-out %/failing_calls.txt,$(wildcard tools/test/*.txt))
 
 $(BUILD)/%.o: %.c
 	@mkdir -p $(@D)

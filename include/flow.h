@@ -1,5 +1,5 @@
 /*
- * Flow: labels, hardens and runs AWHILE programs.  Link with libflow.a.
+ * Flow: labels, hardens and runs AWHILE programs.  Link with libflow.a, or with libflow.so.
  *
  * Every entry takes byte slices, each as a pointer and then a size_t.  An empty slice may be (NULL, 0).  Slices need no
  * alignment.  They must not overlap, and each must be readable (where it is lent for writing: writable) over its whole length.

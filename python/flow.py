@@ -7,6 +7,7 @@ import ctypes
 import os
 
 _NUMBER_BYTES = 8  # of a number in an answer
+_LAST_WITH_PLACE = 7  # FLOW_EXTRA_BYTES: from the next refusal up the place is 0
 _OUTPUT_SHORT = 23  # FLOW_OUTPUT_SHORT: the result is longer than the memory lent for it
 _FIRST_ROOM = 1 << 16  # more than any result takes today
 
@@ -20,7 +21,8 @@ class Refused(ValueError):
         self.place = place
 
     def __str__(self) -> str:
-        return f"refused by {self.number} at byte {self.place}"
+        where = f" at byte {self.place}" if self.number <= _LAST_WITH_PLACE else ""
+        return f"refused by {self.number}{where}"
 
 
 _library = ctypes.CDLL(os.environ.get("FLOW_LIBRARY") or "libflow.so.1")

@@ -76,6 +76,7 @@ class Sheet(unittest.TestCase):
 class Refusal(unittest.TestCase):
     def test_words(self):
         self.assertEqual(str(flow.Refused(6, 724)), "refused by 6 at byte 724")
+        self.assertEqual(str(flow.Refused(8, 0)), "refused by 8")
 
     def test_is_a_value_error(self):
         self.assertIsInstance(flow.Refused(6, 724), ValueError)

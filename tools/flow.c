@@ -4,6 +4,7 @@
  */
 #include <errno.h>
 #include <fcntl.h>
+#include <signal.h>
 #include <stdio.h>
 #include <string.h>
 
@@ -22,19 +23,21 @@ static const char conclusion[] =
     "\n"
     "flow COMMAND --help says more of a command, `man flow` all of it.  flow --version prints the release.\n"
     "TABLE is a file, or - for standard input.\n"
-    "Exit status: 0 done; 1 refused; 2 wrong usage, or a file cannot be read or written; 3 attack: told apart; 4 attack: no verdict.\n";
+    "Exit status: 0 done; 1 refused; 2 wrong usage, or a file cannot be read or written; 3 attack: told apart;\n"
+    "4 run, attack: a run was cut.\n";
 
-/* The first line of a usage text. */
-static void print_first_line(FILE *to, const char *usage)
+/* The lines of a usage that say how the command is called. */
+static void print_calls(FILE *to, const char *usage)
 {
-    fprintf(to, "%.*s\n", (int)strcspn(usage, "\n"), usage);
+    for (; strncmp(usage, "flow ", 5) == 0; usage += strcspn(usage, "\n") + 1)
+        fprintf(to, "%.*s\n", (int)strcspn(usage, "\n"), usage);
 }
 
 static void print_help(FILE *to)
 {
     fputs(introduction, to);
     for (unsigned i = 0; i < COMMANDS; i++)
-        print_first_line(to, commands[i]->usage);
+        print_calls(to, commands[i]->usage);
     fputs(conclusion, to);
 }
 
@@ -86,6 +89,7 @@ static void fill_standard_files(void)
 /* What was printed may still not have gone out: that, too, is trouble. */
 int main(int argc, char **argv)
 {
+    signal(SIGXFSZ, SIG_IGN); /* a write beyond the limit on file sizes then fails, and is reported, as on a full disk */
     fill_standard_files();
     int status = run_command(argc - 1, argv + 1);
     errno = 0;

@@ -9,15 +9,18 @@
 #include "commands/open_table.h"
 #include "files/messages.h"
 #include "library/calls.h"
+#include "library/refusals.h"
+#include "records/kinds.h"
 #include "records/little_endian.h"
 #include "text/faults.h"
+#include "text/labels.h"
 #include "text/words.h"
 
 static const char usage[] =
-    "flow ask [--names SOURCE] TABLE NODE VARIABLE [NODE VARIABLE ..]\n"
+    "flow ask [--flag] [--names SOURCE] TABLE NODE VARIABLE [NODE VARIABLE ..]\n"
     "  Says of each pair whether the variable is secret just before the command at the node; in a loop, once it has settled.\n"
     "  NODE is a number of `flow list --nodes`, VARIABLE a number or a name.\n"
-    NAMES_USAGE;
+    NAMING_USAGE;
 
 /* A node by its number.  False, with a message: the word is no number of 2 bytes.  Whether it is there, the library says. */
 static bool append_node(const struct open_table *opened, const char *word, struct buffer *questions)
@@ -52,6 +55,46 @@ static bool take_questions(const struct open_table *opened, int count, char **wo
     return true;
 }
 
+static bool is_command(const struct table *table, unsigned node)
+{
+    return node < table->nodes && sort_of(table_kind(table, node)) == 'C';
+}
+
+/* Which question the library refuses, in words: the list as a whole, or the first pair that is not in order. */
+static void print_bad_question(FILE *to, const struct table *table, const struct buffer *questions)
+{
+    size_t pairs = questions->length / FLOW_QUESTION_BYTES;
+    if (pairs > FLOW_MAX_QUESTIONS) {
+        fprintf(to, "%zu pairs, at most %d\n", pairs, FLOW_MAX_QUESTIONS);
+        return;
+    }
+    for (size_t i = 0; i < pairs; i++) {
+        unsigned node = get16(questions->bytes + i * FLOW_QUESTION_BYTES);
+        unsigned variable = get16(questions->bytes + i * FLOW_QUESTION_BYTES + 2);
+        if (is_command(table, node) && variable < table->variables)
+            continue;
+        if (node >= table->nodes)
+            fprintf(to, "pair %zu: node %u, but the last is %u\n", i + 1, node, table->nodes - 1);
+        else if (!is_command(table, node))
+            fprintf(to, "pair %zu: node %u is no command (%s)\n", i + 1, node, kind_in_words(table_kind(table, node)));
+        else
+            fprintf(to, "pair %zu: variable %u, and the table has %u\n", i + 1, variable, table->variables);
+        return;
+    }
+    fprintf(to, "no fault is found in the questions: please report them\n");
+}
+
+static void print_refused(const struct open_table *opened, const struct buffer *questions, struct answer answer)
+{
+    if (concern_of(answer.refusal) != CONCERN_QUESTIONS) {
+        print_refusal(stderr, opened->name, &opened->bytes, answer);
+        return;
+    }
+    print_name(stderr, opened->name);
+    fprintf(stderr, ": refused by %" PRIu64 ": ", answer.refusal);
+    print_bad_question(stderr, &opened->table, questions);
+}
+
 static int ask_table(const struct open_table *opened, const struct buffer *questions)
 {
     uint8_t labels[FLOW_MAX_QUESTIONS], numbers[FLOW_ANSWER_BYTES];
@@ -59,7 +102,7 @@ static int ask_table(const struct open_table *opened, const struct buffer *quest
                                       sizeof labels, numbers, sizeof numbers);
     uint64_t second = flow_answer_number(numbers, sizeof numbers, 1); /* the number of pairs, or the place of the refusal */
     if (refusal != FLOW_ACCEPTED) {
-        print_refusal(stderr, opened->name, &opened->bytes, (struct answer){refusal, second});
+        print_refused(opened, questions, (struct answer){refusal, second});
         return STATUS_REFUSED;
     }
     for (size_t i = 0; i < second; i++) {
@@ -73,7 +116,7 @@ static int ask_table(const struct open_table *opened, const struct buffer *quest
 static int run_ask(const struct command *self, int argc, char **argv)
 {
     struct naming naming = {0};
-    const struct option options[] = {{"--names", NULL, &naming.source}, {NULL, NULL, NULL}};
+    const struct option options[] = {{"--flag", &naming.flag, NULL}, {"--names", NULL, &naming.source}, {NULL, NULL, NULL}};
     struct open_table opened;
     struct buffer questions = {0};
     if (!take_options(self, options, &argc, argv, 3, INT_MAX) || !reads_standard_input_once(self, naming, 1, argv))

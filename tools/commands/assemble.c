@@ -3,7 +3,7 @@
 
 #include "commands/command.h"
 #include "files/files.h"
-#include "files/messages.h"
+#include "files/paths.h"
 #include "library/calls.h"
 #include "text/faults.h"
 #include "text/source.h"
@@ -26,20 +26,29 @@ static int judge_and_write(const char *name, const struct buffer *table, const c
     return write_file(output, table->bytes, table->length) ? STATUS_DONE : STATUS_TROUBLE;
 }
 
+static int assemble_file(const char *path, const char *output)
+{
+    struct buffer text = {0};
+    struct source source = {0};
+    int status = STATUS_TROUBLE;
+    if (read_file(path, &text))
+        status = assemble_source(&source, path, &text, stderr) ? judge_and_write(path, &source.table, output) : STATUS_REFUSED;
+    source_free(&source);
+    buffer_free(&text);
+    return status;
+}
+
 static int run_assemble(const struct command *self, int argc, char **argv)
 {
     const char *output = NULL;
     const struct option options[] = {{"-o", NULL, &output}, {NULL, NULL, NULL}};
-    struct buffer text = {0};
-    struct source source;
-    if (!take_options(self, options, &argc, argv, 1, 1) || !read_file(argv[0], &text))
+    if (!take_options(self, options, &argc, argv, 1, 1))
         return STATUS_TROUBLE;
-    int status = STATUS_REFUSED;
-    if (assemble_source(&source, name_in_words(argv[0]), &text, stderr))
-        status = judge_and_write(argv[0], &source.table, output != NULL ? output : "-");
-    source_free(&source);
-    buffer_free(&text);
-    return status;
+    if (output == NULL)
+        output = "-";
+    if (is_one_file(argv[0], output))
+        return misused(self, "the table would be written over its source");
+    return assemble_file(argv[0], output);
 }
 
 const struct command command_assemble = {"assemble", usage, run_assemble};

@@ -7,9 +7,9 @@
 #include "commands/open_table.h"
 #include "files/messages.h"
 #include "flow_words.h"
+#include "library/refusals.h"
 #include "library/runs.h"
-#include "records/kinds.h"
-#include "records/little_endian.h"
+#include "records/directives.h"
 #include "text/faults.h"
 #include "text/script.h"
 #include "text/state.h"
@@ -46,32 +46,18 @@ struct attack {
     struct pair guessing_hardened;
 };
 
-/* ---- Runs --------------------------------------------------------------------------------------------------------------- */
+/* ---- Runs ---- */
 
 static enum machine machine_of(const struct attack *attack)
 {
     return attack->rollback ? MACHINE_ROLLBACK : MACHINE_GUESSING;
 }
 
-/* Does the script, as far as its records go, hold a rollback? */
-static bool holds_rollback(const struct buffer *script)
-{
-    size_t length;
-    for (size_t at = 0; script->length - at >= RECORD_HEAD; at += length) {
-        length = get16(script->bytes + at);
-        if (get16(script->bytes + at + 2) == FLOW_ROLLBACK)
-            return true;
-        if (length < RECORD_HEAD || length > script->length - at)
-            return false;
-    }
-    return false;
-}
-
 static void print_refused(const struct attack *attack, const struct open_table *opened, struct answer answer)
 {
-    bool of_script = answer.refusal == FLOW_BAD_DIRECTIVES;
+    bool of_script = concern_of(answer.refusal) == CONCERN_SCRIPT;
     print_refusal(stderr, of_script ? attack->script.name : opened->name, &opened->bytes, answer);
-    if (of_script && !attack->rollback && holds_rollback(&attack->script.directives))
+    if (of_script && !attack->rollback && count_directives(&attack->script.directives, FLOW_ROLLBACK, UINT64_MAX) > 0)
         complain(attack->script.name, "a rollback is a directive with --rollback only");
 }
 
@@ -110,7 +96,7 @@ static void pair_free(struct pair *pair)
     run_free(&pair->runs[1]);
 }
 
-/* ---- Printing ----------------------------------------------------------------------------------------------------------- */
+/* ---- Printing ---- */
 
 static void print_run(const struct open_table *opened, const struct run *run, unsigned state)
 {
@@ -164,7 +150,20 @@ static void print_agreement(const char *differs)
         printf("the states do not agree on what the table labels public: they differ in %s\n", differs);
 }
 
-/* Where hardening promises nothing, or it is not known whether it does. */
+/* A script that was not played to its end, or is shorter than the program, says less than it seems to. */
+static void print_unplayed(const struct attack *attack, const struct pair *pair)
+{
+    size_t all = count_directives(&attack->script.directives, ANY_DIRECTIVE, UINT64_MAX);
+    for (unsigned i = 0; i < 2; i++) {
+        const struct run *run = &pair->runs[i];
+        if (run->end == FLOW_OUT_OF_DIRECTIVES)
+            printf("note: from state %u the script is over before the program: a longer one may show more\n", i + 1);
+        else if (run->directives < all)
+            printf("note: from state %u the run ended with %" PRIu64 " of %zu directives used\n", i + 1, run->directives, all);
+    }
+}
+
+/* What hardening promises nothing of; and what it promises, should it ever not hold. */
 static void print_notes(const struct attack *attack, const char *differs)
 {
     static const char promise[] = "hardening promises nothing of such states";
@@ -174,6 +173,9 @@ static void print_notes(const struct attack *attack, const char *differs)
         printf("note: the program itself, without guessing, tells the states apart: %s\n", promise);
     if (attack->plain.verdict.kind == VERDICT_NONE)
         printf("note: a run without guessing was cut: whether the program itself tells the states apart is not known\n");
+    bool promised = attack->harden && differs == NULL && attack->plain.verdict.kind == VERDICT_ALIKE;
+    if (promised && attack->guessing_hardened.verdict.kind == VERDICT_TOLD_APART)
+        printf("note: this is against what is proved of hardening: please report this table\n");
 }
 
 static void print_attack(const struct attack *attack)
@@ -191,24 +193,26 @@ static void print_attack(const struct attack *attack)
         print_verdict("  ", &attack->guessing);
         print_pair(attack, "hardened, ", machine, &attack->hardened, &attack->guessing_hardened);
     }
+    if (deciding_pair(attack)->verdict.kind == VERDICT_ALIKE)
+        print_unplayed(attack, deciding_pair(attack));
     print_notes(attack, differs);
     print_verdict("", deciding_pair(attack));
 }
 
-/* ---- The command -------------------------------------------------------------------------------------------------------- */
+/* ---- The command ---- */
 
 static int status_of(enum verdict_kind kind)
 {
     switch (kind) {
     case VERDICT_ALIKE: return STATUS_DONE;
     case VERDICT_TOLD_APART: return STATUS_TOLD_APART;
-    default: return STATUS_NO_VERDICT;
+    default: return STATUS_CUT;
     }
 }
 
 static bool read_operands(struct attack *attack, char **argv)
 {
-    static const char *const called[2] = {"STATE 1", "STATE 2"};
+    static const char *const called[2] = {"first STATE", "second STATE"};
     const struct open_table *original = &attack->original;
     if (!read_script(argv[1], &original->names, &attack->script))
         return false;

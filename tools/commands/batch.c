@@ -7,7 +7,7 @@
 
 #include "files/messages.h"
 #include "files/paths.h"
-#include "records/assemble.h"
+#include "records/buffer.h"
 
 char *batch_out(const struct batch *batch, size_t i)
 {
@@ -45,45 +45,40 @@ static bool are_base_names_distinct(const struct batch *batch)
     return distinct;
 }
 
-static bool is_outside(const char *path, const struct file_set *files, const char *message)
+static bool is_not_read(const struct file_set *inputs, const char *path)
 {
-    bool outside = !file_set_holds(files, path);
-    if (!outside)
-        complain(path, "%s", message);
-    return outside;
+    bool read = file_set_holds(inputs, path);
+    if (read)
+        complain(path, "would be written and is read too; nothing is hardened");
+    return !read;
 }
 
-static bool are_outs_outside(const struct batch *batch, const struct file_set *files, const char *message)
+static bool is_not_the_report(const struct batch *batch, const char *out)
 {
-    bool outside = true;
-    for (size_t i = 0; i < batch->count && outside; i++) {
+    bool report = batch->report != NULL && is_one_file(batch->report, out);
+    if (report)
+        complain(out, "would hold the report and a hardened table; nothing is hardened");
+    return !report;
+}
+
+static bool are_outs_in_order(const struct batch *batch, const struct file_set *inputs)
+{
+    bool in_order = true;
+    for (size_t i = 0; i < batch->count && in_order; i++) {
         char *out = batch_out(batch, i);
-        outside = is_outside(out, files, message);
+        in_order = is_not_read(inputs, out) && is_not_the_report(batch, out);
         free(out);
     }
-    return outside;
+    return in_order;
 }
 
 bool batch_is_in_order(const struct batch *batch)
 {
-    static const char message[] = "would be written and is read too; nothing is hardened";
     struct file_set inputs;
     if (batch->into != NULL && (!is_folder(batch->into) || !are_base_names_distinct(batch)))
         return false;
     file_set_take(&inputs, batch->files, batch->count);
-    bool in_order = (batch->into == NULL || are_outs_outside(batch, &inputs, message)) &&
-                    (batch->report == NULL || is_outside(batch->report, &inputs, message));
+    bool in_order = are_outs_in_order(batch, &inputs) && (batch->report == NULL || is_not_read(&inputs, batch->report));
     file_set_free(&inputs);
     return in_order;
-}
-
-bool batch_report_is_apart(const struct batch *batch)
-{
-    struct file_set report;
-    if (batch->report == NULL)
-        return true;
-    file_set_take(&report, (char *const[]){(char *)batch->report}, 1);
-    bool apart = are_outs_outside(batch, &report, "holds a hardened table; the report is not written over it");
-    file_set_free(&report);
-    return apart;
 }

@@ -17,12 +17,9 @@ struct batch {
 char *batch_out(const struct batch *batch, size_t i);
 
 /*
- * Before anything is written: the folder is there, no two tables would get one name in it, and no file that is read would be
- * written, but that a single table may be replaced.  False: there was a message.
+ * Before anything is written: the folder is there, no two tables would get one name in it, no file that is read would be written,
+ * and the report has a file of its own.  False: there was a message.
  */
 bool batch_is_in_order(const struct batch *batch);
-
-/* Once the tables are written: the report's file is none of theirs.  False: there was a message. */
-bool batch_report_is_apart(const struct batch *batch);
 
 #endif

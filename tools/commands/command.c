@@ -33,6 +33,11 @@ static const struct option *option_named(const struct option *options, const cha
     return NULL;
 }
 
+static bool looks_like_option(const char *argument)
+{
+    return argument[0] == '-' && argument[1] != 0;
+}
+
 /* Takes one option and says how many arguments it was: 0, with a message, where it is not in order. */
 static int take_option(const struct command *self, const struct option *options, char **argv, int left)
 {
@@ -44,7 +49,7 @@ static int take_option(const struct command *self, const struct option *options,
         return misused(self, "%s is given twice", option->name), 0;
     if (option->value == NULL)
         return *option->given = true, 1;
-    if (value == NULL && left < 2)
+    if (value == NULL && (left < 2 || looks_like_option(argv[1])))
         return misused(self, "%s lacks its value", option->name), 0;
     *option->value = value != NULL ? value : argv[1];
     return value != NULL ? 1 : 2;
@@ -58,7 +63,7 @@ bool take_options(const struct command *self, const struct option *options, int 
         if (!only_operands && strcmp(argv[i], "--") == 0) {
             only_operands = true;
             i++;
-        } else if (only_operands || argv[i][0] != '-' || argv[i][1] == 0) {
+        } else if (only_operands || !looks_like_option(argv[i])) {
             argv[operands++] = argv[i++];
         } else {
             int taken = take_option(self, options, argv + i, *argc - i);

@@ -7,10 +7,10 @@
 /* The exit status of `flow`. */
 enum {
     STATUS_DONE = 0,
-    STATUS_REFUSED = 1,    /* the library refused a table, script or question, or a text does not read */
+    STATUS_REFUSED = 1,    /* the library refused a table, script or question, or a source cannot be assembled */
     STATUS_TROUBLE = 2,    /* wrong usage, or something could not be read or written */
     STATUS_TOLD_APART = 3, /* attack: the script tells the two states apart */
-    STATUS_NO_VERDICT = 4  /* attack: a run was cut before it said anything */
+    STATUS_CUT = 4         /* run, attack: a run was cut, and there is no verdict */
 };
 
 struct command {
@@ -31,8 +31,8 @@ struct option {
 
 /*
  * Takes the options out of the arguments, wherever they stand, and leaves the operands: "-" is one, and so is everything behind
- * "--".  False, with a message on standard error: an option that is unknown, given twice or lacks its value, or fewer or more
- * operands than allowed.
+ * "--".  What looks like an option is no option's value, unless behind an equals sign.  False, with a message on standard error:
+ * an option that is unknown, given twice or lacks its value, or fewer or more operands than allowed.
  */
 bool take_options(const struct command *self, const struct option *options, int *argc, char **argv, int fewest, int most);
 

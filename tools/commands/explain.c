@@ -2,6 +2,7 @@
 #include <inttypes.h>
 #include <limits.h>
 #include <stdio.h>
+#include <string.h>
 
 #include "commands/command.h"
 #include "files/files.h"
@@ -9,14 +10,15 @@
 #include "files/paths.h"
 #include "flow_words.h"
 #include "library/calls.h"
+#include "library/refusals.h"
 #include "records/table.h"
 #include "text/faults.h"
 
 static const char usage[] =
     "flow explain TABLE..\n"
-    "  Says of each table whether it is accepted, and if it is not, why: the library's refusal, the byte of the record concerned\n"
-    "  and the faults in words, a line each.  Also why hardening would refuse a table that can be labelled and run.\n"
-    "  Exit status: 0 all can be hardened; 1 one is refused; 2 wrong usage, or a file cannot be read (the others are explained).\n";
+    "  Says of each table whether it is accepted, and if it is not, why: the library's refusal, its place, and in words the\n"
+    "  faults of the record there; of refusal 6, every node that breaks the rule.  Also why hardening alone would refuse it.\n"
+    "  Exit status: 0 all can be hardened; 1 one is refused; 2 wrong usage, or one cannot be read (the others are explained).\n";
 
 static void print_count(const char *before, size_t count, const char *what)
 {
@@ -34,15 +36,22 @@ static void print_accepted(const struct buffer *bytes)
     putchar('\n');
 }
 
-/* Up to 7 no entry takes the table; from 8 up it is labelled and run, but not hardened. */
+/* Every table has zero bytes, and no text has. */
+static bool is_text(const struct buffer *bytes)
+{
+    return bytes->length > 0 && memchr(bytes->bytes, 0, bytes->length) == NULL;
+}
+
 static void print_refused(const struct buffer *table, struct answer answer)
 {
     const char *words = flow_refusal_words(answer.refusal);
-    if (answer.refusal <= FLOW_EXTRA_BYTES)
+    if (concern_of(answer.refusal) == CONCERN_TABLE)
         printf("refused by %" PRIu64 " at byte %" PRIu64 ": %s\n", answer.refusal, answer.second, words);
     else
         printf("accepted, but hardening refuses it by %" PRIu64 ": %s\n", answer.refusal, words);
     print_faults(stdout, "  ", table, answer);
+    if (is_text(table))
+        printf("  the file holds text: flow assemble makes a table of a source\n");
 }
 
 static int explain_table(const char *path)
@@ -51,7 +60,8 @@ static int explain_table(const char *path)
     int status = STATUS_TROUBLE;
     if (read_file(path, &table)) {
         struct answer answer = harden_table(&table, &hardened);
-        printf("%s: ", name_in_words(path));
+        print_name(stdout, path);
+        fputs(": ", stdout);
         if (answer.refusal == FLOW_ACCEPTED)
             print_accepted(&table);
         else

@@ -2,12 +2,14 @@
 #include <limits.h>
 #include <stdio.h>
 #include <stdlib.h>
+#include <unistd.h>
 
 #include "commands/batch.h"
 #include "commands/command.h"
 #include "commands/hardening.h"
 #include "commands/report.h"
 #include "files/files.h"
+#include "files/messages.h"
 #include "files/paths.h"
 #include "text/faults.h"
 
@@ -20,24 +22,37 @@ static const char usage[] =
     "  --into FOLDER   each hardened table goes to a file of the same name in this folder\n"
     "  --report FILE   a line for each table, tab-separated: name, SHA-256 in and out, refusal, place, nodes in and out\n";
 
-/* Hardens table number i and prints what came of it, a success not to NULL.  Returns the exit status for this table alone. */
-static int harden_one(const struct batch *batch, size_t i, FILE *refusals, FILE *successes, struct report *report)
+/* Of many: a line for each, and a word where an older file of the refused table's name could be taken for its result. */
+static void print_one(const struct hardening *hardening, const char *out)
+{
+    if (is_refused(hardening)) {
+        print_refusal(stdout, hardening->name, &hardening->table, hardening->answer);
+        if (access(out, F_OK) == 0)
+            complain(out, "is from before: the table of this name is refused now");
+        return;
+    }
+    print_name(stdout, hardening->name);
+    if (hardening->written)
+        printf(": %u -> %u nodes, %zu bytes\n", hardening->nodes_in, hardening->nodes_out, hardening->hardened.length);
+    else
+        printf(": failed, %s\n", hardening->read ? "not written" : "not read");
+}
+
+/* Hardens table number i; a single one speaks of a refusal alone.  Returns the exit status for this table. */
+static int harden_one(const struct batch *batch, size_t i, struct report *report)
 {
     struct hardening hardening;
-    int status = STATUS_TROUBLE;
     char *out = batch_out(batch, i);
     harden_file(&hardening, batch->files[i]);
-    if (is_refused(&hardening)) {
-        print_refusal(refusals, hardening.name, &hardening.table, hardening.answer);
-        status = STATUS_REFUSED;
-    } else if (hardening.read && write_file(out, hardening.hardened.bytes, hardening.hardened.length)) {
-        hardening.written = true;
-        status = STATUS_DONE;
-    }
-    if (hardening.written && successes != NULL)
-        fprintf(successes, "%s: %u -> %u nodes, %zu bytes\n", hardening.name, hardening.nodes_in, hardening.nodes_out,
-                hardening.hardened.length);
+    bool refused = is_refused(&hardening);
+    if (hardening.read && !refused)
+        hardening.written = write_file(out, hardening.hardened.bytes, hardening.hardened.length);
+    if (batch->into != NULL)
+        print_one(&hardening, out);
+    else if (refused)
+        print_refusal(stderr, hardening.name, &hardening.table, hardening.answer);
     report_add(report, &hardening);
+    int status = hardening.written ? STATUS_DONE : refused ? STATUS_REFUSED : STATUS_TROUBLE;
     hardening_free(&hardening);
     free(out);
     return status;
@@ -47,7 +62,7 @@ static int harden_all(const struct batch *batch, struct report *report)
 {
     size_t ended[STATUS_TROUBLE + 1] = {0};
     for (size_t i = 0; i < batch->count; i++)
-        ended[harden_one(batch, i, stdout, stdout, report)]++;
+        ended[harden_one(batch, i, report)]++;
     printf("%zu hardened, %zu refused", ended[STATUS_DONE], ended[STATUS_REFUSED]);
     if (ended[STATUS_TROUBLE] > 0)
         printf(", %zu failed", ended[STATUS_TROUBLE]);
@@ -60,9 +75,8 @@ static int harden_batch(const struct batch *batch)
     struct report report;
     if (!batch_is_in_order(batch) || !report_open(&report, batch->report))
         return STATUS_TROUBLE;
-    int status = batch->into != NULL ? harden_all(batch, &report) : harden_one(batch, 0, stderr, NULL, &report);
-    bool reported = report_close(&report, batch_report_is_apart(batch));
-    return reported ? status : STATUS_TROUBLE;
+    int status = batch->into != NULL ? harden_all(batch, &report) : harden_one(batch, 0, &report);
+    return report_close(&report) ? status : STATUS_TROUBLE;
 }
 
 static int run_harden(const struct command *self, int argc, char **argv)
@@ -86,7 +100,7 @@ static int run_harden(const struct command *self, int argc, char **argv)
     if (batch.out == NULL)
         batch.out = "-";
     if (batch.report != NULL && is_dash(batch.report) && is_dash(batch.out))
-        return misused(self, "--report - needs -o: standard output is taken");
+        return misused(self, "standard output is taken: the report needs a file");
     return harden_batch(&batch);
 }
 

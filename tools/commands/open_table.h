@@ -3,23 +3,24 @@
 #define OPEN_TABLE_H
 
 #include "commands/command.h"
+#include "library/calls.h"
 #include "records/table.h"
 #include "text/names.h"
 
 /* The lines of a usage that say how names are chosen. */
 #define NAMING_USAGE \
-    "  --flag          the last variable is the flag of a hardened table, and is called f\n" NAMES_USAGE
-#define NAMES_USAGE \
+    "  --flag          the last variable is the flag of a hardened table, and is called f\n" \
     "  --names SOURCE  variables and arrays have the names that SOURCE declares, not v0, v1, .. and a0, a1, ..\n"
 
-/* Which names a table's variables and arrays have: see take_names. */
+/* Which names a table's variables and arrays have. */
 struct naming {
-    bool flag;
-    const char *source; /* or NULL */
+    bool flag;          /* the last variable is the flag: it must be labelled public, as hardening does */
+    const char *source; /* whose names they have: it declares the table's variables, but the flag, and arrays.  NULL: numbers */
 };
 
 struct open_table {
     const char *name; /* its file's, for messages */
+    struct answer answer; /* of the library, to its label sheet */
     struct buffer bytes, sheet;
     struct table table;
     struct names names;

@@ -23,21 +23,6 @@ bool report_open(struct report *report, const char *path)
     return true;
 }
 
-/* A name with what would break the line escaped. */
-static void print_name(FILE *to, const char *name)
-{
-    for (; *name != 0; name++) {
-        if (*name == '\t')
-            fputs("\\t", to);
-        else if (*name == '\n')
-            fputs("\\n", to);
-        else if (*name == '\\')
-            fputs("\\\\", to);
-        else
-            fputc(*name, to);
-    }
-}
-
 /* The other columns, each behind its tab. */
 static void print_digest(FILE *to, bool known, const struct buffer *bytes)
 {
@@ -72,7 +57,7 @@ void report_add(struct report *report, const struct hardening *hardening)
     fputc('\n', to);
 }
 
-bool report_close(struct report *report, bool wanted)
+bool report_close(struct report *report)
 {
     if (report->lines == NULL)
         return true;
@@ -80,7 +65,7 @@ bool report_close(struct report *report, bool wanted)
     whole = fclose(report->lines) == 0 && whole;
     if (!whole)
         complain(report->path, "there is no memory for the report");
-    bool written = whole && wanted && write_file(report->path, (const uint8_t *)report->text, report->length);
+    bool written = whole && write_file(report->path, (const uint8_t *)report->text, report->length);
     free(report->text);
     return written;
 }

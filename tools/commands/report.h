@@ -19,7 +19,7 @@ bool report_open(struct report *report, const char *path);
 
 void report_add(struct report *report, const struct hardening *hardening);
 
-/* Writes the file, if it is wanted still, and frees the report.  False: it is not written, and there was a message of why. */
-bool report_close(struct report *report, bool wanted);
+/* Writes the file and frees the report.  False: it could not be written, and there was a message. */
+bool report_close(struct report *report);
 
 #endif

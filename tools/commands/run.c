@@ -18,12 +18,15 @@ static const char usage[] =
     "  Runs a table without guessing: how it ends, what it shows and, on the last line, its state, which can be given again.\n"
     STATE_USAGE
     BUDGET_USAGE
-    NAMING_USAGE;
+    NAMING_USAGE
+    "  Exit status: 0 the run ended by the rules; 1 refused; 2 wrong usage, or a file cannot be read; 4 the run was cut.\n";
 
 static void print_run(const struct open_table *opened, unsigned variables, const struct run *run)
 {
     const struct table *table = &opened->table;
-    printf("%s: %s\n", run_was_cut(run) ? "the run was cut" : "end", flow_end_words(run->end));
+    printf("end: %s\n", flow_end_words(run->end));
+    if (run_was_cut(run))
+        printf("the run was cut, and may go on with a larger --budget\n");
     printf("steps: %" PRIu64 "\n", run->steps);
     if (run->end != FLOW_FINISHED)
         printf("next node: %" PRIu64 "\n", run->next);
@@ -40,12 +43,14 @@ static int run_from(const struct open_table *opened, const struct state *state, 
 {
     struct run run;
     struct answer answer = run_table(&opened->table, MACHINE_PLAIN, NULL, state, budget, &run);
-    if (answer.refusal == FLOW_ACCEPTED)
+    int status = STATUS_REFUSED;
+    if (answer.refusal == FLOW_ACCEPTED) {
         print_run(opened, state->variables, &run);
-    else
+        status = run_was_cut(&run) ? STATUS_CUT : STATUS_DONE;
+    } else
         print_refusal(stderr, opened->name, &opened->bytes, answer);
     run_free(&run);
-    return answer.refusal == FLOW_ACCEPTED ? STATUS_DONE : STATUS_REFUSED;
+    return status;
 }
 
 static int run_run(const struct command *self, int argc, char **argv)

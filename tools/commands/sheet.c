@@ -8,7 +8,8 @@
 #include "commands/open_table.h"
 #include "files/files.h"
 #include "files/messages.h"
-#include "text/words.h"
+#include "files/paths.h"
+#include "text/labels.h"
 
 static const char usage[] =
     "flow sheet [--raw] [-o OUT] [--flag] [--names SOURCE] TABLE\n"
@@ -53,9 +54,13 @@ static int run_sheet(const struct command *self, int argc, char **argv)
     struct open_table opened;
     if (!take_options(self, options, &argc, argv, 1, 1) || !reads_standard_input_once(self, naming, argc, argv))
         return STATUS_TROUBLE;
+    if (output == NULL)
+        output = "-";
+    if (is_one_file(argv[0], output) || (naming.source != NULL && is_one_file(naming.source, output)))
+        return misused(self, "the sheet would be written over a file that is read");
     int status = open_table(&opened, argv[0], naming);
     if (status == STATUS_DONE)
-        status = (raw ? write_bytes : write_words)(&opened, output != NULL ? output : "-");
+        status = (raw ? write_bytes : write_words)(&opened, output);
     close_table(&opened);
     return status;
 }

@@ -2,7 +2,6 @@
 
 #include <errno.h>
 #include <fcntl.h>
-#include <signal.h>
 #include <stdio.h>
 #include <stdlib.h>
 #include <string.h>
@@ -56,14 +55,22 @@ static bool read_rest(int file, struct buffer *contents)
     }
 }
 
+static bool complain_unread(const char *path)
+{
+    if (errno != EFBIG)
+        return complain_why(path);
+    complain(path, "longer than %d MiB", LONGEST_FILE >> 20);
+    return false;
+}
+
 bool read_file(const char *path, struct buffer *contents)
 {
     if (is_dash(path))
-        return read_rest(STDIN_FILENO, contents) || complain_why(path);
+        return read_rest(STDIN_FILENO, contents) || complain_unread(path);
     int file = open(path, O_RDONLY | O_NOCTTY | O_CLOEXEC);
     if (file < 0)
         return complain_why(path);
-    return close_after(file, read_rest(file, contents)) || complain_why(path);
+    return close_after(file, read_rest(file, contents)) || complain_unread(path);
 }
 
 /* ---- Writing ---- */
@@ -173,7 +180,6 @@ static bool replace_existing(const char *path, mode_t mode, const uint8_t *bytes
 bool write_file(const char *path, const uint8_t *bytes, size_t length)
 {
     struct stat there;
-    signal(SIGXFSZ, SIG_IGN); /* a write beyond the limit on file sizes then fails, and is reported, as on a full disk */
     if (is_dash(path))
         return write_to_standard_output(bytes, length);
     if (stat(path, &there) == 0) {

@@ -4,7 +4,7 @@
 
 #include <stdbool.h>
 
-#include "records/assemble.h"
+#include "records/buffer.h"
 
 /* Far more than the longest table, sheet, script or state takes; a file that is longer is an error. */
 enum { LONGEST_FILE = 16 << 20 };

@@ -4,7 +4,7 @@
 #include <string.h>
 #include <sys/stat.h>
 
-#include "records/assemble.h"
+#include "records/buffer.h"
 
 /* ---- Names ---- */
 
@@ -62,7 +62,7 @@ struct identity {
 static bool identity_of(const char *path, struct identity *identity)
 {
     struct stat there;
-    if (stat(path, &there) != 0 || !S_ISREG(there.st_mode))
+    if (is_dash(path) || stat(path, &there) != 0 || !S_ISREG(there.st_mode))
         return false;
     *identity = (struct identity){there.st_dev, there.st_ino};
     return true;
@@ -74,6 +74,31 @@ static int compare(const void *left, const void *right)
     if (one->device != two->device)
         return one->device < two->device ? -1 : 1;
     return (one->inode > two->inode) - (one->inode < two->inode);
+}
+
+static bool is_one_folder(const char *one, const char *other)
+{
+    struct stat first, second;
+    return stat(one, &first) == 0 && stat(other, &second) == 0 && first.st_dev == second.st_dev && first.st_ino == second.st_ino;
+}
+
+/* One name in one folder. */
+static bool is_one_name(const char *one, const char *other)
+{
+    char *first = path_beside(one, "."), *second = path_beside(other, ".");
+    bool same = strcmp(base_name(one), base_name(other)) == 0 && is_one_folder(first, second);
+    free(first);
+    free(second);
+    return same;
+}
+
+bool is_one_file(const char *one, const char *other)
+{
+    struct identity first, second;
+    if (is_dash(one) || is_dash(other))
+        return false;
+    return is_one_name(one, other) ||
+           (identity_of(one, &first) && identity_of(other, &second) && compare(&first, &second) == 0);
 }
 
 void file_set_take(struct file_set *set, char *const *paths, size_t count)

@@ -19,6 +19,9 @@ char *path_copy(const char *path);
 char *path_within(const char *folder, const char *name);
 char *path_beside(const char *path, const char *name);
 
+/* Do two paths lead to one file, or would they if they were written?  Neither does where one is "-". */
+bool is_one_file(const char *one, const char *other);
+
 /* The regular files that some paths lead to, by device and inode; a path that leads to none is left out. */
 struct file_set {
     struct identity *identities; /* in order */

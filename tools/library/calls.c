@@ -1,6 +1,7 @@
 #include "library/calls.h"
 
-typedef uint64_t writer(const uint8_t *table, size_t table_len, uint8_t *out, size_t out_len, uint8_t *numbers, size_t numbers_len);
+typedef uint64_t writer(const uint8_t *table, size_t table_len, uint8_t *out, size_t out_len, uint8_t *numbers,
+                        size_t numbers_len);
 
 static struct answer call_writer(writer *entry, const struct buffer *table, struct buffer *out, size_t room)
 {

@@ -2,7 +2,7 @@
 #ifndef CALLS_H
 #define CALLS_H
 
-#include "records/assemble.h"
+#include "records/buffer.h"
 #include "flow.h"
 
 /* What an entry answered: its refusal, 0 if it accepted, and then the bytes it wrote or the place of the refusal. */

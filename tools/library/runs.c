@@ -2,6 +2,7 @@
 
 #include <string.h>
 
+#include "records/directives.h"
 #include "records/little_endian.h"
 
 enum {
@@ -49,22 +50,18 @@ static uint64_t call_machine(enum machine machine, const struct table *table, co
         return flow_guess(table->bytes, table->length, script->bytes, script->length, variables->bytes, variables->length,
                           cells->bytes, cells->length, pending->bytes, pending->length, room->bytes, room->length, budget,
                           numbers, FLOW_ANSWER_BYTES);
-    default:
+    case MACHINE_ROLLBACK:
         return flow_rollback(table->bytes, table->length, script->bytes, script->length, variables->bytes, variables->length,
                              cells->bytes, cells->length, pending->bytes, pending->length, run->saves.bytes, run->saves.length,
                              room->bytes, room->length, budget, numbers, FLOW_ANSWER_BYTES);
     }
+    return FLOW_NO_NUMBER; /* there is no other machine */
 }
 
 /* How many saves the directives used have left open: the number is not stored with them. */
 static unsigned count_open_saves(const struct buffer *script, uint64_t used)
 {
-    unsigned open = 0;
-    for (const uint8_t *directive = script->bytes; used > 0; used--, directive += get16(directive)) {
-        open += get16(directive + 2) == FLOW_FORCE;
-        open -= get16(directive + 2) == FLOW_ROLLBACK;
-    }
-    return open;
+    return (unsigned)(count_directives(script, FLOW_FORCE, used) - count_directives(script, FLOW_ROLLBACK, used));
 }
 
 static void take_answer(struct run *run, const struct buffer *room, const uint8_t numbers[FLOW_ANSWER_BYTES])

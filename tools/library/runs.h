@@ -28,7 +28,7 @@ struct run {
 };
 
 /*
- * Runs a table from a state for at most so many steps.  Refused, the run holds nothing.  A run of very many steps may end
+ * Runs a table from a state for at most so many steps.  Refused, the run says nothing.  A run of very many steps may end
  * FLOW_FULL: it may show at most 64 MiB.  The caller frees the run by run_free, whatever the answer.
  */
 struct answer run_table(const struct table *table, enum machine machine, const struct buffer *script, const struct state *state,

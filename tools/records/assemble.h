@@ -1,21 +1,8 @@
-/* Buffers that grow, and tables and directive lists put together in them. */
+/* Tables and directive lists put together. */
 #ifndef ASSEMBLE_H
 #define ASSEMBLE_H
 
-#include <stddef.h>
-#include <stdint.h>
-
-struct buffer {
-    uint8_t *bytes;
-    size_t length, capacity;
-};
-
-/* Makes room for so many bytes more.  The program ends where there is no memory, here and below. */
-void buffer_reserve(struct buffer *b, size_t more);
-void buffer_append(struct buffer *b, const uint8_t *bytes, size_t length);
-void buffer_append16(struct buffer *b, uint32_t value);
-void buffer_append32(struct buffer *b, uint32_t value);
-void buffer_free(struct buffer *b);
+#include "records/buffer.h"
 
 /* Starts a table: header, labels and an array record for each count.  Each node put after it is counted in the header. */
 void assemble_table(struct buffer *table, unsigned variables, unsigned arrays, const uint16_t *counts,

@@ -2,21 +2,21 @@
 #ifndef TABLE_H
 #define TABLE_H
 
-#include "records/assemble.h"
+#include "records/buffer.h"
+#include "records/labelling.h"
 #include "flow.h"
 
 struct table {
     const uint8_t *bytes;
     size_t length;
-    unsigned variables, arrays, nodes;
-    uint64_t secret_variables; /* a bit set means secret */
-    uint32_t secret_arrays;
+    unsigned version, variables, arrays, nodes;
+    struct labelling secret;
     uint32_t counts[FLOW_MAX_ARRAYS];
     size_t cells;
     size_t places[FLOW_MAX_NODES]; /* the byte at which each node's record begins */
 };
 
-/* `bytes` must be accepted, and stay as long as the table is used. */
+/* `bytes` must be a table that an entry accepts or `flow assemble` made, and stay as long as the table is used. */
 void table_open(struct table *table, const struct buffer *bytes);
 
 unsigned table_kind(const struct table *table, unsigned node);

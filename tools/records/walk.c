@@ -7,7 +7,7 @@
 
 void walk_open(struct walk *walk, const struct buffer *bytes)
 {
-    *walk = (struct walk){.table = {.bytes = bytes->bytes, .length = bytes->length}, .part = PART_HEADER};
+    *walk = (struct walk){.table = {.bytes = bytes->bytes, .length = bytes->length}, .section = SECTION_HEADER};
 }
 
 size_t walk_left(const struct walk *walk)
@@ -30,33 +30,33 @@ unsigned walk_kind(const struct walk *walk)
 static const struct {
     unsigned kind;
     size_t length;
-} layouts[] = {[PART_HEADER] = {FLOW_HEADER, 10}, [PART_LABELS] = {FLOW_LABELS, 10}, [PART_ARRAY] = {FLOW_ARRAY, 6}};
+} layouts[] = {[SECTION_HEADER] = {FLOW_HEADER, 10}, [SECTION_LABELS] = {FLOW_LABELS, 10}, [SECTION_ARRAYS] = {FLOW_ARRAY, 6}};
 
-unsigned kind_of_part(enum part part)
+unsigned kind_of_section(enum section section)
 {
-    return layouts[part].kind;
+    return layouts[section].kind;
 }
 
-size_t length_of_part(enum part part)
+size_t length_of_section(enum section section)
 {
-    return layouts[part].length;
+    return layouts[section].length;
 }
 
-/* How long a record of this kind is in this part; 0: there is none of this kind. */
-static size_t length_wanted(enum part part, unsigned kind)
+/* How long a record of this kind is in this section; 0: there is none of this kind. */
+static size_t length_wanted(enum section section, unsigned kind)
 {
-    if (part == PART_END)
+    if (section == SECTION_END)
         return 0;
-    if (part == PART_NODE)
+    if (section == SECTION_NODES)
         return fields_of(kind) == NULL ? 0 : record_length(fields_of(kind));
-    return kind == kind_of_part(part) ? length_of_part(part) : 0;
+    return kind == kind_of_section(section) ? length_of_section(section) : 0;
 }
 
 bool walk_fits(const struct walk *walk)
 {
     if (walk_left(walk) < RECORD_HEAD)
         return false;
-    size_t wanted = length_wanted(walk->part, walk_kind(walk));
+    size_t wanted = length_wanted(walk->section, walk_kind(walk));
     return wanted != 0 && walk_length(walk) == wanted && walk_left(walk) >= wanted;
 }
 
@@ -68,6 +68,7 @@ static bool take_header(struct table *table, const uint8_t *fields)
     unsigned variables = fields[2], arrays = fields[3], nodes = get16(fields + 4);
     if (variables > FLOW_MAX_VARIABLES || arrays > FLOW_MAX_ARRAYS || nodes > FLOW_MAX_NODES)
         return false;
+    table->version = get16(fields);
     table->variables = variables;
     table->arrays = arrays;
     table->nodes = nodes;
@@ -79,18 +80,17 @@ static bool take_record(struct walk *walk)
 {
     struct table *table = &walk->table;
     const uint8_t *fields = table->bytes + walk->place + RECORD_HEAD;
-    switch (walk->part) {
-    case PART_HEADER:
+    switch (walk->section) {
+    case SECTION_HEADER:
         return take_header(table, fields);
-    case PART_LABELS:
-        table->secret_variables = get32(fields);
-        table->secret_arrays = get16(fields + 4);
+    case SECTION_LABELS:
+        table->secret = get_labelling(fields);
         return true;
-    case PART_ARRAY:
+    case SECTION_ARRAYS:
         table->counts[walk->number] = get16(fields);
         table->cells += get16(fields);
         return true;
-    case PART_NODE:
+    case SECTION_NODES:
         table->places[walk->number] = walk->place;
         return true;
     default:
@@ -98,12 +98,12 @@ static bool take_record(struct walk *walk)
     }
 }
 
-static unsigned records_in_part(const struct walk *walk)
+static unsigned records_in_section(const struct walk *walk)
 {
-    switch (walk->part) {
-    case PART_ARRAY: return walk->table.arrays;
-    case PART_NODE: return walk->table.nodes;
-    case PART_END: return UINT_MAX; /* nothing comes behind it */
+    switch (walk->section) {
+    case SECTION_ARRAYS: return walk->table.arrays;
+    case SECTION_NODES: return walk->table.nodes;
+    case SECTION_END: return UINT_MAX; /* nothing comes behind it */
     default: return 1;
     }
 }
@@ -114,8 +114,8 @@ bool walk_on(struct walk *walk)
         return false;
     walk->place += walk_length(walk);
     walk->number++;
-    while (walk->number >= records_in_part(walk)) {
-        walk->part++;
+    while (walk->number >= records_in_section(walk)) {
+        walk->section++;
         walk->number = 0;
     }
     return true;

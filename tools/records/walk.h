@@ -10,19 +10,19 @@
 #include "records/table.h"
 
 /* The parts of a table, in their order. */
-enum part {
-    PART_HEADER,
-    PART_LABELS,
-    PART_ARRAY,
-    PART_NODE,
-    PART_END /* behind the last node */
+enum section {
+    SECTION_HEADER,
+    SECTION_LABELS,
+    SECTION_ARRAYS,
+    SECTION_NODES,
+    SECTION_END /* behind the last node */
 };
 
 struct walk {
-    struct table table; /* the bytes, and what the records before `place` say; children may be any numbers */
-    size_t place;       /* where the next record begins */
-    enum part part;     /* what it must be */
-    unsigned number;    /* of the array record or node */
+    struct table table;   /* the bytes, and what the records before `place` say; children may be any numbers */
+    size_t place;         /* where the next record begins */
+    enum section section; /* what it must be */
+    unsigned number;      /* of the array record or node */
 };
 
 /* The header is next.  `bytes` must stay as long as the walk is used. */
@@ -34,8 +34,8 @@ size_t walk_length(const struct walk *walk);
 unsigned walk_kind(const struct walk *walk);
 
 /* The one kind and length that a header, labels or array record has. */
-unsigned kind_of_part(enum part part);
-size_t length_of_part(enum part part);
+unsigned kind_of_section(enum section section);
+size_t length_of_section(enum section section);
 
 /* Is the next record whole, and of a kind and length that belong here? */
 bool walk_fits(const struct walk *walk);

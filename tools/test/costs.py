@@ -32,7 +32,7 @@ def main():
     with tempfile.TemporaryDirectory() as folder:
         os.chdir(folder)
         nodes = {}
-        for name, text in (("small", program(70)), ("large", program(560)), ("loop", "var x while true do x := x + 1")):
+        for name, text in (("small", program(70)), ("large", program(560)), ("loop", "var x while x < 499999 do x := x + 1")):
             with open(name + ".flow", "w") as file:
                 file.write(text)
             subprocess.run([flow, "assemble", "-o", name + ".tab", name + ".flow"], check=True)
@@ -43,7 +43,8 @@ def main():
         for name, *arguments in (
                 ("small", "harden", "-o", "out.tab", "small.tab"), ("large", "list", "large.tab"),
                 ("large", "assemble", "-o", "out.tab", "large.flow"), ("large", "sheet", "large.tab"),
-                ("large", "ask", "large.tab", str(nodes["large"] - 1), "0"), ("large", "run", "large.tab", ""), ("loop", "run", "loop.tab", ""),
+                ("large", "ask", "large.tab", str(nodes["large"] - 1), "0"), ("large", "run", "large.tab", ""),
+                ("loop", "run", "loop.tab", ""),
                 ("small", "explain", "small.tab"), ("small", "attack", "small.tab", "step; step", "", ""),
                 ("small", "attack", "--harden", "small.tab", "step; step", "", ""),
                 ("small", "attack", "--rollback", "small.tab", "force; rollback", "", "")):

@@ -11,13 +11,14 @@
 
 #include "../../bench/generate.h"
 #include "library/calls.h"
+#include "library/refusals.h"
 #include "memory.h"
 #include "text/faults.h"
+#include "text/labels.h"
 #include "text/listing.h"
 #include "text/script.h"
 #include "text/source.h"
 #include "text/state.h"
-#include "text/words.h"
 
 enum { INPUTS = 100000, SORTS = 4 };
 
@@ -38,12 +39,13 @@ static void demand(bool holds, const char *what, const struct buffer *input)
     exit(1);
 }
 
-/* ---- Making inputs ------------------------------------------------------------------------------------------------------ */
+/* ---- Making inputs ---- */
 
 static const char *const words[] = {
-    "var", "secret", "array", "x", "y", "v0", "v1", "a0", "a1", "f", "[", "]", "(", ")", ";", ":=", "=", "<", "+", "-", "*", "?", ":",
-    "and", "not", "true", "false", "if", "then", "else", "while", "do", "skip", "0", "1", "7", "4294967295", "4294967296", "65536",
-    "--", "\n", " ", ",", "'", "step", "force", "load", "store", "rollback", "@", "\303\244", "\t", "."};
+    "var",  "secret", "array", "x",     "y",  "v0",   "v1",   "a0",    "a1",   "f",    "[",    "]",        "(",          ")",
+    ";",    ":=",     "=",     "<",     "+",  "-",    "*",    "?",     ":",    "and",  "not",  "true",     "false",      "if",
+    "then", "else",   "while", "do",    "or", "skip", "0",    "1",     "7",    "65536", "--",  "4294967295", "4294967296", "\n",
+    " ",    ",",      "'",     "step",  "<=", "force", "load", "store", "@",   "rollback", "\t", ".",        "\303\244"};
 
 enum { WORDS = sizeof words / sizeof words[0] };
 
@@ -114,7 +116,7 @@ static void make_table(struct random *r, struct buffer *table)
     generate_table(r, &plan, table);
 }
 
-/* ---- Listings ----------------------------------------------------------------------------------------------------------- */
+/* ---- Listings ---- */
 
 /* The listing of a table; the command's other words on it are printed and dropped. */
 static struct buffer list(const struct buffer *bytes, bool flag)
@@ -128,7 +130,7 @@ static struct buffer list(const struct buffer *bytes, bool flag)
     table_open(&table, bytes);
     number_names(&names, &table, flag);
     print_open(&printed);
-    print_records(printed.to, &table, &names);
+    print_records(printed.to, bytes, &names, UINT64_MAX);
     print_sheet(printed.to, &names, &sheet);
     struct buffer dropped = print_close(&printed);
     buffer_free(&dropped);
@@ -136,7 +138,7 @@ static struct buffer list(const struct buffer *bytes, bool flag)
     return listing;
 }
 
-/* ---- Sources ------------------------------------------------------------------------------------------------------------ */
+/* ---- Sources ---- */
 
 /* What begins a part inside a part, over and over: deeper than any program. */
 static void make_nested(struct random *r, struct buffer *text)
@@ -183,7 +185,7 @@ static bool try_source(struct random *r)
     return reads;
 }
 
-/* ---- Scripts and states ------------------------------------------------------------------------------------------------- */
+/* ---- Scripts and states ---- */
 
 /* An operand: a text with a zero at its end, and no file. */
 static void end_operand(struct buffer *text)
@@ -222,7 +224,7 @@ static bool try_script(struct random *r)
         uint8_t numbers[FLOW_ANSWER_BYTES];
         uint64_t refusal = flow_rollback(bytes.bytes, bytes.length, script.directives.bytes, script.directives.length, NULL, 0,
                                          NULL, 0, NULL, 0, NULL, 0, NULL, 0, 0, numbers, sizeof numbers);
-        demand(refusal != FLOW_BAD_DIRECTIVES, "the library refuses this script", &text);
+        demand(concern_of(refusal) != CONCERN_SCRIPT, "the library refuses this script", &text);
     }
     script_free(&script);
     buffer_free(&text);
@@ -297,7 +299,7 @@ static bool try_state(struct random *r)
     return reads;
 }
 
-/* ---- Tables ------------------------------------------------------------------------------------------------------------- */
+/* ---- Tables ---- */
 
 /* The faults of any bytes: with the library's answer, and with one by chance, for which the words must be safe, too. */
 static void print_all_faults(struct random *r, const struct buffer *bytes, struct answer answer)

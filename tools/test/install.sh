@@ -138,9 +138,7 @@ expect "the Python test" OK "$(tail -n 1 "$root/log")"
 # ---- The man page: formatted without a warning, and its synopsis is what the commands say of their usage ----
 
 usage() {
-    for command in $("$installed/bin/flow" --help | sed -n '/^$/,/^$/s/^flow \([a-z]*\) .*/\1/p'); do
-        "$installed/bin/flow" "$command" --help | grep "^flow $command"
-    done
+    "$installed/bin/flow" --help | sed -n '/^$/,/^$/s/^flow [a-z].*/&/p'
 }
 
 if command -v groff > "$root/log"; then

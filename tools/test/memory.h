@@ -5,7 +5,7 @@
 #include <stdbool.h>
 #include <stdio.h>
 
-#include "records/assemble.h"
+#include "records/buffer.h"
 
 struct printed {
     FILE *to; /* print to this */

@@ -95,7 +95,7 @@ static void generated(uint64_t seed, unsigned number, struct counts *counts)
     buffer_free(&hardened);
 }
 
-/* ---- The deepest tables ------------------------------------------------------------------------------------------------- */
+/* ---- The deepest tables ---- */
 
 static unsigned put_leaf(struct buffer *table, char sort)
 {

@@ -1,10 +1,11 @@
 #!/usr/bin/env python3
 """Runs transcripts of the command and compares: transcripts.py FOLDER-OF-FLOW FILE..
 
-A transcript is a file of commands, `$ COMMAND`, each followed by the lines that it prints and, where its exit status is not 0, by
-`? STATUS` or `(exit status STATUS)`. Lines on standard error begin with `! ` and stand behind those on standard output. A command that ends in <<END goes on
-up to the line END. Lines that begin with `#`, and blank ones before a command, are for the reader. Each file is played in a fresh
-folder. Of a Markdown file the blocks marked `console` are taken, in which standard error has no mark.
+A transcript is a file of commands, `$ COMMAND`, each followed by the lines that it prints and, where its exit status is not 0,
+by `? STATUS` or `(exit status STATUS)`; of a pipe the status is that of its last part that failed. Lines on standard error begin
+with `! ` and stand behind those on standard output. A command that ends in <<END goes on up to the line END. Lines that begin
+with `#`, and blank ones before a command, are for the reader. Each file is played in a fresh folder. Of a Markdown file the
+blocks marked `console` are taken, in which standard error has no mark.
 """
 import difflib
 import os
@@ -48,7 +49,7 @@ def commands_of(lines):
 
 
 def play(command, folder, environment, mark):
-    ran = subprocess.run(["sh", "-c", command], cwd=folder, env=environment, capture_output=True, timeout=60)
+    ran = subprocess.run(["bash", "-o", "pipefail", "-c", command], cwd=folder, env=environment, capture_output=True, timeout=60)
     out = ran.stdout.decode(errors="backslashreplace").split("\n")
     err = ran.stderr.decode(errors="backslashreplace").split("\n")
     return trimmed(trimmed(out) + [mark + line for line in trimmed(err)]), ran.returncode
@@ -66,13 +67,15 @@ def play_file(path, environment):
                 continue
             failed += 1
             print(f"{path}: $ {command}")
-            print("\n".join(difflib.unified_diff(expected + [f"? {status}"], lines + [f"? {got}"], "expected", "got", lineterm="")))
+            both = expected + [f"? {status}"], lines + [f"? {got}"]
+            print("\n".join(difflib.unified_diff(*both, "expected", "got", lineterm="")))
     return played, failed
 
 
 def main():
     flow, *paths = sys.argv[1:]
-    environment = dict(os.environ, PATH=os.path.abspath(flow) + ":" + os.environ["PATH"], LC_ALL="C")
+    folder = os.path.abspath(flow)
+    environment = dict(os.environ, PATH=folder + ":" + os.environ["PATH"], FAILING=folder + "/test/failing.so", LC_ALL="C")
     counts = [play_file(path, environment) for path in paths]
     played, failed = sum(count[0] for count in counts), sum(count[1] for count in counts)
     print(f"transcripts: {played} commands of {len(paths)} files, {failed} failed")

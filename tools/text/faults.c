@@ -7,6 +7,7 @@
 
 #include "files/messages.h"
 #include "flow_words.h"
+#include "library/refusals.h"
 #include "records/kinds.h"
 #include "records/little_endian.h"
 #include "records/parents.h"
@@ -49,7 +50,7 @@ static void say(struct lines *lines, const char *format, ...)
 
 /* ---- Parts of lines ---- */
 
-struct words {
+struct phrase {
     char words[64];
 };
 
@@ -63,42 +64,42 @@ static const char *article(const char *noun)
     return strchr("aeiou", noun[0]) != NULL ? "an" : "a";
 }
 
-static struct words declared(unsigned count)
+static struct phrase declared(unsigned count)
 {
-    struct words words = {"none is declared"};
+    struct phrase words = {"none is declared"};
     if (count > 0)
         snprintf(words.words, sizeof words.words, "%u %s declared", count, count == 1 ? "is" : "are");
     return words;
 }
 
-static struct words node_in_words(const struct table *table, unsigned node)
+static struct phrase node_in_words(const struct table *table, unsigned node)
 {
-    struct words words;
+    struct phrase words;
     snprintf(words.words, sizeof words.words, "node %u (%s, byte %zu)", node, kind_in_words(table_kind(table, node)),
              table->places[node]);
     return words;
 }
 
-/* The next record of a walk, by its part. */
-static struct words part_in_words(const struct walk *walk)
+/* The next record of a walk, by its section. */
+static struct phrase section_in_words(const struct walk *walk)
 {
-    struct words words = {"the end"};
-    switch (walk->part) {
-    case PART_HEADER: strcpy(words.words, "the header record"); break;
-    case PART_LABELS: strcpy(words.words, "the labels record"); break;
-    case PART_ARRAY: snprintf(words.words, sizeof words.words, "array record %u", walk->number); break;
-    case PART_NODE: snprintf(words.words, sizeof words.words, "node %u", walk->number); break;
-    case PART_END: break;
+    struct phrase words = {"the end"};
+    switch (walk->section) {
+    case SECTION_HEADER: strcpy(words.words, "the header record"); break;
+    case SECTION_LABELS: strcpy(words.words, "the labels record"); break;
+    case SECTION_ARRAYS: snprintf(words.words, sizeof words.words, "array record %u", walk->number); break;
+    case SECTION_NODES: snprintf(words.words, sizeof words.words, "node %u", walk->number); break;
+    case SECTION_END: break;
     }
     return words;
 }
 
 /* The same with its place and, where it has the kind of a node and should, with this.  Its head must be there. */
-static struct words record_in_words(const struct walk *walk)
+static struct phrase record_in_words(const struct walk *walk)
 {
-    struct words words, part = part_in_words(walk);
-    bool is_node = walk->part == PART_NODE && fields_of(walk_kind(walk)) != NULL;
-    snprintf(words.words, sizeof words.words, "%.24s (%s%sbyte %zu)", part.words, is_node ? kind_in_words(walk_kind(walk)) : "",
+    struct phrase words, name = section_in_words(walk);
+    bool is_node = walk->section == SECTION_NODES && fields_of(walk_kind(walk)) != NULL;
+    snprintf(words.words, sizeof words.words, "%.24s (%s%sbyte %zu)", name.words, is_node ? kind_in_words(walk_kind(walk)) : "",
              is_node ? ", " : "", walk->place);
     return words;
 }
@@ -110,7 +111,7 @@ static void say_cut(struct lines *lines, struct walk *walk)
     size_t left = walk_left(walk);
     if (left < RECORD_HEAD)
         say(lines, "%zu byte%s remain%s at byte %zu, where %s begins; its head takes %d", left, plural(left),
-            left == 1 ? "s" : "", walk->place, part_in_words(walk).words, RECORD_HEAD);
+            left == 1 ? "s" : "", walk->place, section_in_words(walk).words, RECORD_HEAD);
     else if (left < walk_length(walk))
         say(lines, "%s is %zu bytes long, and %zu remain", record_in_words(walk).words, walk_length(walk), left);
 }
@@ -129,13 +130,14 @@ static void say_wrong_node(struct lines *lines, const struct walk *walk)
 
 static void say_wrong_declaration(struct lines *lines, const struct walk *walk)
 {
-    size_t length = walk_length(walk), wanted = length_of_part(walk->part);
+    size_t length = walk_length(walk), wanted = length_of_section(walk->section);
     unsigned kind = walk_kind(walk);
-    struct words record = record_in_words(walk), name = {""};
+    struct phrase record = record_in_words(walk), name = {""};
     if (fields_of(kind) != NULL)
         snprintf(name.words, sizeof name.words, " (%s)", kind_in_words(kind));
-    if (kind != kind_of_part(walk->part))
-        say(lines, "%s has kind %u%s, and kind %u is wanted here", record.words, kind, name.words, kind_of_part(walk->part));
+    if (kind != kind_of_section(walk->section))
+        say(lines, "%s has kind %u%s, and kind %u is wanted here", record.words, kind, name.words,
+            kind_of_section(walk->section));
     if (length != wanted)
         say(lines, "%s is %zu byte%s long, and takes %zu", record.words, length, plural(length), wanted);
 }
@@ -144,7 +146,7 @@ static void say_wrong_record(struct lines *lines, struct walk *walk)
 {
     if (walk_left(walk) < RECORD_HEAD)
         return;
-    if (walk->part == PART_NODE)
+    if (walk->section == SECTION_NODES)
         say_wrong_node(lines, walk);
     else
         say_wrong_declaration(lines, walk);
@@ -171,7 +173,7 @@ static void say_header_limits(struct lines *lines, const uint8_t *fields)
 static void say_mask(struct lines *lines, const char *what, uint64_t mask, unsigned count)
 {
     unsigned lowest = 0, marked = 0;
-    struct words more = {" is"};
+    struct phrase more = {" is"};
     for (unsigned bit = 64; bit-- > count;)
         if (mask >> bit & 1) {
             lowest = bit;
@@ -194,15 +196,15 @@ static void say_cells(struct lines *lines, const struct table *table, unsigned a
 static void say_beyond_limits(struct lines *lines, struct walk *walk)
 {
     const struct table *table = &walk->table;
-    enum part part = walk->part;
+    enum section section = walk->section;
     unsigned number = walk->number;
-    if (part == PART_HEADER && walk_fits(walk))
+    if (section == SECTION_HEADER && walk_fits(walk))
         say_header_limits(lines, table->bytes + walk->place + RECORD_HEAD);
-    if (part == PART_HEADER || part == PART_NODE || !walk_on(walk))
+    if (section == SECTION_HEADER || section == SECTION_NODES || !walk_on(walk))
         return;
-    if (part == PART_LABELS) {
-        say_mask(lines, "variable", table->secret_variables, table->variables);
-        say_mask(lines, "array", table->secret_arrays, table->arrays);
+    if (section == SECTION_LABELS) {
+        say_mask(lines, "variable", table->secret.variables, table->variables);
+        say_mask(lines, "array", table->secret.arrays, table->arrays);
     } else
         say_cells(lines, table, number);
 }
@@ -213,7 +215,7 @@ static void say_field_range(struct lines *lines, const struct table *table, unsi
 {
     char letter = fields_of(table_kind(table, node))[field];
     uint32_t value = table_field(table, node, field);
-    struct words name = node_in_words(table, node);
+    struct phrase name = node_in_words(table, node);
     if (letter == 'x' && value >= table->variables)
         say(lines, "%s: variable %" PRIu32 ", but %s", name.words, value, declared(table->variables).words);
     else if (letter == 'a' && value >= table->arrays)
@@ -248,7 +250,7 @@ static void say_of_fields(struct lines *lines, struct walk *walk, field_sayer *s
 {
     const struct table *table = &walk->table;
     unsigned node = walk->number;
-    if (walk->part != PART_NODE || !walk_on(walk))
+    if (walk->section != SECTION_NODES || !walk_on(walk))
         return;
     size_t fields = strlen(fields_of(table_kind(table, node)));
     for (unsigned field = 0; field < fields; field++)
@@ -321,7 +323,7 @@ static void say_not_a_tree(struct lines *lines, struct walk *walk, uint64_t plac
     struct family family;
     const struct table *table = &walk->table;
     walk_to(walk, UINT64_MAX);
-    if (walk->part != PART_END)
+    if (walk->section != SECTION_END)
         return;
     find_parents(&family, table);
     for (unsigned node = 0; node < table->nodes; node++) {
@@ -340,7 +342,7 @@ static void say_not_a_tree(struct lines *lines, struct walk *walk, uint64_t plac
 static void say_extra_bytes(struct lines *lines, struct walk *walk, uint64_t place)
 {
     size_t left;
-    if (walk_to(walk, place) && walk->part == PART_END && (left = walk_left(walk)) > 0)
+    if (walk_to(walk, place) && walk->section == SECTION_END && (left = walk_left(walk)) > 0)
         say(lines, "%zu byte%s after the last node, from byte %zu on", left, plural(left), walk->place);
 }
 
@@ -375,7 +377,7 @@ static record_sayer *const record_sayers[] = {[FLOW_CUT] = say_cut,
 
 static bool has_place(uint64_t refusal)
 {
-    return refusal <= FLOW_EXTRA_BYTES;
+    return concern_of(refusal) == CONCERN_TABLE;
 }
 
 static void say_table_faults(struct lines *lines, const struct buffer *table, struct answer answer)
@@ -386,9 +388,9 @@ static void say_table_faults(struct lines *lines, const struct buffer *table, st
         say_not_a_tree(lines, &walk, answer.second);
     else if (answer.refusal == FLOW_EXTRA_BYTES)
         say_extra_bytes(lines, &walk, answer.second);
-    else if (answer.refusal > FLOW_EXTRA_BYTES)
+    else if (concern_of(answer.refusal) == CONCERN_HARDENING)
         say_not_hardened(lines, &walk, answer.refusal);
-    else if (walk_to(&walk, answer.second) && walk.part != PART_END)
+    else if (walk_to(&walk, answer.second) && walk.section != SECTION_END)
         record_sayers[answer.refusal](lines, &walk);
     if (lines->count > 0)
         return;
@@ -400,7 +402,8 @@ static void say_table_faults(struct lines *lines, const struct buffer *table, st
 
 static void say_faults(struct lines *lines, const struct buffer *table, struct answer answer)
 {
-    if (answer.refusal >= FLOW_CUT && answer.refusal <= FLOW_NO_FREE_VARIABLE)
+    enum concern concern = concern_of(answer.refusal);
+    if (concern == CONCERN_TABLE || concern == CONCERN_HARDENING)
         say_table_faults(lines, table, answer);
     else
         say(lines, "%s", flow_refusal_words(answer.refusal));
@@ -415,7 +418,8 @@ void print_faults(FILE *to, const char *indent, const struct buffer *table, stru
 void print_refusal(FILE *to, const char *name, const struct buffer *table, struct answer answer)
 {
     struct lines lines = {.to = to, .indent = "", .end = "", .most = 1};
-    fprintf(to, "%s: refused by %" PRIu64, name_in_words(name), answer.refusal);
+    print_name(to, name);
+    fprintf(to, ": refused by %" PRIu64, answer.refusal);
     if (has_place(answer.refusal))
         fprintf(to, " at byte %" PRIu64, answer.second);
     fputs(": ", to);

@@ -14,14 +14,11 @@ struct names {
     char array[FLOW_MAX_ARRAYS][NAME_BYTES];
 };
 
-/* v0, v1, .. and a0, a1, .. for a table; with `flag` its last variable, if it has one, is f. */
+/* v0, v1, .. and a0, a1, .. for a table; with `flag` its last variable is named by name_flag. */
 void number_names(struct names *names, const struct table *table, bool flag);
 
-/*
- * The same, but with the path of a source (or NULL) the names that it declares: it must declare the table's variables (with `flag` all but the
- * last) and arrays.  False, with a message: it does not, or it cannot be read.
- */
-bool take_names(struct names *names, const struct table *table, bool flag, const char *path);
+/* Calls the last variable, if there is one, f, or where another name is this f', f'' and so on. */
+void name_flag(struct names *names);
 
 /* The number of a variable or array; -1: none has this name. */
 int variable_named(const struct names *names, const char *name, size_t length);

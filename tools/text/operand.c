@@ -20,7 +20,7 @@ static bool open_file(struct operand *operand, const char *path)
         complain(operand->name, "the name of a file is missing behind the @");
         return false;
     }
-    operand->name = name_in_words(path);
+    operand->name = path;
     return read_file(path, &operand->bytes);
 }
 

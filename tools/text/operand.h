@@ -4,7 +4,7 @@
 
 #include <stdbool.h>
 
-#include "records/assemble.h"
+#include "records/buffer.h"
 
 struct operand {
     const char *name; /* for messages: the file's, or what the operand is called in the usage */

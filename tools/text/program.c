@@ -3,10 +3,9 @@
 #include <inttypes.h>
 #include <string.h>
 
-#include "records/kinds.h"
 #include "records/little_endian.h"
+#include "text/labels.h"
 #include "text/operators.h"
-#include "text/words.h"
 
 enum {
     INDENT = 2,
@@ -22,7 +21,7 @@ struct printer {
     struct buffer line;
 };
 
-/* ---- Lines -------------------------------------------------------------------------------------------------------------- */
+/* ---- Lines ---- */
 
 static void add(struct printer *p, const char *words)
 {
@@ -47,19 +46,16 @@ static void end_line(struct printer *p, const char *after)
 /* The same, with a command's labels at the right. */
 static void end_labelled(struct printer *p, unsigned node, const char *after)
 {
-    const uint8_t *fields = p->labels[node] + RECORD_HEAD;
-    char labels[60];
-    bool read = table_kind(p->table, node) == FLOW_READ, write = table_kind(p->table, node) == FLOW_WRITE;
+    struct sheet_row row = get_sheet_row(p->labels[node]);
     add(p, after);
     add(p, p->line.length + 2 < LABEL_COLUMN ? "" : "  ");
     while (p->line.length < LABEL_COLUMN)
         add(p, " ");
-    snprintf(labels, sizeof labels, "-- %s %s%s%s", read ? "variable" : write ? "index" : "condition",
-             label_in_words(get16(fields + 2)), read ? ", index " : "", read ? label_in_words(get16(fields + 4)) : "");
-    end_line(p, labels);
+    add(p, "-- ");
+    end_line(p, labels_in_words(&row).words);
 }
 
-/* ---- Expressions -------------------------------------------------------------------------------------------------------- */
+/* ---- Expressions ---- */
 
 static void add_expression(struct printer *p, unsigned node);
 
@@ -110,7 +106,7 @@ static void add_expression(struct printer *p, unsigned node)
         add(p, kind == FLOW_VARIABLE ? p->names->variable[first] : number);
 }
 
-/* ---- Commands ----------------------------------------------------------------------------------------------------------- */
+/* ---- Commands ---- */
 
 static void print_command(struct printer *p, unsigned node, unsigned depth, const char *before, const char *after);
 
@@ -213,11 +209,11 @@ static void print_command(struct printer *p, unsigned node, unsigned depth, cons
     case FLOW_WRITE: print_write(p, node, after); break;
     case FLOW_IF: print_if(p, node, depth, after); break;
     case FLOW_WHILE: print_while(p, node, depth, after); break;
-    default: print_sequence(p, node, depth, after);
+    case FLOW_SEQUENCE: print_sequence(p, node, depth, after); break;
     }
 }
 
-/* ---- Programs ----------------------------------------------------------------------------------------------------------- */
+/* ---- Programs ---- */
 
 /* Those declared alike, one after the other, share a line. */
 static void print_declarations(FILE *to, const char *what, unsigned count, uint64_t secret, const char (*names)[NAME_BYTES],
@@ -239,15 +235,16 @@ static void print_declarations(FILE *to, const char *what, unsigned count, uint6
 void print_program(FILE *to, const struct table *table, const struct names *names, const struct buffer *sheet)
 {
     struct printer p = {.to = to, .table = table, .names = names};
+    struct sheet_row whole = get_sheet_row(sheet->bytes);
     for (size_t at = get16(sheet->bytes); at < sheet->length; at += get16(sheet->bytes + at))
-        p.labels[get16(sheet->bytes + at + RECORD_HEAD)] = sheet->bytes + at;
-    print_declarations(to, "var", table->variables, table->secret_variables, names->variable, NULL);
-    print_declarations(to, "array", table->arrays, table->secret_arrays, names->array, table->counts);
+        p.labels[get_sheet_row(sheet->bytes + at).node] = sheet->bytes + at;
+    print_declarations(to, "var", table->variables, table->secret.variables, names->variable, NULL);
+    print_declarations(to, "array", table->arrays, table->secret.arrays, names->array, table->counts);
     if (table->variables + table->arrays > 0)
         fputc('\n', to);
     print_command(&p, table->nodes - 1, 0, "", "");
     fprintf(to, "-- at the end ");
-    print_labelling(to, names, sheet->bytes + RECORD_HEAD + 4);
+    print_labelling(to, names, whole.labelling);
     fputc('\n', to);
     buffer_free(&p.line);
 }

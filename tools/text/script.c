@@ -3,6 +3,7 @@
 #include <inttypes.h>
 #include <string.h>
 
+#include "records/assemble.h"
 #include "text/operand.h"
 #include "text/text.h"
 #include "text/words.h"

@@ -2,13 +2,17 @@
 
 #include <string.h>
 
+#include "records/assemble.h"
 #include "records/kinds.h"
 #include "records/little_endian.h"
 #include "text/operators.h"
 #include "text/text.h"
 
-/* The listing of a table takes at most two levels for each of its nodes; parentheses of the writer's own take one. */
-enum { MOST_NESTED = 10000 };
+/*
+ * Levels of commands and expressions inside one another.  The listing of a table takes no more of them than the table has nodes,
+ * and one or two; the rest is for a writer's own parentheses.
+ */
+enum { MOST_NESTED = FLOW_MAX_NODES + 904 };
 
 struct parser {
     struct text text;
@@ -19,14 +23,19 @@ struct parser {
     unsigned nested;
 };
 
-/* ---- Nodes -------------------------------------------------------------------------------------------------------------- */
+/* ---- Nodes ---- */
 
 /* An expression: its node, its sort (a letter of kinds.h) and where it begins. */
 struct part {
     unsigned node;
     char sort;
-    struct token start;
+    unsigned line, column;
 };
+
+static struct part part_at(const struct token *start, unsigned node, char sort)
+{
+    return (struct part){node, sort, start->line, start->column};
+}
 
 static unsigned put_node(struct parser *p, unsigned kind, uint32_t one, uint32_t two, uint32_t three)
 {
@@ -42,8 +51,9 @@ static unsigned put_node(struct parser *p, unsigned kind, uint32_t one, uint32_t
 
 static void want(struct parser *p, const struct part *part, char sort)
 {
+    const struct token where = {.line = part->line, .column = part->column};
     if (part->sort != sort)
-        text_fail(&p->text, &part->start, "a %s is wanted here, and this is a %s", sort == 'N' ? "number" : "truth",
+        text_fail(&p->text, &where, "a %s is wanted here, and this is a %s", sort == 'N' ? "number" : "truth",
                   sort == 'N' ? "truth" : "number");
 }
 
@@ -51,11 +61,11 @@ static void want(struct parser *p, const struct part *part, char sort)
 static bool enter(struct parser *p)
 {
     if (++p->nested > MOST_NESTED)
-        text_fail(&p->text, &p->text.next, "nested more than %d deep", MOST_NESTED);
+        text_fail(&p->text, &p->text.next, "nested too deep");
     return !p->text.failed;
 }
 
-/* ---- Names -------------------------------------------------------------------------------------------------------------- */
+/* ---- Names ---- */
 
 static bool is_reserved(const struct token *token)
 {
@@ -81,8 +91,10 @@ static int find_array(const struct parser *p, const struct token *token)
 static void declare_name(struct parser *p, char *name)
 {
     struct token token = p->text.next;
-    if (token.kind != TOKEN_NAME || is_reserved(&token))
+    if (token.kind != TOKEN_NAME)
         text_fail(&p->text, &token, "a name is wanted here, not %s", token_in_words(&token).words);
+    else if (is_reserved(&token))
+        text_fail(&p->text, &token, "%s is a word of the language, and no name", token_in_words(&token).words);
     else if (token.length >= NAME_BYTES)
         text_fail(&p->text, &token, "the name is longer than %d bytes", NAME_BYTES - 1);
     else if (find_variable(p, &token) >= 0 || find_array(p, &token) >= 0)
@@ -94,7 +106,7 @@ static void declare_name(struct parser *p, char *name)
     text_take(&p->text);
 }
 
-/* ---- Declarations ------------------------------------------------------------------------------------------------------- */
+/* ---- Declarations ---- */
 
 static void declare_variable(struct parser *p, bool secret)
 {
@@ -137,6 +149,19 @@ static void declare_array(struct parser *p, bool secret)
     names->arrays++;
 }
 
+/* What is often written behind a declaration and does not belong there. */
+static void end_declaration(struct parser *p, bool array)
+{
+    const struct token *next = &p->text.next;
+    if (!array && text_is(&p->text, "["))
+        text_fail(&p->text, next, "a variable has no cells: arrays are declared by 'array'");
+    else if (text_is(&p->text, ";"))
+        text_fail(&p->text, next, "no ';' stands behind a declaration");
+    else if (next->kind == TOKEN_NAME && !is_reserved(next) && find_variable(p, next) < 0 && find_array(p, next) < 0)
+        text_fail(&p->text, next, "%s is not declared: a comma is missing before it, or it is misspelt",
+                  token_in_words(next).words);
+}
+
 static void read_declarations(struct parser *p)
 {
     while (text_is(&p->text, "secret") || text_is(&p->text, "var") || text_is(&p->text, "array")) {
@@ -146,25 +171,28 @@ static void read_declarations(struct parser *p)
         do
             (array ? declare_array : declare_variable)(p, secret);
         while (text_accept(&p->text, ","));
+        end_declaration(p, array);
     }
 }
 
-/* ---- Expressions -------------------------------------------------------------------------------------------------------- */
+/* ---- Expressions ---- */
 
 static struct part read_expression(struct parser *p, enum level weakest);
 
 static struct part read_name_in_expression(struct parser *p, struct token start)
 {
     int variable = find_variable(p, &start);
+    if (variable >= 0 && text_is(&p->text, "["))
+        text_fail(&p->text, &p->text.next, "%s is a variable, and has no cells", token_in_words(&start).words);
     if (variable >= 0)
-        return (struct part){put_node(p, FLOW_VARIABLE, (uint32_t)variable, 0, 0), 'N', start};
+        return part_at(&start, put_node(p, FLOW_VARIABLE, (uint32_t)variable, 0, 0), 'N');
     if (find_array(p, &start) >= 0)
         text_fail(&p->text, &start, "an array is read by a command of its own: x := %.*s[..]", (int)start.length, start.at);
     else if (start.kind == TOKEN_NAME && !is_reserved(&start))
         text_fail(&p->text, &start, "%s is not declared", token_in_words(&start).words);
     else
         text_fail(&p->text, &start, "an expression is wanted here, not %s", token_in_words(&start).words);
-    return (struct part){0, 'N', start};
+    return part_at(&start, 0, 'N');
 }
 
 /* What operators stand between: a number, a variable, a constant, not .., or an expression in parentheses. */
@@ -175,19 +203,19 @@ static struct part read_operand(struct parser *p)
     if (text_accept(text, "(")) {
         struct part inner = read_expression(p, LEVEL_CHOICE);
         text_expect(text, ")");
-        return (struct part){inner.node, inner.sort, start};
+        return part_at(&start, inner.node, inner.sort);
     }
     if (text_accept(text, "not")) {
         struct part inner = read_expression(p, LEVEL_NOT);
         want(p, &inner, 'T');
-        return (struct part){put_node(p, FLOW_NOT, inner.node, 0, 0), 'T', start};
+        return part_at(&start, put_node(p, FLOW_NOT, inner.node, 0, 0), 'T');
     }
     bool is_true = text_is(text, "true"), is_false = text_is(text, "false");
     text_take(text);
     if (is_true || is_false)
-        return (struct part){put_node(p, FLOW_CONSTANT, is_true, 0, 0), 'T', start};
+        return part_at(&start, put_node(p, FLOW_CONSTANT, is_true, 0, 0), 'T');
     if (start.kind == TOKEN_NUMBER)
-        return (struct part){put_node(p, FLOW_NUMBER, start.number, 0, 0), 'N', start};
+        return part_at(&start, put_node(p, FLOW_NUMBER, start.number, 0, 0), 'N');
     return read_name_in_expression(p, start);
 }
 
@@ -207,14 +235,16 @@ static struct part read_choice(struct parser *p, struct part condition)
     text_expect(&p->text, ":");
     struct part no = read_expression(p, LEVEL_CHOICE);
     want(p, &no, 'N');
-    return (struct part){put_node(p, FLOW_CHOICE, condition.node, yes.node, no.node), 'N', condition.start};
+    condition.node = put_node(p, FLOW_CHOICE, condition.node, yes.node, no.node);
+    condition.sort = 'N';
+    return condition;
 }
 
 /* An expression whose operators, outside parentheses, bind at least so tightly. */
 static struct part read_expression(struct parser *p, enum level weakest)
 {
     if (!enter(p))
-        return (struct part){0, 'N', p->text.next};
+        return part_at(&p->text.next, 0, 'N');
     struct part left = read_operand(p);
     const struct operator *operator;
     while ((operator = next_operator(p, weakest)) != NULL) {
@@ -222,8 +252,11 @@ static struct part read_expression(struct parser *p, enum level weakest)
         text_take(&p->text);
         struct part right = read_expression(p, operator->level + 1);
         want(p, &right, operator->operands);
-        left = (struct part){put_node(p, operator->kind, left.node, right.node, 0), operator->result, left.start};
+        left.node = put_node(p, operator->kind, left.node, right.node, 0);
+        left.sort = operator->result;
     }
+    if (text_is(&p->text, "or"))
+        text_fail(&p->text, &p->text.next, "there is no 'or': a or b is not (not a and not b)");
     if (weakest == LEVEL_CHOICE && text_accept(&p->text, "?"))
         left = read_choice(p, left);
     p->nested--;
@@ -237,7 +270,7 @@ static unsigned read_sort(struct parser *p, char sort)
     return part.node;
 }
 
-/* ---- Commands ----------------------------------------------------------------------------------------------------------- */
+/* ---- Commands ---- */
 
 static unsigned read_command(struct parser *p);
 static unsigned read_single(struct parser *p);
@@ -248,7 +281,8 @@ static unsigned read_if(struct parser *p)
     text_expect(&p->text, "then");
     unsigned yes = read_single(p);
     if (!text_is(&p->text, "else"))
-        text_fail(&p->text, &p->text.next, "'else' is wanted here, not %s ('else skip' does nothing; a sequence stands in parentheses)",
+        text_fail(&p->text, &p->text.next,
+                  "'else' is wanted here, not %s ('else skip' does nothing; a sequence stands in parentheses)",
                   token_in_words(&p->text.next).words);
     text_expect(&p->text, "else");
     unsigned no = read_single(p);
@@ -285,7 +319,10 @@ static unsigned read_assignment(struct parser *p, uint32_t variable)
     int array = find_array(p, &p->text.next);
     if (array < 0)
         return put_node(p, FLOW_ASSIGN, variable, read_sort(p, 'N'), 0);
-    text_take(&p->text);
+    struct token name = text_take(&p->text);
+    if (!text_is(&p->text, "["))
+        text_fail(&p->text, &name, "%s is an array: a cell of it is %.*s[..]", token_in_words(&name).words, (int)name.length,
+                  name.at);
     unsigned index = read_index(p);
     if (next_operator(p, LEVEL_CHOICE) != NULL || text_is(&p->text, "?"))
         text_fail(&p->text, &p->text.next, "an array is read by a command of its own: nothing may stand behind it");
@@ -342,6 +379,18 @@ static unsigned read_command(struct parser *p)
     return node;
 }
 
+/* Behind the program; most often it is a command before which the semicolon was forgotten. */
+static void read_end(struct parser *p)
+{
+    const struct token *next = &p->text.next;
+    if (p->text.failed || next->kind == TOKEN_END)
+        return;
+    if (next->kind == TOKEN_NAME || text_is(&p->text, "("))
+        text_fail(&p->text, next, "';' is missing before %s", token_in_words(next).words);
+    else
+        text_fail(&p->text, next, "the program ends before %s", token_in_words(next).words);
+}
+
 bool assemble_source(struct source *source, const char *name, const struct buffer *text, FILE *errors)
 {
     struct parser p = {.source = source};
@@ -351,8 +400,7 @@ bool assemble_source(struct source *source, const char *name, const struct buffe
     assemble_table(&source->table, source->names.variables, source->names.arrays, p.counts, (uint32_t)p.secret_variables,
                    p.secret_arrays);
     read_command(&p);
-    if (!p.text.failed && p.text.next.kind != TOKEN_END)
-        text_fail(&p.text, &p.text.next, "the program ends before %s", token_in_words(&p.text.next).words);
+    read_end(&p);
     return !p.text.failed;
 }
 

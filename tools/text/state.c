@@ -28,7 +28,7 @@ void state_free(struct state *state)
     buffer_free(&state->words);
 }
 
-/* ---- Text --------------------------------------------------------------------------------------------------------------- */
+/* ---- Text ---- */
 
 struct reader {
     struct text text;
@@ -149,7 +149,7 @@ static bool read_text(struct reader *reader, const struct operand *operand)
     return !reader->text.failed;
 }
 
-/* ---- Files -------------------------------------------------------------------------------------------------------------- */
+/* ---- Files ---- */
 
 static bool take_file(const struct table *table, const struct operand *operand, struct state *state)
 {
@@ -178,7 +178,7 @@ bool read_state(const char *argument, const char *called, const struct table *ta
     return read;
 }
 
-/* ---- Printing and comparing --------------------------------------------------------------------------------------------- */
+/* ---- Printing and comparing ---- */
 
 /* The first word in any case, the others up to the last that is not 0. */
 static void print_cells(FILE *to, const uint8_t *words, size_t count)
@@ -235,10 +235,10 @@ const char *public_difference(const struct state states[2], const struct table *
 {
     unsigned variables = states[0].variables;
     for (unsigned x = 0; x < variables; x++)
-        if ((table->secret_variables >> x & 1) == 0 && !same_words(states, x, 1))
+        if ((table->secret.variables >> x & 1) == 0 && !same_words(states, x, 1))
             return names->variable[x];
     for (unsigned array = 0; array < table->arrays; array++)
-        if ((table->secret_arrays >> array & 1) == 0 &&
+        if ((table->secret.arrays >> array & 1) == 0 &&
             !same_words(states, variables + first_cell(table, array), table->counts[array]))
             return names->array[array];
     return NULL;

@@ -1,8 +1,9 @@
 #include "text/text.h"
 
-#include <ctype.h>
 #include <stdarg.h>
 #include <string.h>
+
+#include "files/messages.h"
 
 static bool starts_name(int c)
 {
@@ -24,13 +25,24 @@ static int peek(const struct text *text, size_t ahead)
     return (size_t)(text->end - text->at) > ahead ? (unsigned char)text->at[ahead] : -1;
 }
 
+static bool is_blank(int c)
+{
+    return c == ' ' || c == '\t' || c == '\r' || c == '\n';
+}
+
+/* Not behind a token: x--1 is no x with a comment behind it. */
+static bool starts_comment(const struct text *text)
+{
+    return peek(text, 0) == '-' && peek(text, 1) == '-' && (text->at == text->start || is_blank(text->at[-1]));
+}
+
 static void skip_blanks(struct text *text)
 {
     bool comment = false;
     for (; text->at < text->end; text->at++, text->column++) {
         int c = peek(text, 0);
-        comment = comment ? c != '\n' : c == '-' && peek(text, 1) == '-';
-        if (!comment && c != ' ' && c != '\t' && c != '\r' && c != '\n')
+        comment = comment ? c != '\n' : starts_comment(text);
+        if (!comment && !is_blank(c))
             return;
         if (c == '\n') {
             text->line++;
@@ -60,13 +72,23 @@ static void read_number(struct text *text, struct token *token)
     token->number = (uint32_t)number;
 }
 
+static bool is_symbol(int c)
+{
+    return c > 0 && strchr("+-*=<?:;,()[]", c) != NULL;
+}
+
+/* One byte, and := as well; two that are an operator elsewhere are no two symbols. */
 static void read_symbol(struct text *text, struct token *token)
 {
-    int c = peek(text, 0);
+    int c = peek(text, 0), then = peek(text, 1);
     token->kind = TOKEN_SYMBOL;
-    token->length = c == ':' && peek(text, 1) == '=' ? 2 : 1;
-    if (c == 0 || c > 126 || strchr("+-*=<?:;,()[]", c) == NULL)
-        text_fail(text, token, c >= ' ' && c <= '~' ? "no word begins with '%c'" : "no word holds the byte %d", c);
+    token->length = then == '=' && c != 0 && strchr(":<>=!", c) != NULL ? 2 : 1;
+    if (c == '-' && then == '-')
+        text_fail(text, token, "a blank is wanted before '--', which begins a comment");
+    else if (c < ' ' || c > '~')
+        text_fail(text, token, "byte %d: only printable ASCII may stand outside comments", c);
+    else if (!is_symbol(c) || (token->length == 2 && c != ':'))
+        text_fail(text, token, "%s is no word of the language", token_in_words(token).words);
 }
 
 static void read_token(struct text *text)
@@ -91,7 +113,8 @@ static void read_token(struct text *text)
 
 void text_open(struct text *text, const char *name, const uint8_t *bytes, size_t length, FILE *errors)
 {
-    *text = (struct text){.name = name, .errors = errors, .at = length > 0 ? (const char *)bytes : "", .line = 1, .column = 1};
+    *text = (struct text){.name = name, .errors = errors, .line = 1, .column = 1};
+    text->start = text->at = length > 0 ? (const char *)bytes : "";
     text->end = text->at + length;
     read_token(text);
 }
@@ -129,7 +152,8 @@ void text_fail(struct text *text, const struct token *where, const char *format,
     va_list arguments;
     if (text->failed)
         return;
-    fprintf(text->errors, "%s:%u:%u: ", text->name, where->line, where->column);
+    print_name(text->errors, text->name);
+    fprintf(text->errors, ":%u:%u: ", where->line, where->column);
     va_start(arguments, format);
     vfprintf(text->errors, format, arguments);
     va_end(arguments);

@@ -1,4 +1,7 @@
-/* Text taken apart into tokens: programs, scripts and states are all made of these.  Comments run from -- to the end of the line. */
+/*
+ * Text taken apart into tokens: programs, scripts and states are all made of these.  Comments run from --, at the start or behind
+ * a blank, to the end of the line.
+ */
 #ifndef TEXT_H
 #define TEXT_H
 
@@ -25,7 +28,7 @@ struct token {
 struct text {
     const char *name; /* for messages */
     FILE *errors;
-    const char *at, *end;
+    const char *start, *at, *end;
     unsigned line, column;
     struct token next, last; /* the token that is next, and the one before it */
     bool failed;

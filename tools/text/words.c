@@ -47,12 +47,7 @@ const char *directive_in_words(unsigned kind)
     }
 }
 
-const char *label_in_words(uint32_t label)
-{
-    return label ? "secret" : "public";
-}
-
-/* ---- Names -------------------------------------------------------------------------------------------------------------- */
+/* ---- Names ---- */
 
 /* Are the names just the letter and the number of each? */
 static bool are_numbered(const char names[][NAME_BYTES], unsigned count, char letter)
@@ -89,75 +84,7 @@ struct names_words arrays_in_words(const struct names *names)
     return list_names(names->array, names->arrays, 'a', "no array");
 }
 
-/* ---- Label sheets ------------------------------------------------------------------------------------------------------- */
-
-/* The names whose bit is set, each behind the separator, which is from then on a comma. */
-static void print_mask(FILE *to, const char **separator, const char names[][NAME_BYTES], unsigned count, uint64_t mask)
-{
-    for (unsigned i = 0; i < count; i++) {
-        if ((mask >> i & 1) == 0)
-            continue;
-        fprintf(to, "%s%s", *separator, names[i]);
-        *separator = ", ";
-    }
-}
-
-void print_labelling(FILE *to, const struct names *names, const uint8_t *masks)
-{
-    const char *separator = "";
-    fprintf(to, "secret: ");
-    print_mask(to, &separator, names->variable, names->variables, get32(masks));
-    print_mask(to, &separator, names->array, names->arrays, get16(masks + 4));
-    if (*separator == 0)
-        fprintf(to, "nothing");
-}
-
-static void print_node(FILE *to, const uint8_t *fields, unsigned kind)
-{
-    fprintf(to, "node %-4" PRIu32 " %-14s", get16(fields), kind_in_words(kind));
-}
-
-static void print_sheet_record(FILE *to, const struct names *names, const uint8_t *record)
-{
-    const uint8_t *fields = record + RECORD_HEAD;
-    switch (get16(record + 2)) {
-    case FLOW_SHEET:
-        fprintf(to, "%-24s", "at the end");
-        print_labelling(to, names, fields + 4);
-        break;
-    case FLOW_SHEET_SEQUENCE:
-        print_node(to, fields, FLOW_SEQUENCE);
-        fprintf(to, "after its first part ");
-        print_labelling(to, names, fields + 2);
-        break;
-    case FLOW_SHEET_IF:
-        print_node(to, fields, FLOW_IF);
-        fprintf(to, "condition %s", label_in_words(get16(fields + 2)));
-        break;
-    case FLOW_SHEET_WHILE:
-        print_node(to, fields, FLOW_WHILE);
-        fprintf(to, "condition %s; settled ", label_in_words(get16(fields + 2)));
-        print_labelling(to, names, fields + 4);
-        break;
-    case FLOW_SHEET_READ:
-        print_node(to, fields, FLOW_READ);
-        fprintf(to, "variable %s, index %s", label_in_words(get16(fields + 2)), label_in_words(get16(fields + 4)));
-        break;
-    default:
-        print_node(to, fields, FLOW_WRITE);
-        fprintf(to, "index %s", label_in_words(get16(fields + 2)));
-    }
-}
-
-void print_sheet(FILE *to, const struct names *names, const struct buffer *sheet)
-{
-    for (size_t at = 0; at < sheet->length; at += get16(sheet->bytes + at)) {
-        print_sheet_record(to, names, sheet->bytes + at);
-        fputc('\n', to);
-    }
-}
-
-/* ---- Runs --------------------------------------------------------------------------------------------------------------- */
+/* ---- Runs ---- */
 
 void print_observation(FILE *to, const uint8_t *record)
 {

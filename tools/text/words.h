@@ -1,4 +1,4 @@
-/* Records in words: kinds, label sheets, observations and directives; and lists of names. */
+/* Records in words: kinds, observations and directives; and lists of names. */
 #ifndef WORDS_H
 #define WORDS_H
 
@@ -15,20 +15,12 @@ const char *kind_in_words(unsigned kind);
 /* step, force, load, store or rollback; of any other number, that it is none. */
 const char *directive_in_words(unsigned kind);
 
-const char *label_in_words(uint32_t label);
-
 /* For messages: which variables (the first so many) or arrays there are, as "v0 to v3", "i, j, x" or "no variable". */
 struct names_words {
     char words[FLOW_MAX_VARIABLES * (NAME_BYTES + 2)];
 };
 struct names_words variables_in_words(const struct names *names, unsigned variables);
 struct names_words arrays_in_words(const struct names *names);
-
-/* A labelling as it stands in records, variables, then arrays: "secret: s, a2", or "secret: nothing". */
-void print_labelling(FILE *to, const struct names *names, const uint8_t *masks);
-
-/* A label sheet that the library has written, a line for each record. */
-void print_sheet(FILE *to, const struct names *names, const struct buffer *sheet);
 
 /* Observations that a machine has written: of the record that begins here, and of a list, a line each, at most so many. */
 void print_observation(FILE *to, const uint8_t *record);
