@@ -16,16 +16,16 @@ static inline const char *flow_refusal_words(uint64_t refusal)
     case FLOW_WRONG_SORT: return "a child is of the wrong sort";
     case FLOW_NOT_A_TREE: return "a node is a child never or more than once, or the last node is no command";
     case FLOW_EXTRA_BYTES: return "bytes stand after the last node";
-    case FLOW_TOO_MANY_NODES: return "more than 512 nodes cannot be hardened";
-    case FLOW_NO_FREE_VARIABLE: return "all 32 variables are taken, none is free for the flag";
+    case FLOW_TOO_MANY_NODES: return "the table has more nodes than can be hardened";
+    case FLOW_NO_FREE_VARIABLE: return "all variables are taken, and none is free for the flag";
     case FLOW_BAD_DIRECTIVES: return "the directive list is cut or holds a wrong kind or length";
     case FLOW_BAD_QUESTIONS:
-        return "more than 256 pairs are asked, the list ends inside a pair, a node is no command or a variable is not declared";
+        return "the list of questions is too long or ends inside a pair, a node is no command, or a variable is not declared";
     case FLOW_VARIABLES_LENGTH: return "the variables lent are not 4 bytes for each variable";
     case FLOW_CELLS_LENGTH: return "the cells lent are not 4 bytes for each cell";
     case FLOW_PENDING_SHORT: return "the pending list lent has fewer than 4 bytes for each node";
     case FLOW_OUTPUT_SHORT: return "the sheet, list of labels or hardened table is longer than its buffer";
-    case FLOW_SAVES_SHORT: return "the save words lent have fewer than 32 bytes for each variable, cell and node";
+    case FLOW_SAVES_SHORT: return "the save words lent are fewer than flow_saves_bytes gives";
     default: return "no refusal that this release knows";
     }
 }

@@ -10,9 +10,10 @@
 
 /*
  * Levels of commands and expressions inside one another.  The listing of a table takes no more of them than the table has nodes,
- * and one or two; the rest is for a writer's own parentheses.
+ * and two; the rest is for a writer's own parentheses.
  */
-enum { MOST_NESTED = FLOW_MAX_NODES + 904 };
+enum { MOST_NESTED = 5000 };
+_Static_assert(MOST_NESTED >= FLOW_MAX_NODES + 2, "every listing must read");
 
 struct parser {
     struct text text;
