@@ -9,6 +9,7 @@
 #include <string.h>
 
 #include "commands/command.h"
+#include "files/messages.h"
 #include "flow.h"
 
 static const struct command *const commands[] = {&command_harden, &command_list, &command_assemble, &command_explain,
@@ -67,7 +68,7 @@ static int run_command(int argc, char **argv)
         return printf("flow %s\n", FLOW_RELEASE), STATUS_DONE;
     if (command == NULL) {
         if (argc > 0)
-            fprintf(stderr, "flow: no command %s\n", argv[0]);
+            complain(argv[0], "no such command");
         return print_help(stderr), STATUS_TROUBLE;
     }
     if (asks_for_help(argc - 1, argv + 1))

@@ -3,6 +3,7 @@
 
 #include "commands/command.h"
 #include "files/files.h"
+#include "files/messages.h"
 #include "files/paths.h"
 #include "library/calls.h"
 #include "text/faults.h"
@@ -46,8 +47,10 @@ static int run_assemble(const struct command *self, int argc, char **argv)
         return STATUS_TROUBLE;
     if (output == NULL)
         output = "-";
-    if (is_one_file(argv[0], output))
-        return misused(self, "the table would be written over its source");
+    if (is_written_over(argv[0], output)) {
+        complain(output, "would be written over its own source");
+        return STATUS_TROUBLE;
+    }
     return assemble_file(argv[0], output);
 }
 

@@ -18,7 +18,7 @@
 static const char usage[] =
     "flow attack [--rollback] [--harden] [--budget STEPS] [--flag] [--names SOURCE] TABLE SCRIPT STATE STATE\n"
     "  Plays a script to a table that guesses, from two states, and says whether what it shows tells them apart.\n"
-    "  SCRIPT is text, as \"force; load 2 0; step\" (also store ARRAY INDEX and rollback), or @FILE: of text or of records.\n"
+    "  SCRIPT is text, as \"force; load 2 0; step\" (also store ARRAY INDEX, and rollback), or @FILE: of text or of records.\n"
     STATE_USAGE
     "  --rollback      on the machine that undoes wrong guesses\n"
     "  --harden        before and after hardening the table; the verdict is that on the hardened one\n"
@@ -103,17 +103,17 @@ static void print_run(const struct open_table *opened, const struct run *run, un
     printf("  state %u: %s\n", state + 1, flow_end_words(run->end));
     printf("    steps %" PRIu64 ", directives used %" PRIu64 ", flag %" PRIu64 ", next node %" PRIu64 "\n", run->steps,
            run->directives, run->flag, run->next);
-    print_observations(stdout, "    ", &run->observations, MOST_PRINTED);
+    print_observations(stdout, "    ", &opened->names, &run->observations, MOST_PRINTED);
     print_saves(stdout, "    ", &opened->names, &opened->table, &run->saves, run->open_saves);
 }
 
-static void print_difference(const struct pair *pair)
+static void print_difference(const struct names *names, const struct pair *pair)
 {
     const struct verdict *verdict = &pair->verdict;
     printf("  observation %zu: ", verdict->observation);
-    print_observation(stdout, pair->runs[0].observations.bytes + verdict->at);
+    print_observation(stdout, names, pair->runs[0].observations.bytes + verdict->at);
     printf(" from state 1, ");
-    print_observation(stdout, pair->runs[1].observations.bytes + verdict->at);
+    print_observation(stdout, names, pair->runs[1].observations.bytes + verdict->at);
     printf(" from state 2\n");
 }
 
@@ -138,7 +138,7 @@ static void print_pair(const struct attack *attack, const char *heading, const c
     for (unsigned i = 0; i < 2; i++)
         print_run(opened, &pair->runs[i], i);
     if (pair->verdict.kind == VERDICT_TOLD_APART)
-        print_difference(pair);
+        print_difference(&opened->names, pair);
 }
 
 /* `differs` is what the states differ in that the table labels public, or NULL. */
@@ -183,7 +183,7 @@ static void print_attack(const struct attack *attack)
     const char *machine = attack->rollback ? "guessing and rolling back" : "guessing";
     const char *differs = public_difference(attack->states, &attack->original.table, &attack->original.names);
     printf("script: ");
-    print_directives(stdout, &attack->script.directives, MOST_PRINTED);
+    print_directives(stdout, &attack->original.names, &attack->script.directives, MOST_PRINTED);
     printf("\n");
     print_agreement(differs);
     print_pair(attack, "before hardening, ", "without guessing", &attack->original, &attack->plain);

@@ -39,37 +39,82 @@ static bool are_base_names_distinct(const struct batch *batch)
     for (size_t i = 1; i < batch->count && distinct; i++) {
         distinct = compare_base_names(&sorted[i - 1], &sorted[i]) != 0;
         if (!distinct)
-            complain(sorted[i], "would get the same name as %s; nothing is hardened", sorted[i - 1]);
+            complain(sorted[i], "would get the same name as another; nothing is hardened");
     }
     buffer_free(&copy);
     return distinct;
 }
 
-static bool is_not_read(const struct file_set *inputs, const char *path)
+/* ---- The files that are written, beside those that are read and each other ---- */
+
+static bool complain_of(const char *path, const char *message)
 {
-    bool read = file_set_holds(inputs, path);
-    if (read)
-        complain(path, "would be written and is read too; nothing is hardened");
-    return !read;
+    complain(path, "%s; nothing is hardened", message);
+    return false;
 }
 
-static bool is_not_the_report(const struct batch *batch, const char *out)
+static bool is_link_in_order(const char *path)
 {
-    bool report = batch->report != NULL && is_one_file(batch->report, out);
-    if (report)
-        complain(out, "would hold the report and a hardened table; nothing is hardened");
-    return !report;
+    return !leads_nowhere(path) || complain_of(path, "is a link that leads nowhere");
+}
+
+static bool is_out_in_order(const struct batch *batch, const char *out, const struct file_set *inputs)
+{
+    if (!is_link_in_order(out))
+        return false;
+    if (file_set_holds(inputs, out))
+        return complain_of(out, "would be written and is read too");
+    if (batch->report != NULL && is_one_output(batch->report, out))
+        return complain_of(batch->report, "would hold the report and a hardened table");
+    if (batch->into != NULL && is_one_output("-", out))
+        return complain_of(out, "would hold a hardened table and is standard output");
+    return true;
+}
+
+static bool is_report_in_order(const struct batch *batch, const struct file_set *inputs)
+{
+    if (!is_link_in_order(batch->report))
+        return false;
+    if (file_set_holds(inputs, batch->report))
+        return complain_of(batch->report, "would be written and is read too");
+    if (batch->into != NULL && is_one_output("-", batch->report))
+        return complain_of(batch->report, "would hold the report and is standard output");
+    return true;
+}
+
+/* Links in the folder may make one file of two. */
+static bool are_outs_distinct(const struct batch *batch, char *const *outs)
+{
+    struct file_set set;
+    file_set_of_outputs(&set, outs, batch->count);
+    bool distinct = !file_set_repeats(&set) || complain_of(batch->into, "holds links that make one file of two");
+    file_set_free(&set);
+    return distinct;
 }
 
 static bool are_outs_in_order(const struct batch *batch, const struct file_set *inputs)
 {
-    bool in_order = true;
-    for (size_t i = 0; i < batch->count && in_order; i++) {
+    struct buffer paths = {0};
+    for (size_t i = 0; i < batch->count; i++) {
         char *out = batch_out(batch, i);
-        in_order = is_not_read(inputs, out) && is_not_the_report(batch, out);
-        free(out);
+        buffer_append(&paths, (const uint8_t *)&out, sizeof out);
     }
+    char **outs = (char **)(void *)paths.bytes;
+    bool in_order = are_outs_distinct(batch, outs);
+    for (size_t i = 0; i < batch->count; i++) {
+        in_order = in_order && is_out_in_order(batch, outs[i], inputs);
+        free(outs[i]);
+    }
+    buffer_free(&paths);
     return in_order;
+}
+
+static bool are_inputs_in_order(const struct batch *batch)
+{
+    for (size_t i = 0; i < batch->count; i++)
+        if (!is_link_in_order(batch->files[i]))
+            return false;
+    return true;
 }
 
 bool batch_is_in_order(const struct batch *batch)
@@ -77,8 +122,9 @@ bool batch_is_in_order(const struct batch *batch)
     struct file_set inputs;
     if (batch->into != NULL && (!is_folder(batch->into) || !are_base_names_distinct(batch)))
         return false;
-    file_set_take(&inputs, batch->files, batch->count);
-    bool in_order = are_outs_in_order(batch, &inputs) && (batch->report == NULL || is_not_read(&inputs, batch->report));
+    file_set_of_inputs(&inputs, batch->files, batch->count);
+    bool in_order = are_inputs_in_order(batch) && are_outs_in_order(batch, &inputs) &&
+                    (batch->report == NULL || is_report_in_order(batch, &inputs));
     file_set_free(&inputs);
     return in_order;
 }

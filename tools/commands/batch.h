@@ -17,8 +17,8 @@ struct batch {
 char *batch_out(const struct batch *batch, size_t i);
 
 /*
- * Before anything is written: the folder is there, no two tables would get one name in it, no file that is read would be written,
- * and the report has a file of its own.  False: there was a message.
+ * Before anything is written: the folder is there, no two tables would get one name or file in it, no file that is read would be
+ * written, no link leads nowhere, and report and standard output are files of their own.  False: there was a message.
  */
 bool batch_is_in_order(const struct batch *batch);
 

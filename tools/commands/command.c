@@ -4,12 +4,14 @@
 #include <stdio.h>
 #include <string.h>
 
+#include "files/messages.h"
+
 int misused(const struct command *self, const char *format, ...)
 {
     va_list arguments;
     fprintf(stderr, "flow %s: ", self->name);
     va_start(arguments, format);
-    vfprintf(stderr, format, arguments);
+    print_message(stderr, format, arguments);
     va_end(arguments);
     fprintf(stderr, "\n%s", self->usage);
     return STATUS_TROUBLE;

@@ -2,7 +2,6 @@
 #include <inttypes.h>
 #include <limits.h>
 #include <stdio.h>
-#include <string.h>
 
 #include "commands/command.h"
 #include "files/files.h"
@@ -17,7 +16,8 @@
 static const char usage[] =
     "flow explain TABLE..\n"
     "  Says of each table whether it is accepted, and if it is not, why: the library's refusal, its place, and in words the\n"
-    "  faults of the record there; of refusal 6, every node that breaks the rule.  Also why hardening alone would refuse it.\n"
+    "  faults of this number in the record there; of refusal 6, every node that breaks the rule.  Also why hardening alone\n"
+    "  would refuse it.\n"
     "  Exit status: 0 all can be hardened; 1 one is refused; 2 wrong usage, or one cannot be read (the others are explained).\n";
 
 static void print_count(const char *before, size_t count, const char *what)
@@ -36,12 +36,6 @@ static void print_accepted(const struct buffer *bytes)
     putchar('\n');
 }
 
-/* Every table has zero bytes, and no text has. */
-static bool is_text(const struct buffer *bytes)
-{
-    return bytes->length > 0 && memchr(bytes->bytes, 0, bytes->length) == NULL;
-}
-
 static void print_refused(const struct buffer *table, struct answer answer)
 {
     const char *words = flow_refusal_words(answer.refusal);
@@ -51,7 +45,7 @@ static void print_refused(const struct buffer *table, struct answer answer)
         printf("accepted, but hardening refuses it by %" PRIu64 ": %s\n", answer.refusal, words);
     print_faults(stdout, "  ", table, answer);
     if (is_text(table))
-        printf("  the file holds text: flow assemble makes a table of a source\n");
+        printf("  it is text: flow assemble makes a table of a source\n");
 }
 
 static int explain_table(const char *path)

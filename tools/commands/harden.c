@@ -22,20 +22,19 @@ static const char usage[] =
     "  --into FOLDER   each hardened table goes to a file of the same name in this folder\n"
     "  --report FILE   a line for each table, tab-separated: name, SHA-256 in and out, refusal, place, nodes in and out\n";
 
-/* Of many: a line for each, and a word where an older file of the refused table's name could be taken for its result. */
+/* Of many: a line for each, and a word where an older file of the table's name could be taken for its result. */
 static void print_one(const struct hardening *hardening, const char *out)
 {
-    if (is_refused(hardening)) {
+    if (is_refused(hardening))
         print_refusal(stdout, hardening->name, &hardening->table, hardening->answer);
-        if (access(out, F_OK) == 0)
-            complain(out, "is from before: the table of this name is refused now");
-        return;
-    }
-    print_name(stdout, hardening->name);
+    else
+        print_name(stdout, hardening->name);
     if (hardening->written)
         printf(": %u -> %u nodes, %zu bytes\n", hardening->nodes_in, hardening->nodes_out, hardening->hardened.length);
-    else
-        printf(": failed, %s\n", hardening->read ? "not written" : "not read");
+    else if (!is_refused(hardening))
+        printf(": failed\n");
+    if ((is_refused(hardening) || !hardening->read) && access(out, F_OK) == 0)
+        complain(out, "is from before: the table of this name is not hardened now");
 }
 
 /* Hardens table number i; a single one speaks of a refusal alone.  Returns the exit status for this table. */

@@ -9,7 +9,7 @@ static const char usage[] =
     "flow list [--flag] [--names SOURCE] [--nodes] TABLE\n"
     "  Writes a table as text, which `flow assemble` reads back, with the labels of its sheet at the right.\n"
     NAMING_USAGE
-    "  --nodes         a line for each record instead: byte, node, kind, fields; of a refused table, up to the fault\n";
+    "  --nodes         a line for each record instead: byte, node, kind, fields (of a refused table, up to the fault)\n";
 
 /* The records that are in order: of a table whose fault is in one record those before it, else all of them. */
 static void print_refused_records(const struct open_table *opened)

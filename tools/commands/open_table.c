@@ -46,6 +46,7 @@ static bool take_names(struct names *names, const struct table *table, struct na
     if (taken) {
         table_open(&declared, &source.table);
         taken = declares(&declared, table, naming.flag, naming.source);
+        names->declared = true;
         memcpy(names->variable, source.names.variable, declared.variables * sizeof names->variable[0]);
         memcpy(names->array, source.names.array, sizeof names->array);
     }
@@ -102,6 +103,7 @@ int open_hardened(struct open_table *hardened, const struct open_table *original
     number_names(&hardened->names, &hardened->table, false);
     memcpy(hardened->names.variable, original->names.variable, variables * sizeof original->names.variable[0]);
     memcpy(hardened->names.array, original->names.array, sizeof original->names.array);
+    hardened->names.declared = original->names.declared;
     name_flag(&hardened->names);
     return STATUS_DONE;
 }

@@ -26,12 +26,12 @@ static void print_run(const struct open_table *opened, unsigned variables, const
     const struct table *table = &opened->table;
     printf("end: %s\n", flow_end_words(run->end));
     if (run_was_cut(run))
-        printf("the run was cut, and may go on with a larger --budget\n");
+        printf("the run was cut%s\n", run->end == FLOW_SPENT ? ", and may go on with a larger --budget" : "");
     printf("steps: %" PRIu64 "\n", run->steps);
     if (run->end != FLOW_FINISHED)
         printf("next node: %" PRIu64 "\n", run->next);
     printf("shown:\n");
-    print_observations(stdout, "  ", &run->observations, SIZE_MAX);
+    print_observations(stdout, "  ", &opened->names, &run->observations, SIZE_MAX);
     if (variables < table->variables)
         printf("flag: %s=%" PRIu32 "\n", opened->names.variable[variables], get32(run->variables.bytes + 4 * variables));
     printf("state:");

@@ -56,8 +56,10 @@ static int run_sheet(const struct command *self, int argc, char **argv)
         return STATUS_TROUBLE;
     if (output == NULL)
         output = "-";
-    if (is_one_file(argv[0], output) || (naming.source != NULL && is_one_file(naming.source, output)))
-        return misused(self, "the sheet would be written over a file that is read");
+    if (is_written_over(argv[0], output) || (naming.source != NULL && is_written_over(naming.source, output))) {
+        complain(output, "would be written and is read too");
+        return STATUS_TROUBLE;
+    }
     int status = open_table(&opened, argv[0], naming);
     if (status == STATUS_DONE)
         status = (raw ? write_bytes : write_words)(&opened, output);

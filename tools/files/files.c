@@ -100,7 +100,8 @@ static bool write_to_standard_output(const uint8_t *bytes, size_t length)
 static bool is_standard_output(const struct stat *there)
 {
     struct stat output;
-    return fstat(STDOUT_FILENO, &output) == 0 && output.st_dev == there->st_dev && output.st_ino == there->st_ino;
+    return fstat(STDOUT_FILENO, &output) == 0 && output.st_dev == there->st_dev && output.st_ino == there->st_ino &&
+           !S_ISCHR(there->st_mode);
 }
 
 static bool write_into(const char *path, const uint8_t *bytes, size_t length)
@@ -191,7 +192,7 @@ bool write_file(const char *path, const uint8_t *bytes, size_t length)
     }
     if (errno != ENOENT)
         return complain_why(path);
-    if (lstat(path, &there) == 0)
+    if (leads_nowhere(path))
         return complain(path, "is a link that leads nowhere"), false;
     return replace(path, path, mode_of_new_file(), bytes, length);
 }

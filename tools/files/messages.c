@@ -1,30 +1,45 @@
 #include "files/messages.h"
 
-#include <stdarg.h>
+#include <stdbool.h>
 
 #include "files/paths.h"
 
-static void print_byte(FILE *to, unsigned char byte)
+/* Control characters, also those that UTF-8 writes as two bytes, c2 80 to c2 9f, of which this is the first or the second. */
+static bool is_control(unsigned char before, unsigned char byte, unsigned char after)
 {
-    if (byte == '\n')
-        fputs("\\n", to);
-    else if (byte == '\t')
-        fputs("\\t", to);
-    else if (byte == '\\')
-        fputs("\\\\", to);
-    else if (byte < ' ' || byte == 127)
-        fprintf(to, "\\x%02x", (unsigned)byte);
-    else
-        fputc(byte, to);
+    return byte < ' ' || byte == 127 || (byte == 0xc2 && after >= 0x80 && after < 0xa0) ||
+           (before == 0xc2 && byte >= 0x80 && byte < 0xa0);
+}
+
+static void print_escaped(FILE *to, const char *text)
+{
+    unsigned char before = 0;
+    for (; *text != 0; text++) {
+        unsigned char byte = (unsigned char)*text;
+        if (byte == '\n')
+            fputs("\\n", to);
+        else if (byte == '\t')
+            fputs("\\t", to);
+        else if (byte == '\\')
+            fputs("\\\\", to);
+        else if (is_control(before, byte, (unsigned char)text[1]))
+            fprintf(to, "\\x%02x", (unsigned)byte);
+        else
+            fputc(byte, to);
+        before = byte;
+    }
 }
 
 void print_name(FILE *to, const char *name)
 {
-    if (is_dash(name))
-        fputs("standard input", to);
-    else
-        for (; *name != 0; name++)
-            print_byte(to, (unsigned char)*name);
+    print_escaped(to, is_dash(name) ? "standard input" : name);
+}
+
+void print_message(FILE *to, const char *format, va_list arguments)
+{
+    char message[2000];
+    vsnprintf(message, sizeof message, format, arguments);
+    print_escaped(to, message);
 }
 
 /* Whether standard output can be flushed shows at its end. */
@@ -36,7 +51,7 @@ void complain(const char *name, const char *format, ...)
     print_name(stderr, name);
     fputs(": ", stderr);
     va_start(arguments, format);
-    vfprintf(stderr, format, arguments);
+    print_message(stderr, format, arguments);
     va_end(arguments);
     fputc('\n', stderr);
 }

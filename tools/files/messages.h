@@ -1,11 +1,15 @@
-/* Messages about files, and their names in lines that are printed. */
+/* Messages, and names of files in lines that are printed.  Bytes that would break or colour a line come out as \n, \x1b, .. */
 #ifndef MESSAGES_H
 #define MESSAGES_H
 
+#include <stdarg.h>
 #include <stdio.h>
 
-/* Prints the name of a file: "-" as "standard input", bytes that would break or colour a line as \n, \t, \\ and \x1b. */
+/* Prints the name of a file; of "-" it is "standard input". */
 void print_name(FILE *to, const char *name);
+
+/* Prints a message, of which a very long one is cut. */
+void print_message(FILE *to, const char *format, va_list arguments);
 
 /* Prints "flow: NAME: .." on standard error, behind all that was printed on standard output before. */
 void complain(const char *name, const char *format, ...);

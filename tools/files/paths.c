@@ -3,6 +3,7 @@
 #include <stdlib.h>
 #include <string.h>
 #include <sys/stat.h>
+#include <unistd.h>
 
 #include "records/buffer.h"
 
@@ -59,10 +60,12 @@ struct identity {
     ino_t inode;
 };
 
-static bool identity_of(const char *path, struct identity *identity)
+/* "-" is the standard file of this number. */
+static bool identity_of(const char *path, int standard, struct identity *identity)
 {
     struct stat there;
-    if (is_dash(path) || stat(path, &there) != 0 || !S_ISREG(there.st_mode))
+    bool is_there = is_dash(path) ? fstat(standard, &there) == 0 : stat(path, &there) == 0;
+    if (!is_there || (!S_ISREG(there.st_mode) && !S_ISFIFO(there.st_mode)))
         return false;
     *identity = (struct identity){there.st_dev, there.st_ino};
     return true;
@@ -92,25 +95,50 @@ static bool is_one_name(const char *one, const char *other)
     return same;
 }
 
-bool is_one_file(const char *one, const char *other)
+static bool is_one_file(const char *one, int first_standard, const char *other)
 {
     struct identity first, second;
-    if (is_dash(one) || is_dash(other))
-        return false;
-    return is_one_name(one, other) ||
-           (identity_of(one, &first) && identity_of(other, &second) && compare(&first, &second) == 0);
+    if (identity_of(one, first_standard, &first) && identity_of(other, STDOUT_FILENO, &second))
+        return compare(&first, &second) == 0;
+    return !is_dash(one) && !is_dash(other) && is_one_name(one, other);
 }
 
-void file_set_take(struct file_set *set, char *const *paths, size_t count)
+bool is_written_over(const char *input, const char *output)
+{
+    return is_one_file(input, STDIN_FILENO, output);
+}
+
+bool is_one_output(const char *one, const char *other)
+{
+    return is_one_file(one, STDOUT_FILENO, other);
+}
+
+bool leads_nowhere(const char *path)
+{
+    struct stat there;
+    return !is_dash(path) && lstat(path, &there) == 0 && S_ISLNK(there.st_mode) && stat(path, &there) != 0;
+}
+
+static void file_set_take(struct file_set *set, char *const *paths, size_t count, int standard)
 {
     struct buffer identities = {0};
     struct identity identity;
     for (size_t i = 0; i < count; i++)
-        if (identity_of(paths[i], &identity))
+        if (identity_of(paths[i], standard, &identity))
             buffer_append(&identities, (const uint8_t *)&identity, sizeof identity);
     *set = (struct file_set){(struct identity *)(void *)identities.bytes, identities.length / sizeof identity};
     if (set->count > 0)
         qsort(set->identities, set->count, sizeof identity, compare);
+}
+
+void file_set_of_inputs(struct file_set *set, char *const *paths, size_t count)
+{
+    file_set_take(set, paths, count, STDIN_FILENO);
+}
+
+void file_set_of_outputs(struct file_set *set, char *const *paths, size_t count)
+{
+    file_set_take(set, paths, count, STDOUT_FILENO);
 }
 
 void file_set_free(struct file_set *set)
@@ -119,9 +147,17 @@ void file_set_free(struct file_set *set)
     *set = (struct file_set){0};
 }
 
-bool file_set_holds(const struct file_set *set, const char *path)
+bool file_set_holds(const struct file_set *set, const char *output)
 {
     struct identity identity;
-    return set->count > 0 && identity_of(path, &identity) &&
+    return set->count > 0 && identity_of(output, STDOUT_FILENO, &identity) &&
            bsearch(&identity, set->identities, set->count, sizeof identity, compare) != NULL;
+}
+
+bool file_set_repeats(const struct file_set *set)
+{
+    for (size_t i = 1; i < set->count; i++)
+        if (compare(&set->identities[i - 1], &set->identities[i]) == 0)
+            return true;
+    return false;
 }

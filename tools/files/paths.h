@@ -19,19 +19,25 @@ char *path_copy(const char *path);
 char *path_within(const char *folder, const char *name);
 char *path_beside(const char *path, const char *name);
 
-/* Do two paths lead to one file, or would they if they were written?  Neither does where one is "-". */
-bool is_one_file(const char *one, const char *other);
+/* Is it a link that leads nowhere? */
+bool leads_nowhere(const char *path);
 
-/* The regular files that some paths lead to, by device and inode; a path that leads to none is left out. */
+/* Would what is written change what is read?  Would two that are written be one file?  "-" is standard input, or output. */
+bool is_written_over(const char *input, const char *output);
+bool is_one_output(const char *one, const char *other);
+
+/* The files and pipes that some paths lead to, by device and inode; a path that leads to none is left out. */
 struct file_set {
     struct identity *identities; /* in order */
     size_t count;
 };
 
-void file_set_take(struct file_set *set, char *const *paths, size_t count);
+void file_set_of_inputs(struct file_set *set, char *const *paths, size_t count);
+void file_set_of_outputs(struct file_set *set, char *const *paths, size_t count);
 void file_set_free(struct file_set *set);
 
-/* Does the path lead to one of them? */
-bool file_set_holds(const struct file_set *set, const char *path);
+/* Does the path of an output lead to one of them?  Does one stand there twice? */
+bool file_set_holds(const struct file_set *set, const char *output);
+bool file_set_repeats(const struct file_set *set);
 
 #endif

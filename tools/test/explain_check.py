@@ -456,7 +456,8 @@ FORMS = (["of header", "of labels", "of array", "of node"] + ["left %d" % left f
 
 NOTHING = re.compile(r"no fault of this sort is found(?: at byte (\d+))?: please report this table")
 ANOTHER = re.compile(r"the first such node stands at byte (\d+), not at byte (\d+): please report this table")
-MEANINGS = {10: "directive list", 11: "pairs", 20: "variables", 21: "cells", 22: "pending", 23: "buffer", 24: "save words"}
+MEANINGS = {10: "directive list", 11: "list of questions", 20: "variables", 21: "cells", 22: "pending", 23: "buffer",
+            24: "save words"}
 
 
 class Wrong(Exception):

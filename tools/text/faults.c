@@ -415,6 +415,19 @@ void print_faults(FILE *to, const char *indent, const struct buffer *table, stru
     say_faults(&lines, table, answer);
 }
 
+/* At least a word of it. */
+bool is_text(const struct buffer *bytes)
+{
+    size_t letters = 0;
+    for (size_t i = 0; i < bytes->length; i++) {
+        uint8_t byte = bytes->bytes[i];
+        if (byte < ' ' && byte != '\t' && byte != '\n' && byte != '\r')
+            return false;
+        letters += (byte | 32) >= 'a' && (byte | 32) <= 'z';
+    }
+    return letters >= 4;
+}
+
 void print_refusal(FILE *to, const char *name, const struct buffer *table, struct answer answer)
 {
     struct lines lines = {.to = to, .indent = "", .end = "", .most = 1};
@@ -424,7 +437,9 @@ void print_refusal(FILE *to, const char *name, const struct buffer *table, struc
         fprintf(to, " at byte %" PRIu64, answer.second);
     fputs(": ", to);
     say_faults(&lines, table, answer);
-    if (lines.count > 1)
+    if (table != NULL && is_text(table))
+        fprintf(to, " (it is text: flow assemble makes a table of a source)");
+    else if (lines.count > 1)
         fprintf(to, " (and %zu more: flow explain)", lines.count - 1);
     fputc('\n', to);
 }

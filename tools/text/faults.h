@@ -5,6 +5,7 @@
 #ifndef FAULTS_H
 #define FAULTS_H
 
+#include <stdbool.h>
 #include <stdio.h>
 
 #include "library/calls.h"
@@ -15,6 +16,9 @@
  * From 10 up the fault is not in the table, which may then be NULL, and the line says what the refusal means.
  */
 void print_faults(FILE *to, const char *indent, const struct buffer *table, struct answer answer);
+
+/* Is it text, and so most likely a source that was taken for a table? */
+bool is_text(const struct buffer *bytes);
 
 /*
  * One line, for messages: "NAME: refused by 6 at byte 724: node 118 (skip, byte 724) is a child of no node", and how many faults

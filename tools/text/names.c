@@ -25,6 +25,7 @@ void number_names(struct names *names, const struct table *table, bool flag)
 {
     names->variables = table->variables;
     names->arrays = table->arrays;
+    names->declared = false;
     for (unsigned x = 0; x < names->variables; x++)
         snprintf(names->variable[x], NAME_BYTES, "v%u", x);
     for (unsigned a = 0; a < names->arrays; a++)

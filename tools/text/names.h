@@ -10,6 +10,7 @@ enum { NAME_BYTES = 64 }; /* with the zero at its end */
 
 struct names {
     unsigned variables, arrays; /* how many have a name */
+    bool declared;              /* by a source */
     char variable[FLOW_MAX_VARIABLES][NAME_BYTES];
     char array[FLOW_MAX_ARRAYS][NAME_BYTES];
 };

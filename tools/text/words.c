@@ -86,7 +86,18 @@ struct names_words arrays_in_words(const struct names *names)
 
 /* ---- Runs ---- */
 
-void print_observation(FILE *to, const uint8_t *record)
+/* An array and an index, each behind a blank.  Of a script's arrays not all need be declared. */
+static void print_cell(FILE *to, const struct names *names, const uint8_t *fields)
+{
+    uint32_t array = get16(fields);
+    if (names->declared && array < names->arrays)
+        fprintf(to, " %s", names->array[array]);
+    else
+        fprintf(to, " %" PRIu32, array);
+    fprintf(to, " %" PRIu32, get32(fields + 2));
+}
+
+void print_observation(FILE *to, const struct names *names, const uint8_t *record)
 {
     const uint8_t *fields = record + RECORD_HEAD;
     unsigned kind = get16(record + 2);
@@ -94,17 +105,19 @@ void print_observation(FILE *to, const uint8_t *record)
         fprintf(to, "rollback");
     else if (kind == FLOW_SHOWN_BRANCH)
         fprintf(to, "branch %" PRIu32, get16(fields));
-    else
-        fprintf(to, "%s %" PRIu32 " %" PRIu32, kind == FLOW_SHOWN_READ ? "read" : "write", get16(fields), get32(fields + 2));
+    else {
+        fprintf(to, "%s", kind == FLOW_SHOWN_READ ? "read" : "write");
+        print_cell(to, names, fields);
+    }
 }
 
-static void print_directive(FILE *to, const uint8_t *record)
+static void print_directive(FILE *to, const struct names *names, const uint8_t *record)
 {
     const uint8_t *fields = record + RECORD_HEAD;
     unsigned kind = get16(record + 2);
     fprintf(to, "%s", directive_in_words(kind));
     if (kind == FLOW_LOAD || kind == FLOW_STORE)
-        fprintf(to, " %" PRIu32 " %" PRIu32, get16(fields), get32(fields + 2));
+        print_cell(to, names, fields);
 }
 
 /* How many records of a list stand from this byte on. */
@@ -116,12 +129,12 @@ static size_t records_from(const struct buffer *list, size_t at)
     return records;
 }
 
-void print_observations(FILE *to, const char *indent, const struct buffer *observations, size_t most)
+void print_observations(FILE *to, const char *indent, const struct names *names, const struct buffer *observations, size_t most)
 {
     size_t at = 0;
     for (size_t printed = 0; printed < most && at < observations->length; printed++, at += get16(observations->bytes + at)) {
         fprintf(to, "%s", indent);
-        print_observation(to, observations->bytes + at);
+        print_observation(to, names, observations->bytes + at);
         fputc('\n', to);
     }
     if (observations->length == 0)
@@ -130,12 +143,12 @@ void print_observations(FILE *to, const char *indent, const struct buffer *obser
         fprintf(to, "%s(and %zu more)\n", indent, records_from(observations, at));
 }
 
-void print_directives(FILE *to, const struct buffer *directives, size_t most)
+void print_directives(FILE *to, const struct names *names, const struct buffer *directives, size_t most)
 {
     size_t at = 0;
     for (size_t printed = 0; printed < most && at < directives->length; printed++, at += get16(directives->bytes + at)) {
         fprintf(to, "%s", at == 0 ? "" : "; ");
-        print_directive(to, directives->bytes + at);
+        print_directive(to, names, directives->bytes + at);
     }
     if (directives->length == 0)
         fprintf(to, "(nothing)");

@@ -22,11 +22,14 @@ struct names_words {
 struct names_words variables_in_words(const struct names *names, unsigned variables);
 struct names_words arrays_in_words(const struct names *names);
 
-/* Observations that a machine has written: of the record that begins here, and of a list, a line each, at most so many. */
-void print_observation(FILE *to, const uint8_t *record);
-void print_observations(FILE *to, const char *indent, const struct buffer *observations, size_t most);
+/*
+ * Observations that a machine has written: the one that begins here, and of a list a line each, at most so many.  An array is a
+ * number, as in document 01, unless a source has declared names.
+ */
+void print_observation(FILE *to, const struct names *names, const uint8_t *record);
+void print_observations(FILE *to, const char *indent, const struct names *names, const struct buffer *observations, size_t most);
 
 /* A list of directives that the library has accepted, on one line, in the form of a script; at most so many. */
-void print_directives(FILE *to, const struct buffer *directives, size_t most);
+void print_directives(FILE *to, const struct names *names, const struct buffer *directives, size_t most);
 
 #endif
