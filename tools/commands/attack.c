@@ -101,8 +101,10 @@ static void pair_free(struct pair *pair)
 static void print_run(const struct open_table *opened, const struct run *run, unsigned state)
 {
     printf("  state %u: %s\n", state + 1, flow_end_words(run->end));
-    printf("    steps %" PRIu64 ", directives used %" PRIu64 ", flag %" PRIu64 ", next node %" PRIu64 "\n", run->steps,
-           run->directives, run->flag, run->next);
+    printf("    steps %" PRIu64 ", directives used %" PRIu64 ", flag %" PRIu64, run->steps, run->directives, run->flag);
+    if (run->end != FLOW_FINISHED)
+        printf(", next node %" PRIu64, run->next);
+    printf("\n");
     print_observations(stdout, "    ", &opened->names, &run->observations, MOST_PRINTED);
     print_saves(stdout, "    ", &opened->names, &opened->table, &run->saves, run->open_saves);
 }
