@@ -7,3 +7,4 @@ pub mod Questions
 pub mod Security
 pub mod Hardened
 pub mod Forward
+pub mod Rolling

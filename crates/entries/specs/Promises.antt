@@ -1,8 +1,9 @@
 -- WHAT THE SIX ENTRIES PROMISE, on any bytes: the result, each lent slice and the answer slice at exit, by an equation with the entry's
--- definition; of a label sheet and of answers to questions, that the labels are the least; and of a table that was hardened, the demands.
+-- definition; of a label sheet and of answers to questions, that the labels are the least; of a table that was hardened, the demands; and of a run
+-- that rolls back, which saves are open.
 -- Nothing is left free, the place of a refusal by 6 no more than any other (awhile/proofs/Lowest says whose record it is).
 use Prim.Native.Nat.{ℕ, _*_, _<_, _≤_}
-use mathlib.Core.Bool.{false}
+use mathlib.Core.Bool.{false, cond}
 use mathlib.Core.List.{List, [], _∷_}
 use mathlib.Core.Path.{_≡_}
 use lib.ListN.{length, getD, take}
@@ -15,12 +16,15 @@ use Rattle.labels.specs.Annotation.{Entry}
 use Rattle.labels.specs.Rules.{LeastAnnotation}
 use Rattle.labels.specs.Sheet.{sheetOf}
 use Rattle.labels.specs.Questions.{maxQuestions, pairAt, questionAt, TellsLabel}
+use Rattle.machine.specs.Steps.{State}
+use Rattle.machine.specs.Runs.{someOpen}
+use Rattle.machine.specs.Memory.{savesAfter}
 use Rattle.masks.specs.Hardening.{hardenedProgram}
 use Rattle.masks.specs.Demands.{Demands}
 use Rattle.entries.specs.Answers.{answered}
 use Rattle.entries.specs.Writing.{Written, writtenAll, sheetEntry, questionsEntry, hardenEntry}
 use Rattle.entries.specs.Running.{Lent, Ran, runEntry, guessEntry}
-use Rattle.entries.specs.Rolling.{RanSaving, rollbackEntry}
+use Rattle.entries.specs.Rolling.{RanSaving, saveSize, rollbackEntry}
 use Rattle.entries.specs.Security.{CallsShowTheSame, flowGuess, flowRollback}
 
 -- ---- what stands at exit
@@ -116,7 +120,27 @@ pub record Runs (table : List ℕ) (lent : Lent) (budget : ℕ) (answer : List �
 pub record Guesses (table directives : List ℕ) (lent : Lent) (budget : ℕ) (answer : List ℕ) (result : ℕ) (lent′ : Lent) (answer′ : List ℕ) : Type 0 where
   pub guesses : ranAt result lent′ answer′ ≡ guessEntry table directives lent budget answer
 
--- THE PROMISE of the rollback machine's entry: the same, and the save slice
+-- What a caller of the rollback machine's entry has where it answers 0, from the table's bytes, the save slice and the answer slice at entry and
+-- what stands at exit. Every point of a run is the end of the call with a smaller budget, so this holds at every point of every run.
+pub record OpenSaves (table saves answer : List ℕ) (exit : RanSaving) : Type 0 where
+  -- the table that was accepted
+  pub original : Table
+  pub reads : readTable table ≡ got original
+  -- the saves that are open, the newest first: "at most eight are"
+  pub saved : List (State ℕ)
+  pub eight : length saved ≤ 8
+  -- so many places of the save words hold them, and the rest of the eight is zeros
+  pub places : exit .saves ≡ savesAfter (length (original .nodes)) (saveSize original) saved saves
+  -- "The flag is set exactly while a save is open": so the answer says, between the bytes shown and the next node
+  pub end : ℕ
+  pub steps : ℕ
+  pub used : ℕ
+  pub shown : ℕ
+  pub next : ℕ
+  pub answers : exit .ran .answer ≡ answered (0 ∷ end ∷ steps ∷ used ∷ shown ∷ cond (someOpen saved) 1 0 ∷ next ∷ []) answer
+
+-- THE PROMISE of the rollback machine's entry: the same, and the save slice; and where it answers 0, that its flag tells whether a save is open
 pub record RollsBack (table directives : List ℕ) (lent : Lent) (saves : List ℕ) (budget : ℕ) (answer : List ℕ)
     (result : ℕ) (lent′ : Lent) (saves′ answer′ : List ℕ) : Type 0 where
   pub rolls : ranSavingAt result lent′ saves′ answer′ ≡ rollbackEntry table directives lent saves budget answer
+  pub flags : result ≡ 0 → OpenSaves table saves answer (ranSavingAt result lent′ saves′ answer′)

@@ -7,7 +7,7 @@ use program::input::harden_input;
 fn main() {
     let mut input = [0u8; INPUT_BYTES];
     let mut output = [0u8; OUTPUT_BYTES];
-    let n = io::read_full(0, &mut input);
-    let size = harden_input(&input[..n], &mut output);
+    let count = io::read_full(0, &mut input);
+    let size = harden_input(&input, count, &mut output);
     io::write_all(STDOUT_FILENO, &output[..size]);
 }

@@ -1,6 +1,7 @@
 -- Laws of labels and of the analysis, in reading order.
 pub mod Open
 pub mod Examples
+pub mod WholeTables
 pub mod Booleans
 pub mod Masks
 pub mod Order

@@ -8,7 +8,7 @@ use native.Mathlib.Omega.{arith}
 use Rattle.awhile.specs.Language.{BExp, Com, skip, assign, sequence, if, while, read, write, noteOf, mapNotes}
 use Rattle.awhile.specs.declared.Labelling.{Labelling}
 use Rattle.labels.specs.Labellings.{variableMark, arrayMark, _⊑_, labelOfB}
-use Rattle.labels.specs.Analysis.{analyse}
+use Rattle.labels.specs.Analysis.{readLabel, writeLabel, analyse}
 use Rattle.labels.specs.Annotation.{Entry, entered, annotate, parts}
 use Rattle.labels.specs.Rules.{Settled, loopPass, programOf, Enters, Satisfies, skip-rule, assign-rule, sequence-rule, if-rule, while-rule, read-rule, write-rule}
 use Rattle.labels.specs.Rules.{Annotates, EntryAbove, Above, skip-above, assign-above, sequence-above, if-above, while-above, read-above, write-above}
@@ -60,7 +60,7 @@ loop-satisfied : (e : Entry) (b : BExp) (a : Com Entry) (s : Labelling) → note
 loop-satisfied e b a s p q h k = while-rule {e = e} {b = b} {c = a} {after = s} (record { labelling = rw p h; context = rw (p, q) (λ t. t) }) (rw p k) (rw p (⊑-refl s))
 
 satisfied : (c : Com ℕ) (x : Bool) (l : Labelling) → Satisfies (annotate c x l) (analyse c x l)
-unfolding annotate analyse
+unfolding annotate analyse readLabel writeLabel
 satisfied (skip n) x l = skip-rule (⊑-refl l)
 satisfied (assign n v e) x l = assign-rule (⊑-refl _)
 satisfied (sequence n c d) x l =
@@ -92,7 +92,7 @@ entry-above e x l p h = record { node = refl; labelling = p; context = h }
 -- whatever satisfies the rules is above the analysis, command by command and after the last
 least : {a : Com Entry} {after : Labelling} → Satisfies a after → (x : Bool) (l : Labelling) → Enters l x a
     → Above a (annotate (programOf a) x l) × (analyse (programOf a) x l ⊑ after)
-unfolding mapNotes annotate analyse noteOf
+unfolding mapNotes annotate analyse readLabel writeLabel noteOf
 least (skip-rule {e = e} p) x l i = (skip-above (entry-above e x l (i .labelling) (i .context)), ⊑-trans (i .labelling) p)
 least (assign-rule {e = e} {v = v} {a = a} p) x l i = (
   assign-above (entry-above e x l (i .labelling) (i .context)),

@@ -7,7 +7,7 @@ use lib.ListN.{getD}
 use Rattle.awhile.specs.Language.{AExp, BExp, Com, skip, assign, sequence, if, while, read, write, noteOf, mapNotes}
 use Rattle.awhile.specs.declared.Labelling.{Labelling}
 use Rattle.labels.specs.Labellings.{Mark, variableMark, arrayMark, labelOf, setLabel, labelOfA, labelOfB, join, _⊑_}
-use Rattle.labels.specs.Analysis.{readLabel, writeLabel, targets, analyse}
+use Rattle.labels.specs.Analysis.{targets, analyse}
 use Rattle.labels.specs.Annotation.{Entry, parts}
 
 -- the two lists of values agree on every variable that is public in the labelling
@@ -84,10 +84,13 @@ pub data Satisfies : Com Entry → (after : Labelling) → Type 0 where
       → noteOf c .labelling ⊑ after → Satisfies (while e b c) after
   -- "Read gives its variable the join of index, array and context."
   read-rule : {e : Entry} {v a : ℕ} {i : AExp} {after : Labelling}
-      → setLabel (e .labelling) (variableMark v) (readLabel (e .labelling) (e .context) a i) ⊑ after → Satisfies (read e v a i) after
+      → setLabel (e .labelling) (variableMark v) (labelOfA (e .labelling) i || (labelOf (e .labelling) (arrayMark a) || e .context)) ⊑ after
+      → Satisfies (read e v a i) after
   -- "Write joins into the array's label index, value and context."
   write-rule : {e : Entry} {a : ℕ} {i v : AExp} {after : Labelling}
-      → setLabel (e .labelling) (arrayMark a) (writeLabel (e .labelling) (e .context) a i v) ⊑ after → Satisfies (write e a i v) after
+      → setLabel (e .labelling) (arrayMark a)
+      (labelOf (e .labelling) (arrayMark a) || (labelOfA (e .labelling) i || (labelOfA (e .labelling) v || e .context))) ⊑ after
+      → Satisfies (write e a i v) after
 
 -- the program that an annotation annotates
 abbrev pub programOf : Com Entry → Com ℕ

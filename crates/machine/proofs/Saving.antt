@@ -11,7 +11,7 @@ use borrow.Author.Tests.{leb-true}
 use Rattle.awhile.specs.Language.{Com}
 use Rattle.machine.specs.Look.{Look, quiet, fork, get, put, look}
 use Rattle.machine.specs.Steps.{State, Taken, onlyIf, quietly, turned, loaded, stored, onward}
-use Rattle.machine.specs.Runs.{Room, Guide, plain, guessing, rolling, Machine, stacked, run, started}
+use Rattle.machine.specs.Runs.{Room, Guide, plain, guessing, rolling, Machine, someOpen, stacked, run, started}
 use Rattle.machine.specs.declared.Directive.{Directive}
 use Rattle.machine.proofs.Taken.{rightly, wrongly}
 use Rattle.machine.proofs.Invariants.{Led, by-itself, by-guess, by-rolling, AfterStack, AfterSteps, Kept, after-run}
@@ -23,10 +23,6 @@ rolls (guessing ds) = false
 rolls (rolling ds) = true
 
 module _ {Note : Type 0} where
-  unfoldable pub someOpen : List (State Note) → Bool
-  someOpen [] = false
-  someOpen (s ∷ ss) = true
-
   -- the flag says whether a save is open, and the flag of a save says whether there is an older one, as it did when it was saved
   abbrev FlagsOf : (flag : Bool) → (saves : List (State Note)) → Type 0
   FlagsOf f [] = f ≡ false

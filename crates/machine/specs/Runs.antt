@@ -76,6 +76,11 @@ module _ {Note : Type 0} where
   unfoldable pub ifRoom : Room → Machine Note → Observation → (after : Machine Note) → Next Note
   ifRoom room m o after = cond (holds room (length (shownBytes (m .shown)) + length (observationBytes o))) (goes after) (over Full)
 
+  -- whether a save is open: "The flag is set exactly while a save is open" (`flag-while-open`)
+  unfoldable pub someOpen : (saves : List (State Note)) → Bool
+  someOpen [] = false
+  someOpen (s ∷ ss) = true
+
   -- the saves after a shown step. The rolling machine adds what the step gives to save: "at most eight are, and a force beyond them is stuck"
   unfoldable pub stacked : Guide → (kept saves : List (State Note)) → Option (List (State Note))
   stacked plain kept saves = some saves

@@ -1,6 +1,7 @@
 -- Laws of the hardened program, in reading order.
 pub mod Open
 pub mod Examples
+pub mod WholeTables
 pub mod Decisions
 pub mod Growth
 pub mod Origins

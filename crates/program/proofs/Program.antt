@@ -17,12 +17,12 @@ unfolding hardenedInput
 input-long s bytes k more =
     ap (λ (a : Answer Table). elim (andThen a hardenedIn) as (λ _. List ℕ) [ refused r ↦ refusalRecord r | got out ↦ out ]) (long-input s bytes k more)
 
--- what was read, whole or cut, is answered
-pub answers-read : {s buffer : List ℕ} {size : ℕ} → size ≤ length buffer → take size buffer ≡ hardenedInput s → AnswersRead s buffer size
-answers-read {s} {buffer} {size} fits own =
+-- what was read, all of an input or as much as the buffer holds, is answered
+pub answers-read : {buffer output : List ℕ} {count size : ℕ} → longestTable < length buffer → size ≤ length output → take size output ≡ hardenedInput (take count buffer)
+    → AnswersRead buffer count output size
+answers-read {buffer} {output} {count} {size} more fits own =
     record {
       fits = fits;
-      counted = sym (length-take-le size buffer fits);
-      own = own;
-      whole = λ input bytes k more e. own ∙ ap hardenedInput e ∙ input-long input bytes k more;
+      counted = sym (length-take-le size output fits);
+      writes = λ input bytes e. own ∙ ap hardenedInput e ∙ input-long input bytes (length buffer) more;
     }

@@ -107,29 +107,33 @@ module _ (s out answer : List ℕ) where
           hardens-all bytes (rw same at short) room e)
 
 -- ---- what the program makes of it
-module _ (out : List ℕ) {s out′ answer′ : List ℕ} {n : ℕ} (below : Below 256 s) (room : longestTable ≤ length out)
-    (w : writtenAt n out′ answer′ ≡ hardenEntry s out (replicate 16 0)) where
+module _ (buffer : List ℕ) (count : ℕ) (out : List ℕ) {out′ answer′ : List ℕ} {n : ℕ} (below : Below 256 (take count buffer)) (more : longestTable < length buffer)
+    (room : longestTable ≤ length out) (w : writtenAt n out′ answer′ ≡ hardenEntry (take count buffer) out (replicate 16 0)) where
+  -- what was read
+  abbrev s : List ℕ
+  s = take count buffer
+
   -- where the entry answers 0, the hardened table stands in the buffer
-  pub hardened-answered : n ≡ 0 → {size : ℕ} → size ≡ leAt 4 answer′ 8 → AnswersRead s out′ size
+  pub hardened-answered : n ≡ 0 → {size : ℕ} → size ≡ leAt 4 answer′ 8 → AnswersRead buffer count out′ size
   unfolding notWritten writtenAll writtenOver
   hardened-answered zero {size} e = go (leaves s out (replicate 16 0) below room)
     where
-      go : Leaves s out (replicate 16 0) → AnswersRead s out′ size
+      go : Leaves s out (replicate 16 0) → AnswersRead buffer count out′ size
       go (refuses r i x) = absurd (refusal-not-zero r (sym (ap (λ (v : Written). v .result) (w ∙ x)) ∙ zero))
       go (writes-hardened short x) =
           let bytes : List ℕ = hardenedInput s in
           let wrote : out′ ≡ bytes ++ drop (length bytes) out = ap (λ (v : Written). v .buffer) (w ∙ x) in
           let said : answer′ ≡ answered (0 ∷ length bytes ∷ []) (replicate 16 0) = ap (λ (v : Written). v .answer) (w ∙ x) in
           let is : size ≡ length bytes = e ∙ ap (λ (l : List ℕ). leAt 4 l 8) said ∙ size-kept 0 (length bytes) short in
-          answers-read (omega (arith, ap length wrote, length-append bytes (drop (length bytes) out)))
+          answers-read more (omega (arith, ap length wrote, length-append bytes (drop (length bytes) out)))
           (ap₂ (λ (k : ℕ) (l : List ℕ). take k l) is wrote ∙ take-at bytes (drop (length bytes) out) (length bytes) refl)
 
   -- where it refuses, the record of the refusal is put over the front
-  pub refused-answered : (n ≡ 0 → ⊥) → {k : ℕ} {out″ : List ℕ} → k ≡ leAt 4 answer′ 8 → out″ ≡ sets out′ 0 (refusalBytes n k) → AnswersRead s out″ 10
+  pub refused-answered : (n ≡ 0 → ⊥) → {k : ℕ} {out″ : List ℕ} → k ≡ leAt 4 answer′ 8 → out″ ≡ sets out′ 0 (refusalBytes n k) → AnswersRead buffer count out″ 10
   unfolding notWritten writtenAll writtenOver refusalNumbers refusalRecord
   refused-answered some {k} {out″} second e = go (leaves s out (replicate 16 0) below room)
     where
-      go : Leaves s out (replicate 16 0) → AnswersRead s out″ 10
+      go : Leaves s out (replicate 16 0) → AnswersRead buffer count out″ 10
       go (refuses r i x) =
           let number : n ≡ refusalNumber r = ap (λ (v : Written). v .result) (w ∙ x) in
           let kept : out′ ≡ out = ap (λ (v : Written). v .buffer) (w ∙ x) in
@@ -139,6 +143,6 @@ module _ (out : List ℕ) {s out′ answer′ : List ℕ} {n : ℕ} (below : Bel
           let ten : length (refusalRecord r) ≡ 10 = length-refusal (refusalNumber r) (refusalPlace r) in
           let wrote : out″ ≡ refusalRecord r ++ drop (length (refusalRecord r)) out =
           e ∙ ap₂ (λ (l b : List ℕ). sets l 0 b) kept record-is ∙ written-front (refusalRecord r) out (omega arith) in
-          answers-read (omega (arith, ap length wrote, length-append (refusalRecord r) (drop (length (refusalRecord r)) out)))
+          answers-read more (omega (arith, ap length wrote, length-append (refusalRecord r) (drop (length (refusalRecord r)) out)))
           (ap (take 10) wrote ∙ take-at (refusalRecord r) (drop (length (refusalRecord r)) out) 10 ten ∙ sym i)
       go (writes-hardened short x) = absurd (some (ap (λ (v : Written). v .result) (w ∙ x)))

@@ -1,12 +1,12 @@
 -- "A program reads a table on standard input and writes the hardened one, or kind 240 (refusal, place in 4 bytes; length 10)."
-use Prim.Native.Nat.{ℕ, _≤_, _<_}
+use Prim.Native.Nat.{ℕ, _≤_}
 use mathlib.Core.List.{List, _++_}
 use mathlib.Core.Path.{_≡_}
 use lib.ListN.{length, take}
 use Rattle.bytes_le.specs.Numbers.{le}
 use Rattle.bytes_le.proofs.Numbers.{Below}
 use Rattle.awhile.specs.Refusals.{refused, got, andThen, refusalNumber, refusalPlace}
-use Rattle.awhile.specs.Tables.{readTable, longestTable}
+use Rattle.awhile.specs.Tables.{readTable}
 use Rattle.awhile.specs.declared.Refusal.{Refusal}
 use Rattle.entries.specs.Writing.{hardenedIn}
 
@@ -25,10 +25,9 @@ hardenedInput s =
       | got out ↦ out
     ]
 
--- What the program's work leaves: so many bytes at the front of the buffer at exit are what it writes for the bytes that were read,
--- and for every input that they are the first bytes of, if they are all of it or more than the longest table has.
-pub record AnswersRead (bytes buffer : List ℕ) (size : ℕ) : Type 0 where
-  pub fits : size ≤ length buffer
-  pub counted : size ≡ length (take size buffer)
-  pub own : take size buffer ≡ hardenedInput bytes
-  pub whole : (input : List ℕ) → Below 256 input → (k : ℕ) → longestTable < k → bytes ≡ take k input → take size buffer ≡ hardenedInput input
+-- What the program's work leaves. The first bytes of a buffer, so many, are what was read: all of an input, or as much of it as the buffer
+-- holds. Whichever input that was, so many bytes at the front of the output at exit are what the program writes for it.
+pub record AnswersRead (buffer : List ℕ) (count : ℕ) (output : List ℕ) (size : ℕ) : Type 0 where
+  pub fits : size ≤ length output
+  pub counted : size ≡ length (take size output)
+  pub writes : (input : List ℕ) → Below 256 input → take count buffer ≡ take (length buffer) input → take size output ≡ hardenedInput input

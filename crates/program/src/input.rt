@@ -2,7 +2,7 @@
 use bytes_le::get;
 use bytes_le::put;
 use flow::harden::flow_harden;
-ghost use Prim.Native.Nat.{_≤_};
+ghost use Prim.Native.Nat.{_≤_, _<_};
 ghost use mathlib.Core.Path.{_≡_};
 ghost use lib.ListN.{length};
 ghost use lib.Seq.{sets};
@@ -26,13 +26,16 @@ fn put_refusal(out: &mut [u8], refusal: usize, place: u32)
     put::put32(&mut *out, 6, place);
 }
 
-// The hardened table of an input, or the record of its refusal, at the front of a slice, and how many bytes it has.
-pub fn harden_input(input: &[u8], out: &mut [u8]) -> usize
+// The hardened table of an input, or the record of its refusal, at the front of a slice, and how many bytes it has. The input was read into the
+// buffer, which took so many bytes: it must hold more than the longest table has, or a longer input could not be told from its beginning.
+pub fn harden_input(buffer: &[u8], count: usize, out: &mut [u8]) -> usize
+    requires { ⌜ longestTable < length (now buffer) ⌝ }
+    requires { ⌜ count ≤ length (now buffer) ⌝ }
     requires { ⌜ longestTable ≤ length (now out) ⌝ }
-    ensures { λ r. ⌜ AnswersRead (now (input .entry)) (now (out .exit)) r ⌝ }
+    ensures { λ r. ⌜ AnswersRead (now (buffer .entry)) count (now (out .exit)) r ⌝ }
 {
     let mut answer = [0u8; 16];
-    let refusal = flow_harden(input, &mut *out, &mut answer);
+    let refusal = flow_harden(&buffer[..count], &mut *out, &mut answer);
     // the second number is the length of what was written, or the refusal's place
     let second = get::u32_at(&answer, 8);
     if refusal == 0 {

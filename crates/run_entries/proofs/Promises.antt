@@ -20,6 +20,7 @@ use Rattle.entries.specs.Answers.{answered}
 use Rattle.entries.specs.Running.{Lent, Ran, notRun, lentFor, ranAll, running, runEntry, guessWith, guessEntry}
 use Rattle.entries.specs.Rolling.{saveSize, savingFor, notRunSaving, ranSaving, savingRun, rollbackWith, rollbackEntry}
 use Rattle.entries.specs.Promises.{ranAt, Runs, Guesses, RollsBack}
+use Rattle.entries.proofs.Rolling.{entry-rolls-back}
 use Rattle.run_entries.specs.Lengths.{enoughFor, fitFor}
 use Rattle.run_entries.specs.Runs.{reportNumbers, resultOf, numbersOf, runnable, CameTo, not-run, has-run, ReadDone}
 use Rattle.run_entries.specs.declared.machines.Done.{Done}
@@ -107,8 +108,6 @@ module _ (table list : List ℕ) (budget : ℕ) (lent : Lent) (ss : List ℕ) (l
 
   pub rollback-promise : ReadDone table list Rolling budget lent ss lent′ ss′ d → RollsBack table list lent ss budget answer result lent′ ss′ answer′
   rollback-promise done =
-      record {
-        rolls =
-            (λ i. record { ran = at-exit i; saves = ss′ })
-            ∙ sym (rollback-entry table budget lent ss answer list ∙ came-saving list Rolling budget lent ss lent′ ss′ answer refl _ d (done .came));
-      }
+      entry-rolls-back
+      ((λ i. record { ran = at-exit i; saves = ss′ })
+      ∙ sym (rollback-entry table budget lent ss answer list ∙ came-saving list Rolling budget lent ss lent′ ss′ answer refl _ d (done .came)))

@@ -1,0 +1,63 @@
+#!/usr/bin/env python3
+"""Says of each must-fail edit what refused it first, from the logs of `rt ci` or `rt must-fail`: edits.py
+
+An edit shows something only where it is refused at a fact: something that no longer holds of the code or the definitions as
+edited. A proof may also be refused for how it is written, as where a path in it leads to another place than before; then no fact
+was looked at, and the edit shows nothing. Exits with 1 where an edit was refused so, or has no log.
+"""
+import glob
+import os
+import re
+import sys
+
+# What antt and rattle say where a statement does not hold.
+FACTS = (
+    "the two types",  # .. differ, as printed or computed: this is proved, and that is asked
+    "the two indices",
+    "lands at index",
+    "expected type",
+    "`omega`: the goal does not follow",
+    "`search`: no proof of",
+    "`rw`: no occurrence of",  # an equation about another value than the one that stands there now
+    "give a proof of that as the last argument",  # an equation whose two sides are no longer one
+    "it is not proved that",  # a contract
+)
+
+
+def first_error(log):
+    """(place, message) of the first refusal of a log, or None."""
+    for line in log.split("\n"):
+        found = re.match(r"(?:note: )?\S+?/((?:src|specs|proofs)/\S+:\d+:\d+): (error: |it is not proved that)(.*)", line)
+        if found:
+            return found[1], (found[2] + found[3]).removeprefix("error: ")
+    return None
+
+
+def judged(crate, name):
+    """(is it a fact?, what to print)"""
+    path = f"target/must-fail/{crate}/{name}/.log"
+    if not os.path.exists(path):
+        return False, "no log: it was not tried"
+    with open(path) as file:
+        error = first_error(file.read())
+    if error is None:
+        return False, "its log has no error"
+    place, message = error
+    fact = any(words in message for words in FACTS)
+    return fact, f"{'a fact' if fact else 'NO FACT'}: {place}: {message[:100]}"
+
+
+def main():
+    os.chdir(os.path.dirname(os.path.abspath(__file__)) + "/../..")
+    edits = sorted(glob.glob("crates/*/must-fail/*.edit"))
+    facts = 0
+    for edit in edits:
+        crate, name = edit.split("/")[1], os.path.basename(edit).removesuffix(".edit")
+        fact, words = judged(crate, name)
+        facts += fact
+        print(f"{crate}/{name}: {words}")
+    print(f"edits: {facts} refused at a fact, {len(edits) - facts} not")
+    return 0 if edits and facts == len(edits) else 1
+
+
+sys.exit(main())
