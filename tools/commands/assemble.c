@@ -10,7 +10,7 @@
 #include "text/source.h"
 
 static const char usage[] =
-    "flow assemble [-o TABLE] SOURCE\n"
+    "flow assemble [-o TABLE] [SOURCE]\n"
     "  Puts a table together from text: declarations (var, array, secret) and a command in document 01's notation.\n"
     "  -o TABLE        where the table goes, standard output if not given\n";
 
@@ -43,7 +43,7 @@ static int run_assemble(const struct command *self, int argc, char **argv)
 {
     const char *output = NULL;
     const struct option options[] = {{"-o", NULL, &output}, {NULL, NULL, NULL}};
-    if (!take_options(self, options, &argc, argv, 1, 1))
+    if (!take_options(self, options, &argc, argv, 0, 1) || (argv = take_inputs(self, &argc, argv)) == NULL)
         return STATUS_TROUBLE;
     if (output == NULL)
         output = "-";

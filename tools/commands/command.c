@@ -3,6 +3,7 @@
 #include <stdarg.h>
 #include <stdio.h>
 #include <string.h>
+#include <unistd.h>
 
 #include "files/messages.h"
 
@@ -13,11 +14,13 @@ int misused(const struct command *self, const char *format, ...)
     va_start(arguments, format);
     print_message(stderr, format, arguments);
     va_end(arguments);
-    fprintf(stderr, "\n%s", self->usage);
+    fprintf(stderr, "\nflow %s --help says more\n", self->name);
     return STATUS_TROUBLE;
 }
 
-/* The option that an argument names: "--into", or "--into=..", whose value is then in `value`. */
+/* ---- Options ---- */
+
+/* The option that an argument names; `value` is what stands in the same argument: behind "--into=", or behind "-o". */
 static const struct option *option_named(const struct option *options, const char *argument, const char **value)
 {
     *value = NULL;
@@ -27,8 +30,8 @@ static const struct option *option_named(const struct option *options, const cha
             continue;
         if (argument[length] == 0)
             return options;
-        if (argument[length] == '=' && argument[1] == '-' && options->value != NULL) {
-            *value = argument + length + 1;
+        if (options->value != NULL && (argument[1] != '-' || argument[length] == '=')) {
+            *value = argument + length + (argument[1] == '-');
             return options;
         }
     }
@@ -38,6 +41,28 @@ static const struct option *option_named(const struct option *options, const cha
 static bool looks_like_option(const char *argument)
 {
     return argument[0] == '-' && argument[1] != 0;
+}
+
+/* Is the option's value the name of a file or folder?  All are but the number of steps. */
+static bool takes_name(const struct option *option)
+{
+    return strcmp(option->name, "--budget") != 0;
+}
+
+/* Is the argument behind an option its value?  False, with a message: it is another option, or a name that looks like one. */
+static bool is_value(const struct command *self, const struct option *options, const struct option *option,
+                     const char *argument)
+{
+    const char *value;
+    if (!looks_like_option(argument))
+        return true;
+    if (strcmp(argument, "--") == 0 || option_named(options, argument, &value) != NULL)
+        misused(self, "%s lacks its value", option->name);
+    else if (takes_name(option))
+        misused(self, "%s %s: a name that begins with - is given as ./%s", option->name, argument, argument);
+    else
+        return true;
+    return false;
 }
 
 /* Takes one option and says how many arguments it was: 0, with a message, where it is not in order. */
@@ -51,8 +76,12 @@ static int take_option(const struct command *self, const struct option *options,
         return misused(self, "%s is given twice", option->name), 0;
     if (option->value == NULL)
         return *option->given = true, 1;
-    if (value == NULL && (left < 2 || looks_like_option(argv[1])))
+    if (value != NULL && *value == '=' && argv[0][1] != '-')
+        return misused(self, "%s: no = stands between %s and its value", argv[0], option->name), 0;
+    if (value == NULL && left < 2)
         return misused(self, "%s lacks its value", option->name), 0;
+    if (value == NULL && !is_value(self, options, option, argv[1]))
+        return 0;
     *option->value = value != NULL ? value : argv[1];
     return value != NULL ? 1 : 2;
 }
@@ -78,4 +107,17 @@ bool take_options(const struct command *self, const struct option *options, int 
     if (operands < fewest || operands > most)
         misused(self, operands < fewest ? "an operand is missing" : "one operand too many: %s", argv[most < operands ? most : 0]);
     return operands >= fewest && operands <= most;
+}
+
+char **take_inputs(const struct command *self, int *argc, char **argv)
+{
+    static char *standard_input[] = {"-"};
+    if (*argc > 0)
+        return argv;
+    if (isatty(STDIN_FILENO)) {
+        misused(self, "an operand is missing, and standard input is a terminal");
+        return NULL;
+    }
+    *argc = 1;
+    return standard_input;
 }

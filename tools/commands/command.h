@@ -20,7 +20,7 @@ struct command {
 };
 
 extern const struct command command_harden, command_list, command_assemble, command_explain, command_sheet, command_ask,
-    command_run, command_attack;
+    command_run, command_attack, command_help;
 
 /* An option: `given` is set where it takes no value, else `value`.  A list of them ends with one that has no name. */
 struct option {
@@ -31,12 +31,19 @@ struct option {
 
 /*
  * Takes the options out of the arguments, wherever they stand, and leaves the operands: "-" is one, and so is everything behind
- * "--".  What looks like an option is no option's value, unless behind an equals sign.  False, with a message on standard error:
- * an option that is unknown, given twice or lacks its value, or fewer or more operands than allowed.
+ * "--".  A value is the next argument, or stands behind an equals sign, as in --into=.., or right behind a letter, as in -o..;
+ * as an argument of its own it is no option of the command and, where it is the name of a file, begins with no dash.  False,
+ * with a message on standard error: an option that is unknown, given twice or lacks its value, or too few or too many operands.
  */
 bool take_options(const struct command *self, const struct option *options, int *argc, char **argv, int fewest, int most);
 
-/* Says what is wrong with the usage, prints the command's own, and returns STATUS_TROUBLE. */
+/*
+ * The files to read: the operands or, without any, standard input.  NULL, with a message: that is a terminal, at which waiting
+ * for a table would look like a command that hangs.
+ */
+char **take_inputs(const struct command *self, int *argc, char **argv);
+
+/* Says what is wrong with the usage and where more of it stands, and returns STATUS_TROUBLE. */
 int misused(const struct command *self, const char *format, ...);
 
 #endif

@@ -14,7 +14,7 @@
 #include "text/faults.h"
 
 static const char usage[] =
-    "flow explain TABLE..\n"
+    "flow explain [TABLE..]\n"
     "  Says of each table whether it is accepted, and if it is not, why: the library's refusal, its place, and in words the\n"
     "  faults of this number in the record there; of refusal 6, every node that breaks the rule.  Also why hardening alone\n"
     "  would refuse it.\n"
@@ -71,7 +71,7 @@ static int run_explain(const struct command *self, int argc, char **argv)
 {
     const struct option none[] = {{NULL, NULL, NULL}};
     int worst = STATUS_DONE; /* trouble is worse than a refusal */
-    if (!take_options(self, none, &argc, argv, 1, INT_MAX))
+    if (!take_options(self, none, &argc, argv, 0, INT_MAX) || (argv = take_inputs(self, &argc, argv)) == NULL)
         return STATUS_TROUBLE;
     if (count_dashes(argv, (size_t)argc) > 1)
         return misused(self, "standard input can be read once only");

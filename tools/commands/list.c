@@ -6,7 +6,7 @@
 #include "text/program.h"
 
 static const char usage[] =
-    "flow list [--flag] [--names SOURCE] [--nodes] TABLE\n"
+    "flow list [--flag] [--names SOURCE] [--nodes] [TABLE]\n"
     "  Writes a table as text, which `flow assemble` reads back, with the labels of its sheet at the right.\n"
     NAMING_USAGE
     "  --nodes         a line for each record instead: byte, node, kind, fields (of a refused table, up to the fault)\n";
@@ -28,7 +28,8 @@ static int run_list(const struct command *self, int argc, char **argv)
     const struct option options[] = {
         {"--nodes", &nodes, NULL}, {"--flag", &naming.flag, NULL}, {"--names", NULL, &naming.source}, {NULL, NULL, NULL}};
     struct open_table opened;
-    if (!take_options(self, options, &argc, argv, 1, 1) || !reads_standard_input_once(self, naming, argc, argv))
+    if (!take_options(self, options, &argc, argv, 0, 1) || (argv = take_inputs(self, &argc, argv)) == NULL ||
+        !reads_standard_input_once(self, naming, argc, argv))
         return STATUS_TROUBLE;
     int status = open_table(&opened, argv[0], naming);
     if (status == STATUS_DONE && nodes)

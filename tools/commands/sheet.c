@@ -12,7 +12,7 @@
 #include "text/labels.h"
 
 static const char usage[] =
-    "flow sheet [--raw] [-o OUT] [--flag] [--names SOURCE] TABLE\n"
+    "flow sheet [--raw] [-o OUT] [--flag] [--names SOURCE] [TABLE]\n"
     "  Writes a table's label sheet in words, a line for each record.  Nodes have the numbers of `flow list --nodes`.\n"
     "  --raw           the sheet's bytes instead\n"
     "  -o OUT          where the sheet goes, standard output if not given\n"
@@ -52,7 +52,8 @@ static int run_sheet(const struct command *self, int argc, char **argv)
                                      {"--names", NULL, &naming.source},
                                      {NULL, NULL, NULL}};
     struct open_table opened;
-    if (!take_options(self, options, &argc, argv, 1, 1) || !reads_standard_input_once(self, naming, argc, argv))
+    if (!take_options(self, options, &argc, argv, 0, 1) || (argv = take_inputs(self, &argc, argv)) == NULL ||
+        !reads_standard_input_once(self, naming, argc, argv))
         return STATUS_TROUBLE;
     if (output == NULL)
         output = "-";

@@ -259,24 +259,37 @@ def article(noun):
     return found
 
 
+def due_is_right(table, match):
+    """Of a node or array that is cut: is it said how many of them the header declares?"""
+    role = named(match["record"])[0]
+    if role not in ("node", "array"):
+        return match["due"] is None
+    count = table.nodes if role == "node" else table.arrays
+    met["due: %s %s" % (min(count, 2), role)] += 1
+    return match["due"] == "%d %s" % (count, counted(count, role))
+
+
+DUE = r"(?: \(the header declares (?P<due>\d+ \w+)\))?"
+
+
 @wording(r"(?P<left>\d+) (?P<noun>bytes?) (?P<verb>remains?) at byte (?P<place>\d+), where " + RECORD +
-         r" begins; its head takes 4")
+         r" begins; its head takes 4" + DUE)
 def cut_head(table, match):
     left = int(match["left"])
     met["left %d" % left] += 1
-    true = is_there(table, match) and left == len(table.data) - int(match["place"]) < 4
+    true = is_there(table, match) and left == len(table.data) - int(match["place"]) < 4 and due_is_right(table, match)
     grammar = (match["noun"], match["verb"]) == (("byte", "remains") if left == 1 else ("bytes", "remain"))
     return ("head", int(match["place"])) if true and grammar else None
 
 
-@wording(RECORD + r" \((?:(?P<kind>\w+), )?byte (?P<place>\d+)\) is (?P<length>\d+) bytes long, and (?P<left>\d+) remain")
+@wording(RECORD + r" \((?:(?P<kind>\w+), )?byte (?P<place>\d+)\) is (?P<length>\d+) bytes long, and (?P<left>\d+) remain" + DUE)
 def cut_body(table, match):
     place, left = int(match["place"]), len(table.data) - int(match["place"])
     if not is_there(table, match) or left < 4:
         return None
     kind = KINDS.get(table.u16(place + 2), (None,))[0] if match["record"].startswith("node") else None
     true = int(match["length"]) == table.u16(place) > left == int(match["left"]) and match["kind"] == kind
-    return ("body", place) if true else None
+    return ("body", place) if true and due_is_right(table, match) else None
 
 
 @wording(RECORD + r" \(byte (?P<place>\d+)\) has kind (?P<kind>\d+)(?: \((?P<name>\w+)\))?, "
@@ -443,6 +456,7 @@ def no_free_variable(table, match):
 
 # What is counted besides the wordings: their forms.
 FORMS = (["of header", "of labels", "of array", "of node"] + ["left %d" % left for left in range(4)] +
+         ["due: %d %s" % (count, role) for count in (1, 2) for role in ("node", "array")] +
          ["declared: %d" % count for count in range(3)] + ["article a", "article an", "kind named", "kind not named"] +
          ["length %d" % length for length in range(3)] + ["too many variables", "too many arrays", "too many nodes"] +
          ["marked variable", "marked variable and more", "marked array", "marked array and more"] +

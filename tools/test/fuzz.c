@@ -45,7 +45,8 @@ static const char *const words[] = {
     "var",  "secret", "array", "x",     "y",  "v0",   "v1",   "a0",    "a1",   "f",    "[",    "]",        "(",          ")",
     ";",    ":=",     "=",     "<",     "+",  "-",    "*",    "?",     ":",    "and",  "not",  "true",     "false",      "if",
     "then", "else",   "while", "do",    "or", "skip", "0",    "1",     "7",    "65536", "--",  "4294967295", "4294967296", "\n",
-    " ",    ",",      "'",     "step",  "<=", "force", "load", "store", "@",   "rollback", "\t", ".",        "\303\244"};
+    " ",    ",",      "'",     "step",  "<=", "force", "load", "store", "@",   "rollback", "\t", ".",        "\303\244",
+    ">",    ">=",     "!=",    "==",    "0x", "ff",   "\357\273\277"};
 
 enum { WORDS = sizeof words / sizeof words[0] };
 

@@ -106,14 +106,27 @@ static struct phrase record_in_words(const struct walk *walk)
 
 /* ---- Refusals 1 and 2: the next record of a walk as a whole ---- */
 
+/* For the end of a line: how many records the header declares of the sort that the next one is, an array or a node. */
+static struct phrase due_in_words(const struct walk *walk)
+{
+    struct phrase words = {""};
+    bool is_node = walk->section == SECTION_NODES;
+    unsigned count = is_node ? walk->table.nodes : walk->table.arrays;
+    if (is_node || walk->section == SECTION_ARRAYS)
+        snprintf(words.words, sizeof words.words, " (the header declares %u %s%s)", count, is_node ? "node" : "array",
+                 plural(count));
+    return words;
+}
+
 static void say_cut(struct lines *lines, struct walk *walk)
 {
     size_t left = walk_left(walk);
+    struct phrase due = due_in_words(walk);
     if (left < RECORD_HEAD)
-        say(lines, "%zu byte%s remain%s at byte %zu, where %s begins; its head takes %d", left, plural(left),
-            left == 1 ? "s" : "", walk->place, section_in_words(walk).words, RECORD_HEAD);
+        say(lines, "%zu byte%s remain%s at byte %zu, where %s begins; its head takes %d%s", left, plural(left),
+            left == 1 ? "s" : "", walk->place, section_in_words(walk).words, RECORD_HEAD, due.words);
     else if (left < walk_length(walk))
-        say(lines, "%s is %zu bytes long, and %zu remain", record_in_words(walk).words, walk_length(walk), left);
+        say(lines, "%s is %zu bytes long, and %zu remain%s", record_in_words(walk).words, walk_length(walk), left, due.words);
 }
 
 static void say_wrong_node(struct lines *lines, const struct walk *walk)

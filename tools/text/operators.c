@@ -9,6 +9,12 @@ const struct operator operators[] = {
     {NULL, LEVEL_SINGLE, 0, 0, 0},
 };
 
+const struct foreign_operator foreign_operators[] = {
+    {"<=", "not (b < a)"}, {">", "b < a"},  {">=", "not (a < b)"},
+    {"!=", "not (a = b)"}, {"==", "a = b"}, {"or", "not (not a and not b)"},
+    {NULL, NULL},
+};
+
 const struct operator *operator_of(unsigned kind)
 {
     for (const struct operator *o = operators; o->symbol != NULL; o++)

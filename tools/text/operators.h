@@ -21,6 +21,12 @@ const struct operator *operator_of(unsigned kind);
 /* All of them; the last has no symbol. */
 extern const struct operator operators[];
 
+/* Operators of other languages: of a <= b, what is written instead.  The last has no symbol. */
+struct foreign_operator {
+    const char *symbol, *instead;
+};
+extern const struct foreign_operator foreign_operators[];
+
 /* How tightly an expression of this kind binds where it stands in text. */
 enum level level_of(unsigned kind);
 

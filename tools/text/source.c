@@ -1,5 +1,6 @@
 #include "text/source.h"
 
+#include <inttypes.h>
 #include <string.h>
 
 #include "records/assemble.h"
@@ -196,6 +197,17 @@ static struct part read_name_in_expression(struct parser *p, struct token start)
     return part_at(&start, 0, 'N');
 }
 
+/* Behind a minus that nothing stands before.  In its parentheses, what is to be written is right behind any operator. */
+static void fail_sign(struct parser *p, const struct token *sign)
+{
+    uint32_t number = p->text.next.number;
+    if (p->text.next.kind == TOKEN_NUMBER)
+        text_fail(&p->text, sign, "there is no sign: for -%" PRIu32 " write (0 - %" PRIu32 ") or %" PRIu32, number, number,
+                  -number);
+    else
+        text_fail(&p->text, sign, "there is no sign: for -a write (0 - a)");
+}
+
 /* What operators stand between: a number, a variable, a constant, not .., or an expression in parentheses. */
 static struct part read_operand(struct parser *p)
 {
@@ -211,8 +223,10 @@ static struct part read_operand(struct parser *p)
         want(p, &inner, 'T');
         return part_at(&start, put_node(p, FLOW_NOT, inner.node, 0, 0), 'T');
     }
-    bool is_true = text_is(text, "true"), is_false = text_is(text, "false");
+    bool is_true = text_is(text, "true"), is_false = text_is(text, "false"), is_sign = text_is(text, "-");
     text_take(text);
+    if (is_sign)
+        fail_sign(p, &start);
     if (is_true || is_false)
         return part_at(&start, put_node(p, FLOW_CONSTANT, is_true, 0, 0), 'T');
     if (start.kind == TOKEN_NUMBER)
@@ -226,6 +240,13 @@ static const struct operator *next_operator(const struct parser *p, enum level w
         if (o->level >= weakest && text_is(&p->text, o->symbol))
             return o;
     return NULL;
+}
+
+static void fail_foreign(struct parser *p)
+{
+    for (const struct foreign_operator *o = foreign_operators; o->symbol != NULL; o++)
+        if (text_is(&p->text, o->symbol))
+            text_fail(&p->text, &p->text.next, "there is no '%s': for a %s b write %s", o->symbol, o->symbol, o->instead);
 }
 
 static struct part read_choice(struct parser *p, struct part condition)
@@ -256,8 +277,7 @@ static struct part read_expression(struct parser *p, enum level weakest)
         left.node = put_node(p, operator->kind, left.node, right.node, 0);
         left.sort = operator->result;
     }
-    if (text_is(&p->text, "or"))
-        text_fail(&p->text, &p->text.next, "there is no 'or': a or b is not (not a and not b)");
+    fail_foreign(p);
     if (weakest == LEVEL_CHOICE && text_accept(&p->text, "?"))
         left = read_choice(p, left);
     p->nested--;
@@ -276,16 +296,32 @@ static unsigned read_sort(struct parser *p, char sort)
 static unsigned read_command(struct parser *p);
 static unsigned read_single(struct parser *p);
 
+/* Takes a semicolon.  Where no command can follow, it is one too many. */
+static bool accept_semicolon(struct parser *p)
+{
+    if (!text_accept(&p->text, ";"))
+        return false;
+    if (p->text.next.kind == TOKEN_END || text_is(&p->text, ")") || text_is(&p->text, "else"))
+        text_fail(&p->text, &p->text.last, "a ';' joins two commands, and none follows this one");
+    return true;
+}
+
+/* Behind the first side of an if: a semicolon there is one too many, or belongs to a sequence without parentheses. */
+static void read_else(struct parser *p)
+{
+    struct token next = p->text.next;
+    if (accept_semicolon(p) || !text_accept(&p->text, "else"))
+        text_fail(&p->text, &next,
+                  "'else' is wanted here, not %s ('else skip' does nothing; a sequence stands in parentheses)",
+                  token_in_words(&next).words);
+}
+
 static unsigned read_if(struct parser *p)
 {
     unsigned condition = read_sort(p, 'T');
     text_expect(&p->text, "then");
     unsigned yes = read_single(p);
-    if (!text_is(&p->text, "else"))
-        text_fail(&p->text, &p->text.next,
-                  "'else' is wanted here, not %s ('else skip' does nothing; a sequence stands in parentheses)",
-                  token_in_words(&p->text.next).words);
-    text_expect(&p->text, "else");
+    read_else(p);
     unsigned no = read_single(p);
     return put_node(p, FLOW_IF, condition, yes, no);
 }
@@ -372,7 +408,7 @@ static unsigned read_command(struct parser *p)
     if (!enter(p))
         return 0;
     unsigned node = read_single(p);
-    if (text_accept(&p->text, ";")) {
+    if (accept_semicolon(p)) {
         unsigned rest = read_command(p);
         node = put_node(p, FLOW_SEQUENCE, node, rest, 0);
     }

@@ -1,5 +1,6 @@
 #include "text/text.h"
 
+#include <inttypes.h>
 #include <stdarg.h>
 #include <string.h>
 
@@ -58,26 +59,61 @@ static void read_name(struct text *text, struct token *token)
         token->length++;
 }
 
-static void read_number(struct text *text, struct token *token)
+/* The value of a digit; 16: it is none. */
+static unsigned digit_value(int c)
+{
+    if (is_digit(c))
+        return (unsigned)(c - '0');
+    return c >= 'a' && c <= 'f' ? (unsigned)(c - 'a') + 10 : c >= 'A' && c <= 'F' ? (unsigned)(c - 'A') + 10 : 16;
+}
+
+/* Takes the digits that are next into the token.  Beyond 32 bits, it matters no more how far. */
+static uint64_t read_digits(const struct text *text, struct token *token, unsigned base)
 {
     uint64_t number = 0;
-    token->kind = TOKEN_NUMBER;
-    for (; is_digit(peek(text, token->length)); token->length++)
+    for (unsigned digit; (digit = digit_value(peek(text, token->length))) < base; token->length++)
         if (number <= UINT32_MAX)
-            number = 10 * number + (uint64_t)(peek(text, token->length) - '0');
+            number = base * number + digit;
+    return number;
+}
+
+/* 0x10, as other languages have it. */
+static bool starts_hexadecimal(const struct text *text)
+{
+    return peek(text, 0) == '0' && (peek(text, 1) == 'x' || peek(text, 1) == 'X') && digit_value(peek(text, 2)) < 16;
+}
+
+static void read_number(struct text *text, struct token *token)
+{
+    bool hexadecimal = starts_hexadecimal(text);
+    token->kind = TOKEN_NUMBER;
+    token->length = hexadecimal ? 2 : 0;
+    uint64_t number = read_digits(text, token, hexadecimal ? 16 : 10);
     if (number > UINT32_MAX)
         text_fail(text, token, "%s is above 4294967295", token_in_words(token).words);
     else if (in_name(peek(text, token->length)))
         text_fail(text, token, "a number runs into a name");
+    else if (hexadecimal)
+        text_fail(text, token, "numbers are decimal: for %s write %" PRIu64, token_in_words(token).words, number);
     token->number = (uint32_t)number;
 }
 
 static bool is_symbol(int c)
 {
-    return c > 0 && strchr("+-*=<?:;,()[]", c) != NULL;
+    return c > 0 && strchr("+-*=<>?:;,()[]", c) != NULL;
 }
 
-/* One byte, and := as well; two that are an operator elsewhere are no two symbols. */
+static void fail_outside_ascii(struct text *text, const struct token *token)
+{
+    static const char mark[] = {'\xef', '\xbb', '\xbf'};
+    size_t left = (size_t)(text->end - text->at);
+    if (text->at == text->start && left >= sizeof mark && memcmp(text->at, mark, sizeof mark) == 0)
+        text_fail(text, token, "the text begins with a byte order mark (ef bb bf): save it without one");
+    else
+        text_fail(text, token, "byte %d: only printable ASCII may stand outside comments", peek(text, 0));
+}
+
+/* One byte, or two that are an operator here or elsewhere: whoever reads it says what is to be written instead. */
 static void read_symbol(struct text *text, struct token *token)
 {
     int c = peek(text, 0), then = peek(text, 1);
@@ -86,8 +122,8 @@ static void read_symbol(struct text *text, struct token *token)
     if (c == '-' && then == '-')
         text_fail(text, token, "a blank is wanted before '--', which begins a comment");
     else if (c < ' ' || c > '~')
-        text_fail(text, token, "byte %d: only printable ASCII may stand outside comments", c);
-    else if (!is_symbol(c) || (token->length == 2 && c != ':'))
+        fail_outside_ascii(text, token);
+    else if (token->length == 1 && !is_symbol(c))
         text_fail(text, token, "%s is no word of the language", token_in_words(token).words);
 }
 
