@@ -2,6 +2,8 @@
 # (rt ci proves the crates; bench/ has a Makefile of its own.)
 #
 #   make            build/flow
+#   make demo       a program of examples/, from its text to an attack before and after hardening
+#   make test       all tests: rt ci, then make check
 #   make check      every test of the command (SEED=..)
 #   make costs      what each command costs, as Markdown
 #   make install    to $(DESTDIR)$(PREFIX): the command, its man page, flow.h, flow_words.h, libflow.a, libflow.so.1 and flow.pc
@@ -25,6 +27,15 @@ objects = $(patsubst %.c,$(BUILD)/%.o,$(1))
 
 $(BUILD)/flow: $(call objects,$(SOURCES)) $(LIBRARY)
 	$(CC) $(LDFLAGS) -o $@ $^
+
+demo: $(BUILD)/flow
+	@sh tools/demo.sh $(BUILD)
+
+# rt ci removes target/, and so the library: a make of its own sees that after it.
+test:
+	$(want_rt)
+	rt ci
+	$(MAKE) check
 
 # Tests: programs of tools/test over the command's own parts and the bench's generator.
 PARTS = $(filter-out tools/flow.c,$(SOURCES))
@@ -65,7 +76,8 @@ check-fuzz:
 	ASAN_OPTIONS=log_path=stdout UBSAN_OPTIONS=log_path=stdout timeout 120 $(SANITIZED)/test/fuzz $(SEED) 2>/dev/null
 	python3 tools/test/transcripts.py $(SANITIZED) $(filter-out %/failing_calls.txt,$(wildcard tools/test/*.txt))
 
-$(BUILD)/%.o: %.c
+# The library comes first: where it cannot be built, nothing is begun.
+$(BUILD)/%.o: %.c | $(LIBRARY)
 	@mkdir -p $(@D)
 	$(CC) $(CFLAGS) $(CPPFLAGS) -MMD -MP -c $< -o $@
 
@@ -103,6 +115,7 @@ clean:
 
 -include $(shell find $(BUILD) -name '*.d' 2>/dev/null)
 
+.PHONY: demo test
 .PHONY: all check check-transcripts check-round-trips check-explain check-fuzz check-install costs install clean always
 .DELETE_ON_ERROR:
 # objects are kept; the library is not among them, since a secondary file that is missing is not made again
