@@ -49,14 +49,14 @@ static bool takes_name(const struct option *option)
     return strcmp(option->name, "--budget") != 0;
 }
 
-/* Is the argument behind an option its value?  False, with a message: it is another option, or a name that looks like one. */
+/* Is the argument behind an option its value?  False, with a message: it is NULL, an option, or a name that looks like one. */
 static bool is_value(const struct command *self, const struct option *options, const struct option *option,
                      const char *argument)
 {
     const char *value;
-    if (!looks_like_option(argument))
+    if (argument != NULL && !looks_like_option(argument))
         return true;
-    if (strcmp(argument, "--") == 0 || option_named(options, argument, &value) != NULL)
+    if (argument == NULL || strcmp(argument, "--") == 0 || option_named(options, argument, &value) != NULL)
         misused(self, "%s lacks its value", option->name);
     else if (takes_name(option))
         misused(self, "%s %s: a name that begins with - is given as ./%s", option->name, argument, argument);
@@ -78,9 +78,7 @@ static int take_option(const struct command *self, const struct option *options,
         return *option->given = true, 1;
     if (value != NULL && *value == '=' && argv[0][1] != '-')
         return misused(self, "%s: no = stands between %s and its value", argv[0], option->name), 0;
-    if (value == NULL && left < 2)
-        return misused(self, "%s lacks its value", option->name), 0;
-    if (value == NULL && !is_value(self, options, option, argv[1]))
+    if (value == NULL && !is_value(self, options, option, left > 1 ? argv[1] : NULL))
         return 0;
     *option->value = value != NULL ? value : argv[1];
     return value != NULL ? 1 : 2;

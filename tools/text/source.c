@@ -242,11 +242,19 @@ static const struct operator *next_operator(const struct parser *p, enum level w
     return NULL;
 }
 
-static void fail_foreign(struct parser *p)
+static const struct foreign_operator *next_foreign(const struct parser *p)
 {
     for (const struct foreign_operator *o = foreign_operators; o->symbol != NULL; o++)
         if (text_is(&p->text, o->symbol))
-            text_fail(&p->text, &p->text.next, "there is no '%s': for a %s b write %s", o->symbol, o->symbol, o->instead);
+            return o;
+    return NULL;
+}
+
+static void refuse_foreign(struct parser *p)
+{
+    const struct foreign_operator *o = next_foreign(p);
+    if (o != NULL)
+        text_fail(&p->text, &p->text.next, "there is no '%s': for a %s b write %s", o->symbol, o->symbol, o->instead);
 }
 
 static struct part read_choice(struct parser *p, struct part condition)
@@ -277,7 +285,7 @@ static struct part read_expression(struct parser *p, enum level weakest)
         left.node = put_node(p, operator->kind, left.node, right.node, 0);
         left.sort = operator->result;
     }
-    fail_foreign(p);
+    refuse_foreign(p);
     if (weakest == LEVEL_CHOICE && text_accept(&p->text, "?"))
         left = read_choice(p, left);
     p->nested--;
@@ -361,7 +369,7 @@ static unsigned read_assignment(struct parser *p, uint32_t variable)
         text_fail(&p->text, &name, "%s is an array: a cell of it is %.*s[..]", token_in_words(&name).words, (int)name.length,
                   name.at);
     unsigned index = read_index(p);
-    if (next_operator(p, LEVEL_CHOICE) != NULL || text_is(&p->text, "?"))
+    if (next_operator(p, LEVEL_CHOICE) != NULL || next_foreign(p) != NULL || text_is(&p->text, "?"))
         text_fail(&p->text, &p->text.next, "an array is read by a command of its own: nothing may stand behind it");
     return put_node(p, FLOW_READ, variable, (uint32_t)array, index);
 }
