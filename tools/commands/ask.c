@@ -119,7 +119,7 @@ static int run_ask(const struct command *self, int argc, char **argv)
     const struct option options[] = {{"--flag", &naming.flag, NULL}, {"--names", NULL, &naming.source}, {NULL, NULL, NULL}};
     struct open_table opened;
     struct buffer questions = {0};
-    if (!take_options(self, options, &argc, argv, 3, INT_MAX) || !reads_standard_input_once(self, naming, 1, argv))
+    if (!take_options(self, options, &argc, argv, 3, INT_MAX) || !are_inputs_in_order(self, naming, 1, argv, "-"))
         return STATUS_TROUBLE;
     if (argc % 2 == 0)
         return misused(self, "node %s lacks its variable", argv[argc - 1]);

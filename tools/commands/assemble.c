@@ -4,6 +4,7 @@
 #include "commands/command.h"
 #include "files/files.h"
 #include "files/messages.h"
+#include "files/outputs.h"
 #include "files/paths.h"
 #include "library/calls.h"
 #include "text/faults.h"
@@ -48,9 +49,11 @@ static int run_assemble(const struct command *self, int argc, char **argv)
     if (output == NULL)
         output = "-";
     if (is_written_over(argv[0], output)) {
-        complain(output, "would be written over its own source");
+        complain(output_name(output), "would be written over its own source");
         return STATUS_TROUBLE;
     }
+    if (!takes_bytes(output))
+        return STATUS_TROUBLE;
     return assemble_file(argv[0], output);
 }
 

@@ -263,7 +263,7 @@ static int run_attack(const struct command *self, int argc, char **argv)
                                      {"--names", NULL, &attack.naming.source},
                                      {NULL, NULL, NULL}};
     if (!take_options(self, options, &argc, argv, 4, 4) || !take_budget(self, budget, &attack.budget) ||
-        !reads_standard_input_once(self, attack.naming, argc, argv))
+        !are_inputs_in_order(self, attack.naming, argc, argv, "-"))
         return STATUS_TROUBLE;
     if (attack.harden && attack.naming.flag)
         return misused(self, "--harden and --flag exclude each other: a table that has a flag is hardened already");

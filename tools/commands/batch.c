@@ -6,8 +6,8 @@
 #include <sys/stat.h>
 
 #include "files/messages.h"
+#include "files/outputs.h"
 #include "files/paths.h"
-#include "records/buffer.h"
 
 char *batch_out(const struct batch *batch, size_t i)
 {
@@ -49,18 +49,31 @@ static bool are_base_names_distinct(const struct batch *batch)
 
 static bool complain_of(const char *path, const char *message)
 {
-    complain(path, "%s; nothing is hardened", message);
+    complain(output_name(path), "%s; nothing is hardened", message);
     return false;
 }
 
-static bool is_link_in_order(const char *path)
+/* An input must have a name too, for its output to go into the folder by. */
+static bool are_names_of_files(const struct batch *batch)
 {
+    for (size_t i = 0; i < batch->count; i++) {
+        const char *name = batch->files[i];
+        if (*name == 0 || names_folder(name))
+            return complain_of(name, *name == 0 ? "is no name" : "is the name of a folder, and not of a table");
+    }
+    return true;
+}
+
+static bool is_name_in_order(const char *path)
+{
+    if (names_folder(path))
+        return complain_of(path, "is the name of a folder, and not of a file");
     return !leads_nowhere(path) || complain_of(path, "is a link that leads nowhere");
 }
 
 static bool is_out_in_order(const struct batch *batch, const char *out, const struct file_set *inputs)
 {
-    if (!is_link_in_order(out))
+    if (!is_name_in_order(out))
         return false;
     if (file_set_holds(inputs, out))
         return complain_of(out, "would be written and is read too");
@@ -73,8 +86,11 @@ static bool is_out_in_order(const struct batch *batch, const char *out, const st
 
 static bool is_report_in_order(const struct batch *batch, const struct file_set *inputs)
 {
-    if (!is_link_in_order(batch->report))
+    struct stat there;
+    if (!is_name_in_order(batch->report))
         return false;
+    if (!is_dash(batch->report) && stat(batch->report, &there) == 0 && S_ISDIR(there.st_mode))
+        return complain_of(batch->report, "is a folder, and not a file"); /* else all would be done before that shows */
     if (file_set_holds(inputs, batch->report))
         return complain_of(batch->report, "would be written and is read too");
     if (batch->into != NULL && is_one_output("-", batch->report))
@@ -109,22 +125,33 @@ static bool are_outs_in_order(const struct batch *batch, const struct file_set *
     return in_order;
 }
 
-static bool are_inputs_in_order(const struct batch *batch)
+/* Of many tables a line each goes there. */
+static bool is_standard_output_in_order(const struct file_set *inputs)
 {
-    for (size_t i = 0; i < batch->count; i++)
-        if (!is_link_in_order(batch->files[i]))
-            return false;
-    return true;
+    return !file_set_holds(inputs, "-") || complain_of("-", "would be written and is read too");
+}
+
+static bool are_files_in_order(const struct batch *batch)
+{
+    struct file_set inputs;
+    file_set_of_inputs(&inputs, batch->files, batch->count);
+    bool in_order = are_outs_in_order(batch, &inputs) && (batch->into == NULL || is_standard_output_in_order(&inputs)) &&
+                    (batch->report == NULL || is_report_in_order(batch, &inputs));
+    file_set_free(&inputs);
+    return in_order;
 }
 
 bool batch_is_in_order(const struct batch *batch)
 {
-    struct file_set inputs;
-    if (batch->into != NULL && (!is_folder(batch->into) || !are_base_names_distinct(batch)))
-        return false;
-    file_set_of_inputs(&inputs, batch->files, batch->count);
-    bool in_order = are_inputs_in_order(batch) && are_outs_in_order(batch, &inputs) &&
-                    (batch->report == NULL || is_report_in_order(batch, &inputs));
-    file_set_free(&inputs);
-    return in_order;
+    bool in_order = batch->into != NULL ? is_folder(batch->into) && are_names_of_files(batch) && are_base_names_distinct(batch)
+                                        : takes_bytes(batch->out);
+    return in_order && are_files_in_order(batch);
+}
+
+void batch_note_dangling(const struct batch *batch, struct buffer *dangling)
+{
+    for (size_t i = 0; i < batch->count; i++) {
+        uint8_t byte = leads_nowhere(batch->files[i]);
+        buffer_append(dangling, &byte, 1);
+    }
 }

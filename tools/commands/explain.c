@@ -6,6 +6,7 @@
 #include "commands/command.h"
 #include "files/files.h"
 #include "files/messages.h"
+#include "files/outputs.h"
 #include "files/paths.h"
 #include "flow_words.h"
 #include "library/calls.h"
@@ -67,6 +68,15 @@ static int explain_table(const char *path)
     return status;
 }
 
+/* Before anything is printed: no table would be written over by what is said of one before it. */
+static bool spares_all(int count, char **paths)
+{
+    for (int i = 0; i < count; i++)
+        if (!spares_input("-", paths[i]))
+            return false;
+    return true;
+}
+
 static int run_explain(const struct command *self, int argc, char **argv)
 {
     const struct option none[] = {{NULL, NULL, NULL}};
@@ -75,6 +85,8 @@ static int run_explain(const struct command *self, int argc, char **argv)
         return STATUS_TROUBLE;
     if (count_dashes(argv, (size_t)argc) > 1)
         return misused(self, "standard input can be read once only");
+    if (!spares_all(argc, argv))
+        return STATUS_TROUBLE;
     for (int i = 0; i < argc; i++) {
         int status = explain_table(argv[i]);
         worst = status > worst ? status : worst;

@@ -8,7 +8,8 @@
 #include "commands/command.h"
 #include "commands/hardening.h"
 #include "commands/report.h"
-#include "files/files.h"
+#include "files/draft.h"
+#include "files/interrupts.h"
 #include "files/messages.h"
 #include "files/paths.h"
 #include "text/faults.h"
@@ -22,60 +23,116 @@ static const char usage[] =
     "  --into FOLDER   each hardened table goes to a file of the same name in this folder\n"
     "  --report FILE   a line for each table, tab-separated: name, SHA-256 in and out, refusal, place, nodes in and out\n";
 
-/* Of many: a line for each, and a word where an older file of the table's name could be taken for its result. */
-static void print_one(const struct hardening *hardening, const char *out)
+/* A call of flow harden at work. */
+struct work {
+    const struct batch *batch;
+    struct buffer dangling; /* a byte for each table */
+    struct report report;
+    size_t ended[ENDINGS];  /* how many tables ended so */
+    bool unheard;           /* a line could not be printed: nobody is there to be told more */
+};
+
+/* ---- Lines ---- */
+
+/* Of many, each has its line.  It goes out at once, also into a pipe. */
+static bool print_line(const struct hardening *hardening)
 {
-    if (is_refused(hardening))
-        print_refusal(stdout, hardening->name, &hardening->table, hardening->answer);
+    struct draft line;
+    if (!draft_open(&line, "-"))
+        return false;
+    if (hardening->ending == ENDED_REFUSED)
+        print_refusal(line.to, hardening->name, &hardening->table, hardening->answer);
     else
-        print_name(stdout, hardening->name);
-    if (hardening->written)
-        printf(": %u -> %u nodes, %zu bytes\n", hardening->nodes_in, hardening->nodes_out, hardening->hardened.length);
-    else if (!is_refused(hardening))
-        printf(": failed\n");
-    if ((is_refused(hardening) || !hardening->read) && access(out, F_OK) == 0)
+        print_name(line.to, hardening->name);
+    if (hardening->ending == ENDED_HARDENED)
+        fprintf(line.to, ": %u -> %u nodes, %zu bytes\n", hardening->nodes_in, hardening->nodes_out, hardening->hardened.length);
+    else if (hardening->ending == ENDED_FAILED)
+        fprintf(line.to, ": failed\n");
+    return draft_write(&line, "-");
+}
+
+static bool print_counts(const size_t ended[ENDINGS])
+{
+    struct draft line;
+    if (!draft_open(&line, "-"))
+        return false;
+    fprintf(line.to, "%zu hardened, %zu refused", ended[ENDED_HARDENED], ended[ENDED_REFUSED]);
+    if (ended[ENDED_FAILED] > 0)
+        fprintf(line.to, ", %zu failed", ended[ENDED_FAILED]);
+    if (ended[ENDED_INTERRUPTED] > 0)
+        fprintf(line.to, ", %zu interrupted", ended[ENDED_INTERRUPTED]);
+    fputc('\n', line.to);
+    return draft_write(&line, "-");
+}
+
+/* An older file of the table's name could be taken for its result. */
+static void name_older_file(const struct hardening *hardening, const char *out)
+{
+    if ((hardening->ending == ENDED_REFUSED || !hardening->read) && access(out, F_OK) == 0)
         complain(out, "is from before: the table of this name is not hardened now");
 }
 
-/* Hardens table number i; a single one speaks of a refusal alone.  Returns the exit status for this table. */
-static int harden_one(const struct batch *batch, size_t i, struct report *report)
+/* A single table speaks of a refusal alone; of one that was interrupted the count and the report speak. */
+static void tell(struct work *work, const struct hardening *hardening, const char *out)
 {
-    struct hardening hardening;
-    char *out = batch_out(batch, i);
-    harden_file(&hardening, batch->files[i]);
-    bool refused = is_refused(&hardening);
-    if (hardening.read && !refused)
-        hardening.written = write_file(out, hardening.hardened.bytes, hardening.hardened.length);
-    if (batch->into != NULL)
-        print_one(&hardening, out);
-    else if (refused)
-        print_refusal(stderr, hardening.name, &hardening.table, hardening.answer);
-    report_add(report, &hardening);
-    int status = hardening.written ? STATUS_DONE : refused ? STATUS_REFUSED : STATUS_TROUBLE;
-    hardening_free(&hardening);
-    free(out);
-    return status;
+    if (work->batch->into != NULL && hardening->ending != ENDED_INTERRUPTED) {
+        work->unheard = !print_line(hardening);
+        name_older_file(hardening, out);
+    } else if (hardening->ending == ENDED_REFUSED)
+        print_refusal(stderr, hardening->name, &hardening->table, hardening->answer);
 }
 
-static int harden_all(const struct batch *batch, struct report *report)
+/* ---- Tables ---- */
+
+static void harden_one(struct work *work, size_t i)
 {
-    size_t ended[STATUS_TROUBLE + 1] = {0};
-    for (size_t i = 0; i < batch->count; i++)
-        ended[harden_one(batch, i, report)]++;
-    printf("%zu hardened, %zu refused", ended[STATUS_DONE], ended[STATUS_REFUSED]);
-    if (ended[STATUS_TROUBLE] > 0)
-        printf(", %zu failed", ended[STATUS_TROUBLE]);
-    putchar('\n');
-    return ended[STATUS_TROUBLE] > 0 ? STATUS_TROUBLE : ended[STATUS_REFUSED] > 0 ? STATUS_REFUSED : STATUS_DONE;
+    struct hardening hardening = {.name = work->batch->files[i], .ending = ENDED_FAILED};
+    char *out = batch_out(work->batch, i);
+    if (work->dangling.bytes[i])
+        complain(hardening.name, "is a link that leads nowhere");
+    else
+        harden_file(&hardening, hardening.name, out);
+    work->ended[hardening.ending]++;
+    report_add(&work->report, &hardening);
+    tell(work, &hardening, out);
+    hardening_free(&hardening);
+    free(out);
+}
+
+static void leave_out(struct work *work, size_t i)
+{
+    const struct hardening hardening = {.name = work->batch->files[i], .ending = ENDED_INTERRUPTED};
+    work->ended[hardening.ending]++;
+    report_add(&work->report, &hardening);
+}
+
+static void harden_all(struct work *work)
+{
+    for (size_t i = 0; i < work->batch->count; i++)
+        (is_interrupted() || work->unheard ? leave_out : harden_one)(work, i);
+    if (work->batch->into != NULL && !work->unheard)
+        work->unheard = !print_counts(work->ended);
+}
+
+static int status_of(const struct work *work)
+{
+    if (work->unheard || work->ended[ENDED_FAILED] > 0)
+        return STATUS_TROUBLE;
+    return work->ended[ENDED_REFUSED] > 0 ? STATUS_REFUSED : STATUS_DONE;
 }
 
 static int harden_batch(const struct batch *batch)
 {
-    struct report report;
-    if (!batch_is_in_order(batch) || !report_open(&report, batch->report))
+    struct work work = {.batch = batch};
+    if (!batch_is_in_order(batch) || !report_open(&work.report, batch->report))
         return STATUS_TROUBLE;
-    int status = batch->into != NULL ? harden_all(batch, &report) : harden_one(batch, 0, &report);
-    return report_close(&report) ? status : STATUS_TROUBLE;
+    batch_note_dangling(batch, &work.dangling);
+    note_interrupts();
+    harden_all(&work);
+    bool reported = report_close(&work.report);
+    buffer_free(&work.dangling);
+    end_by_interrupt();
+    return reported ? status_of(&work) : STATUS_TROUBLE;
 }
 
 static int run_harden(const struct command *self, int argc, char **argv)

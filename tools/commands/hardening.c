@@ -1,6 +1,7 @@
 #include "commands/hardening.h"
 
 #include "files/files.h"
+#include "files/interrupts.h"
 #include "records/table.h"
 
 static unsigned nodes_of(const struct buffer *accepted)
@@ -19,26 +20,31 @@ static bool is_readable(const struct buffer *table)
     return answer.refusal == FLOW_ACCEPTED;
 }
 
-void harden_file(struct hardening *hardening, const char *name)
+static enum ending ending_of(bool done)
+{
+    return done ? ENDED_HARDENED : is_interrupted() ? ENDED_INTERRUPTED : ENDED_FAILED;
+}
+
+void harden_file(struct hardening *hardening, const char *name, const char *out)
 {
     *hardening = (struct hardening){.name = name};
     hardening->read = read_file(name, &hardening->table);
-    if (!hardening->read)
+    if (!hardening->read) {
+        hardening->ending = ending_of(false);
         return;
+    }
     hardening->answer = harden_table(&hardening->table, &hardening->hardened);
-    if (!is_refused(hardening))
+    bool refused = hardening->answer.refusal != FLOW_ACCEPTED;
+    if (!refused)
         hardening->nodes_out = nodes_of(&hardening->hardened);
-    if (!is_refused(hardening) || is_readable(&hardening->table))
+    if (!refused || is_readable(&hardening->table))
         hardening->nodes_in = nodes_of(&hardening->table);
+    hardening->ending =
+        refused ? ENDED_REFUSED : ending_of(write_file(out, hardening->hardened.bytes, hardening->hardened.length));
 }
 
 void hardening_free(struct hardening *hardening)
 {
     buffer_free(&hardening->table);
     buffer_free(&hardening->hardened);
-}
-
-bool is_refused(const struct hardening *hardening)
-{
-    return hardening->read && hardening->answer.refusal != FLOW_ACCEPTED;
 }

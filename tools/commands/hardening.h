@@ -1,4 +1,4 @@
-/* One table hardened: what its file holds and what comes of it, in memory. */
+/* One table hardened: what its file holds, what comes of it, and how that ended. */
 #ifndef HARDENING_H
 #define HARDENING_H
 
@@ -6,19 +6,25 @@
 
 #include "library/calls.h"
 
+enum ending {
+    ENDED_HARDENED,
+    ENDED_REFUSED,     /* by the library */
+    ENDED_FAILED,      /* it could not be read, or what came of it not be written */
+    ENDED_INTERRUPTED, /* a signal came before it was done */
+    ENDINGS
+};
+
 struct hardening {
     const char *name; /* the file's, as given */
+    enum ending ending;
     bool read;        /* if it could not be, nothing below is known */
     struct answer answer;
     struct buffer table, hardened;
     unsigned nodes_in, nodes_out; /* 0: not known, as every table that reads has a node */
-    bool written;                 /* by the caller, to where it wants the hardened table */
 };
 
-/* A file that cannot be read gives a message.  The caller frees, whatever came of it. */
-void harden_file(struct hardening *hardening, const char *name);
+/* From one file to another.  One that cannot be read or written gives a message.  The caller frees, whatever came of it. */
+void harden_file(struct hardening *hardening, const char *name, const char *out);
 void hardening_free(struct hardening *hardening);
-
-bool is_refused(const struct hardening *hardening);
 
 #endif

@@ -29,7 +29,7 @@ static int run_list(const struct command *self, int argc, char **argv)
         {"--nodes", &nodes, NULL}, {"--flag", &naming.flag, NULL}, {"--names", NULL, &naming.source}, {NULL, NULL, NULL}};
     struct open_table opened;
     if (!take_options(self, options, &argc, argv, 0, 1) || (argv = take_inputs(self, &argc, argv)) == NULL ||
-        !reads_standard_input_once(self, naming, argc, argv))
+        !are_inputs_in_order(self, naming, argc, argv, "-"))
         return STATUS_TROUBLE;
     int status = open_table(&opened, argv[0], naming);
     if (status == STATUS_DONE && nodes)

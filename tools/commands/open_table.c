@@ -4,6 +4,7 @@
 
 #include "files/files.h"
 #include "files/messages.h"
+#include "files/outputs.h"
 #include "files/paths.h"
 #include "text/faults.h"
 #include "text/source.h"
@@ -113,7 +114,9 @@ unsigned state_variables(const struct open_table *opened, struct naming naming)
     return naming.flag && opened->table.variables > 0 ? opened->table.variables - 1 : opened->table.variables;
 }
 
-bool reads_standard_input_once(const struct command *self, struct naming naming, int argc, char **argv)
+/* ---- Inputs ---- */
+
+static bool reads_standard_input_once(const struct command *self, struct naming naming, int argc, char **argv)
 {
     int times = naming.source != NULL && is_dash(naming.source);
     for (int i = 0; i < argc; i++)
@@ -121,4 +124,15 @@ bool reads_standard_input_once(const struct command *self, struct naming naming,
     if (times > 1)
         misused(self, "standard input can be read once only");
     return times <= 1;
+}
+
+bool are_inputs_in_order(const struct command *self, struct naming naming, int argc, char **argv, const char *output)
+{
+    if (!reads_standard_input_once(self, naming, argc, argv) ||
+        (naming.source != NULL && !spares_input(output, naming.source)) || !spares_input(output, argv[0]))
+        return false;
+    for (int i = 1; i < argc; i++)
+        if (argv[i][0] == '@' && !spares_input(output, argv[i] + 1))
+            return false;
+    return true;
 }

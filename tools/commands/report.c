@@ -1,11 +1,7 @@
 #include "commands/report.h"
 
-#include <errno.h>
 #include <inttypes.h>
-#include <stdlib.h>
-#include <string.h>
 
-#include "files/files.h"
 #include "files/messages.h"
 #include "files/sha256.h"
 
@@ -16,10 +12,9 @@ bool report_open(struct report *report, const char *path)
     *report = (struct report){.path = path};
     if (path == NULL)
         return true;
-    report->lines = open_memstream(&report->text, &report->length);
-    if (report->lines == NULL)
-        return complain(path, "%s", strerror(errno)), false;
-    fputs(header, report->lines);
+    if (!draft_open(&report->lines, path))
+        return false;
+    fputs(header, report->lines.to);
     return true;
 }
 
@@ -41,31 +36,31 @@ static void print_number(FILE *to, bool known, uint64_t number)
 }
 
 /* A hardened table that could not be written is nowhere: its line says neither that it is hardened nor that it is refused. */
-void report_add(struct report *report, const struct hardening *hardening)
+static void print_columns(FILE *to, const struct hardening *hardening)
 {
-    FILE *to = report->lines;
-    bool refused = is_refused(hardening);
-    if (to == NULL)
-        return;
-    print_name(to, hardening->name);
+    bool refused = hardening->ending == ENDED_REFUSED, written = hardening->ending == ENDED_HARDENED;
     print_digest(to, hardening->read, &hardening->table);
-    print_digest(to, hardening->written, &hardening->hardened);
-    print_number(to, refused || hardening->written, hardening->answer.refusal);
+    print_digest(to, written, &hardening->hardened);
+    print_number(to, refused || written, hardening->answer.refusal);
     print_number(to, refused, hardening->answer.second);
     print_number(to, hardening->nodes_in > 0, hardening->nodes_in);
-    print_number(to, hardening->written, hardening->nodes_out);
+    print_number(to, written, hardening->nodes_out);
+}
+
+void report_add(struct report *report, const struct hardening *hardening)
+{
+    FILE *to = report->lines.to;
+    if (report->path == NULL)
+        return;
+    print_name(to, hardening->name);
+    if (hardening->ending == ENDED_INTERRUPTED)
+        fputs("\t-\t-\tinterrupted\t-\t-\t-", to);
+    else
+        print_columns(to, hardening);
     fputc('\n', to);
 }
 
 bool report_close(struct report *report)
 {
-    if (report->lines == NULL)
-        return true;
-    bool whole = !ferror(report->lines);
-    whole = fclose(report->lines) == 0 && whole;
-    if (!whole)
-        complain(report->path, "there is no memory for the report");
-    bool written = whole && write_file(report->path, (const uint8_t *)report->text, report->length);
-    free(report->text);
-    return written;
+    return report->path == NULL || draft_write(&report->lines, report->path);
 }

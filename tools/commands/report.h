@@ -3,15 +3,13 @@
 #define REPORT_H
 
 #include <stdbool.h>
-#include <stdio.h>
 
 #include "commands/hardening.h"
+#include "files/draft.h"
 
 struct report {
-    const char *path;
-    FILE *lines;
-    char *text; /* the lines, once they are closed */
-    size_t length;
+    const char *path; /* or NULL */
+    struct draft lines;
 };
 
 /* Starts a report for this path; for NULL one that nobody wants, of which nothing is kept.  False: there is no memory for it. */

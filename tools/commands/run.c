@@ -65,7 +65,7 @@ static int run_run(const struct command *self, int argc, char **argv)
     struct open_table opened;
     struct state state = {0};
     if (!take_options(self, options, &argc, argv, 2, 2) || !take_budget(self, budget_value, &budget) ||
-        !reads_standard_input_once(self, naming, argc, argv))
+        !are_inputs_in_order(self, naming, argc, argv, "-"))
         return STATUS_TROUBLE;
     int status = open_table(&opened, argv[0], naming);
     if (status == STATUS_DONE)

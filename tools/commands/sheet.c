@@ -1,14 +1,11 @@
 /* flow sheet: a table's label sheet. */
-#include <errno.h>
 #include <stdio.h>
-#include <stdlib.h>
-#include <string.h>
 
 #include "commands/command.h"
 #include "commands/open_table.h"
+#include "files/draft.h"
 #include "files/files.h"
-#include "files/messages.h"
-#include "files/paths.h"
+#include "files/outputs.h"
 #include "text/labels.h"
 
 static const char usage[] =
@@ -20,20 +17,11 @@ static const char usage[] =
 
 static int write_words(const struct open_table *opened, const char *output)
 {
-    char *words = NULL;
-    size_t length = 0;
-    FILE *stream = open_memstream(&words, &length);
-    bool printed = stream != NULL;
-    if (printed) {
-        print_sheet(stream, &opened->names, &opened->sheet);
-        printed = !ferror(stream);
-        printed = fclose(stream) == 0 && printed;
-    }
-    if (!printed)
-        complain(opened->name, "the sheet cannot be put in words: %s", strerror(errno));
-    bool written = printed && write_file(output, (const uint8_t *)words, length);
-    free(words);
-    return written ? STATUS_DONE : STATUS_TROUBLE;
+    struct draft words;
+    if (!draft_open(&words, output))
+        return STATUS_TROUBLE;
+    print_sheet(words.to, &opened->names, &opened->sheet);
+    return draft_write(&words, output) ? STATUS_DONE : STATUS_TROUBLE;
 }
 
 static int write_bytes(const struct open_table *opened, const char *output)
@@ -52,15 +40,12 @@ static int run_sheet(const struct command *self, int argc, char **argv)
                                      {"--names", NULL, &naming.source},
                                      {NULL, NULL, NULL}};
     struct open_table opened;
-    if (!take_options(self, options, &argc, argv, 0, 1) || (argv = take_inputs(self, &argc, argv)) == NULL ||
-        !reads_standard_input_once(self, naming, argc, argv))
+    if (!take_options(self, options, &argc, argv, 0, 1) || (argv = take_inputs(self, &argc, argv)) == NULL)
         return STATUS_TROUBLE;
     if (output == NULL)
         output = "-";
-    if (is_written_over(argv[0], output) || (naming.source != NULL && is_written_over(naming.source, output))) {
-        complain(output, "would be written and is read too");
+    if (!are_inputs_in_order(self, naming, argc, argv, output) || (raw && !takes_bytes(output)))
         return STATUS_TROUBLE;
-    }
     int status = open_table(&opened, argv[0], naming);
     if (status == STATUS_DONE)
         status = (raw ? write_bytes : write_words)(&opened, output);

@@ -8,6 +8,7 @@
 #include <sys/stat.h>
 #include <unistd.h>
 
+#include "files/interrupts.h"
 #include "files/messages.h"
 #include "files/paths.h"
 
@@ -27,6 +28,16 @@ static bool close_after(int file, bool done)
     return done && closed;
 }
 
+/* Waits where it is a fifo, for somebody at its other end. */
+static int open_file(const char *path, int flags)
+{
+    int file;
+    do
+        file = open(path, flags | O_NOCTTY | O_CLOEXEC);
+    while (file < 0 && is_to_be_repeated());
+    return file;
+}
+
 /* ---- Reading ---- */
 
 /* At most `most` bytes; -1 is an error. */
@@ -35,7 +46,7 @@ static ssize_t read_some(int file, uint8_t *bytes, size_t most)
     ssize_t length;
     do
         length = read(file, bytes, most);
-    while (length < 0 && errno == EINTR);
+    while (length < 0 && is_to_be_repeated());
     return length;
 }
 
@@ -55,11 +66,13 @@ static bool read_rest(int file, struct buffer *contents)
     }
 }
 
+/* Where reading was broken off by a signal there is no fault to tell. */
 static bool complain_unread(const char *path)
 {
-    if (errno != EFBIG)
-        return complain_why(path);
-    complain(path, "longer than %d MiB", LONGEST_FILE >> 20);
+    if (errno == EFBIG)
+        complain(path, "longer than %d MiB", LONGEST_FILE >> 20);
+    else if (errno != EINTR)
+        complain_why(path);
     return false;
 }
 
@@ -67,10 +80,8 @@ bool read_file(const char *path, struct buffer *contents)
 {
     if (is_dash(path))
         return read_rest(STDIN_FILENO, contents) || complain_unread(path);
-    int file = open(path, O_RDONLY | O_NOCTTY | O_CLOEXEC);
-    if (file < 0)
-        return complain_why(path);
-    return close_after(file, read_rest(file, contents)) || complain_unread(path);
+    int file = open_file(path, O_RDONLY);
+    return (file >= 0 && close_after(file, read_rest(file, contents))) || complain_unread(path);
 }
 
 /* ---- Writing ---- */
@@ -79,7 +90,7 @@ static bool write_all(int file, const uint8_t *bytes, size_t length)
 {
     while (length > 0) {
         ssize_t written = write(file, bytes, length);
-        if (written < 0 && errno == EINTR)
+        if (written < 0 && is_to_be_repeated())
             continue;
         if (written <= 0)
             return false;
@@ -106,7 +117,7 @@ static bool is_standard_output(const struct stat *there)
 
 static bool write_into(const char *path, const uint8_t *bytes, size_t length)
 {
-    int file = open(path, O_WRONLY | O_NOCTTY | O_CLOEXEC);
+    int file = open_file(path, O_WRONLY);
     return file >= 0 && close_after(file, write_all(file, bytes, length));
 }
 
@@ -142,6 +153,16 @@ static bool rename_temporary(const char *temporary, const char *target)
     return rename(temporary, target) == 0 || drop(temporary);
 }
 
+/* No signal ends the program while the temporary file is there. */
+static bool write_and_rename(char *temporary, const char *target, mode_t mode, const uint8_t *bytes, size_t length)
+{
+    sigset_t before;
+    hold_signals(&before);
+    bool renamed = write_temporary(temporary, mode, bytes, length) && rename_temporary(temporary, target);
+    release_signals(&before);
+    return renamed;
+}
+
 /* Makes the new name last.  A file system that cannot sync a folder (EINVAL) has nothing to sync. */
 static bool sync_folder(int folder, const char *path)
 {
@@ -156,7 +177,7 @@ static bool replace(const char *target, const char *path, mode_t mode, const uin
 {
     char *temporary = path_beside(target, ".flow-XXXXXX"), *parent = path_beside(target, ".");
     int folder = open(parent, O_RDONLY | O_DIRECTORY | O_CLOEXEC);
-    bool renamed = folder >= 0 && write_temporary(temporary, mode, bytes, length) && rename_temporary(temporary, target);
+    bool renamed = folder >= 0 && write_and_rename(temporary, target, mode, bytes, length);
     if (!renamed)
         complain_why(path);
     free(temporary);
@@ -183,6 +204,8 @@ bool write_file(const char *path, const uint8_t *bytes, size_t length)
     struct stat there;
     if (is_dash(path))
         return write_to_standard_output(bytes, length);
+    if (names_folder(path))
+        return complain(path, "is the name of a folder, and not of a file"), false;
     if (stat(path, &there) == 0) {
         if (is_standard_output(&there))
             return write_to_standard_output(bytes, length);

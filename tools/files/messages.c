@@ -35,6 +35,11 @@ void print_name(FILE *to, const char *name)
     print_escaped(to, is_dash(name) ? "standard input" : name);
 }
 
+const char *output_name(const char *path)
+{
+    return is_dash(path) ? "standard output" : path;
+}
+
 void print_message(FILE *to, const char *format, va_list arguments)
 {
     char message[2000];

@@ -8,6 +8,9 @@
 /* Prints the name of a file; of "-" it is "standard input". */
 void print_name(FILE *to, const char *name);
 
+/* The name of an output in messages; of "-" it is "standard output". */
+const char *output_name(const char *path);
+
 /* Prints a message, of which a very long one is cut. */
 void print_message(FILE *to, const char *format, va_list arguments);
 

@@ -28,6 +28,12 @@ const char *base_name(const char *path)
     return slash != NULL ? slash + 1 : path;
 }
 
+bool names_folder(const char *path)
+{
+    const char *name = base_name(path);
+    return *path != 0 && (*name == 0 || strcmp(name, ".") == 0 || strcmp(name, "..") == 0);
+}
+
 /* The first bytes of a path, a text and a name.  A buffer ends the program where there is no memory. */
 static char *joined(const char *path, size_t length, const char *between, const char *name)
 {
@@ -60,12 +66,12 @@ struct identity {
     ino_t inode;
 };
 
-/* "-" is the standard file of this number. */
+/* "-" is the standard file of this number, which also says whether the path is an input or an output. */
 static bool identity_of(const char *path, int standard, struct identity *identity)
 {
     struct stat there;
     bool is_there = is_dash(path) ? fstat(standard, &there) == 0 : stat(path, &there) == 0;
-    if (!is_there || (!S_ISREG(there.st_mode) && !S_ISFIFO(there.st_mode)))
+    if (!is_there || (!S_ISREG(there.st_mode) && !(standard == STDOUT_FILENO && S_ISFIFO(there.st_mode))))
         return false;
     *identity = (struct identity){there.st_dev, there.st_ino};
     return true;
@@ -95,22 +101,19 @@ static bool is_one_name(const char *one, const char *other)
     return same;
 }
 
-static bool is_one_file(const char *one, int first_standard, const char *other)
-{
-    struct identity first, second;
-    if (identity_of(one, first_standard, &first) && identity_of(other, STDOUT_FILENO, &second))
-        return compare(&first, &second) == 0;
-    return !is_dash(one) && !is_dash(other) && is_one_name(one, other);
-}
-
 bool is_written_over(const char *input, const char *output)
 {
-    return is_one_file(input, STDIN_FILENO, output);
+    struct identity read, written;
+    return identity_of(input, STDIN_FILENO, &read) && identity_of(output, STDOUT_FILENO, &written) &&
+           compare(&read, &written) == 0;
 }
 
 bool is_one_output(const char *one, const char *other)
 {
-    return is_one_file(one, STDOUT_FILENO, other);
+    struct identity first, second;
+    if (identity_of(one, STDOUT_FILENO, &first) && identity_of(other, STDOUT_FILENO, &second))
+        return compare(&first, &second) == 0;
+    return !is_dash(one) && !is_dash(other) && is_one_name(one, other);
 }
 
 bool leads_nowhere(const char *path)

@@ -14,6 +14,9 @@ size_t count_dashes(char *const *paths, size_t count);
 /* What stands behind the last slash. */
 const char *base_name(const char *path);
 
+/* Does it end in a slash, "." or ".."?  Then, whatever is there, it is no name of a file. */
+bool names_folder(const char *path);
+
 /* To be freed: the path itself; a file of this name in the folder; one in the folder that the path's own file is in. */
 char *path_copy(const char *path);
 char *path_within(const char *folder, const char *name);
@@ -22,11 +25,14 @@ char *path_beside(const char *path, const char *name);
 /* Is it a link that leads nowhere? */
 bool leads_nowhere(const char *path);
 
-/* Would what is written change what is read?  Would two that are written be one file?  "-" is standard input, or output. */
+/*
+ * Would what is written change what is read?  A regular file alone is in danger: a pipe or a device is none the worse.  Would two
+ * that are written be one file or pipe?  "-" is standard input, or output.
+ */
 bool is_written_over(const char *input, const char *output);
 bool is_one_output(const char *one, const char *other);
 
-/* The files and pipes that some paths lead to, by device and inode; a path that leads to none is left out. */
+/* The files that some paths lead to, and of outputs the pipes, by device and inode; a path that leads to none is left out. */
 struct file_set {
     struct identity *identities; /* in order */
     size_t count;
