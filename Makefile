@@ -46,6 +46,7 @@ $(BUILD)/test/%: $(BUILD)/tools/test/%.o $(call objects,tools/test/memory.c $(PA
 	$(CC) $(LDFLAGS) -o $@ $^
 
 check: check-transcripts check-round-trips check-explain check-fuzz check-install
+check: check-signals
 
 # What every command prints, with its exit status; the examples of README among them.
 check-transcripts: $(BUILD)/flow $(BUILD)/test/failing.so
@@ -54,6 +55,10 @@ check-transcripts: $(BUILD)/flow $(BUILD)/test/failing.so
 $(BUILD)/test/failing.so: tools/test/failing.c
 	@mkdir -p $(@D)
 	$(CC) $(CFLAGS) -D_GNU_SOURCE -Wno-pedantic -fPIC -shared -o $@ $< -ldl
+
+# Signals that come while files are written.
+check-signals: $(BUILD)/flow $(BUILD)/test/failing.so
+	python3 tools/test/signals.py $(BUILD) $(SEED)
 
 check-round-trips: $(BUILD)/test/round_trips
 	$(BUILD)/test/round_trips $(SEED)
@@ -117,6 +122,7 @@ clean:
 
 .PHONY: demo test
 .PHONY: all check check-transcripts check-round-trips check-explain check-fuzz check-install costs install clean always
+.PHONY: check-signals
 .DELETE_ON_ERROR:
 # objects are kept; the library is not among them, since a secondary file that is missing is not made again
 .SECONDARY: $(call objects,$(GENERATOR) $(wildcard tools/test/*.c))

@@ -55,6 +55,7 @@ int main(int argc, char **argv)
 {
     signal(SIGXFSZ, SIG_IGN); /* a write beyond the limit on file sizes then fails, and is reported, as on a full disk */
     fill_standard_files();
+    setvbuf(stderr, NULL, _IOLBF, BUFSIZ); /* a line goes out in one piece, whoever else writes there */
     int status = run_command(argc - 1, argv + 1);
     errno = 0;
     if (ferror(stdout) || fclose(stdout) != 0) {

@@ -20,14 +20,14 @@ char *batch_out(const struct batch *batch, size_t i);
 
 /*
  * Before anything is written: the folder is there, every name is one of a file, no two tables would get one name or file in the
- * folder, no file that is read would be written, no link that would be written through leads nowhere, report and standard output
- * are files of their own, and standard output is no terminal where a table would go there.  False: there was a message.
+ * folder, no file that is read would be written, no link that would be written through leads nowhere, report and standard
+ * output are files of their own, and standard output is no terminal where a table would go there.  False: there was a message.
  */
 bool batch_is_in_order(const struct batch *batch);
 
 /*
- * Appends a byte for each table: 1 where it is a link that leads nowhere, before anything is written.  Later the link may lead to
- * what was written, which is none of the tables.
+ * Appends a byte for each table: 1 where it is a link that leads nowhere, before anything is written.  Later the link may lead
+ * to what was written, which is none of the tables.
  */
 void batch_note_dangling(const struct batch *batch, struct buffer *dangling);
 

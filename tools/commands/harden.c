@@ -18,8 +18,9 @@ static const char usage[] =
     "flow harden [-o OUT] [--report FILE] [TABLE]\n"
     "flow harden --into FOLDER [--report FILE] TABLE..\n"
     "  Hardens a table, from standard input if none is given, or each of many into a folder, with a line for each and a count.\n"
-    "  A file is replaced whole or stays as it was; for a refused table nothing is written.\n"
-    "  -o OUT          where the hardened table goes, standard output if not given\n"
+    "  A file is replaced whole or stays as it was; for a refused table nothing is written.  A signal (SIGINT, SIGTERM,\n"
+    "  SIGHUP) leaves no temporary file, and count and report then say what is interrupted.\n"
+    "  -o OUT          where the hardened table goes, standard output (which is no terminal then) if not given\n"
     "  --into FOLDER   each hardened table goes to a file of the same name in this folder\n"
     "  --report FILE   a line for each table, tab-separated: name, SHA-256 in and out, refusal, place, nodes in and out\n";
 
@@ -45,7 +46,8 @@ static bool print_line(const struct hardening *hardening)
     else
         print_name(line.to, hardening->name);
     if (hardening->ending == ENDED_HARDENED)
-        fprintf(line.to, ": %u -> %u nodes, %zu bytes\n", hardening->nodes_in, hardening->nodes_out, hardening->hardened.length);
+        fprintf(line.to, ": %u -> %u nodes, %zu bytes\n", hardening->nodes_in, hardening->nodes_out,
+                hardening->hardened.length);
     else if (hardening->ending == ENDED_FAILED)
         fprintf(line.to, ": failed\n");
     return draft_write(&line, "-");
@@ -84,6 +86,12 @@ static void tell(struct work *work, const struct hardening *hardening, const cha
 
 /* ---- Tables ---- */
 
+static void take_down(struct work *work, const struct hardening *hardening)
+{
+    work->ended[hardening->ending]++;
+    report_add(&work->report, hardening);
+}
+
 static void harden_one(struct work *work, size_t i)
 {
     struct hardening hardening = {.name = work->batch->files[i], .ending = ENDED_FAILED};
@@ -92,8 +100,7 @@ static void harden_one(struct work *work, size_t i)
         complain(hardening.name, "is a link that leads nowhere");
     else
         harden_file(&hardening, hardening.name, out);
-    work->ended[hardening.ending]++;
-    report_add(&work->report, &hardening);
+    take_down(work, &hardening);
     tell(work, &hardening, out);
     hardening_free(&hardening);
     free(out);
@@ -102,8 +109,7 @@ static void harden_one(struct work *work, size_t i)
 static void leave_out(struct work *work, size_t i)
 {
     const struct hardening hardening = {.name = work->batch->files[i], .ending = ENDED_INTERRUPTED};
-    work->ended[hardening.ending]++;
-    report_add(&work->report, &hardening);
+    take_down(work, &hardening);
 }
 
 static void harden_all(struct work *work)

@@ -37,8 +37,8 @@ int open_hardened(struct open_table *hardened, const struct open_table *original
 unsigned state_variables(const struct open_table *opened, struct naming naming);
 
 /*
- * The files that are read: the names' source and the operands, of which the first is a table and others may be @FILE.  False, with
- * a message: standard input, which can be read once, is more than one of them, or one of them would be written over.
+ * The files that are read: the names' source and the operands, of which the first is a table and others may be @FILE.  False,
+ * with a message: standard input, which can be read once, is more than one of them, or one of them would be written over.
  */
 bool are_inputs_in_order(const struct command *self, struct naming naming, int argc, char **argv, const char *output);
 

@@ -166,7 +166,11 @@ static bool write_and_rename(char *temporary, const char *target, mode_t mode, c
 /* Makes the new name last.  A file system that cannot sync a folder (EINVAL) has nothing to sync. */
 static bool sync_folder(int folder, const char *path)
 {
-    if (close_after(folder, fsync(folder) == 0 || errno == EINVAL))
+    sigset_t before;
+    hold_signals(&before);
+    bool synced = close_after(folder, fsync(folder) == 0 || errno == EINVAL);
+    release_signals(&before);
+    if (synced)
         return true;
     complain(path, "is written, but its folder is not synced: %s", strerror(errno));
     return false;

@@ -46,8 +46,8 @@ static void handle_all(void (*from)(int), void (*to)(int))
 static void note(int signal);
 
 /*
- * A signal may come when the program has just seen that there is none, and is about to wait for ever.  So once one has come, all
- * waiting is broken off every second.
+ * A signal may come when the program has just seen that there is none, and is about to wait for ever.  So once one has come,
+ * all waiting is broken off every second.
  */
 static void tick(int signal)
 {

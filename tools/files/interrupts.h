@@ -15,8 +15,8 @@ void release_signals(const sigset_t *before);
 /*
  * From here on the first of these signals does not end the program: it is noted, and a call of the system that waits fails with
  * EINTR, at the latest after a second.  From then on a further signal ends the program at once; before that it is taken for the
- * same one, since many who end a program send two (timeout does, and a terminal that is closed).  A pipe that nobody reads is an
- * error (EPIPE) and no signal.
+ * same one, since many who end a program send two (timeout does, and a terminal that is closed).  A pipe that nobody reads is
+ * an error (EPIPE) and no signal.
  */
 void note_interrupts(void);
 bool is_interrupted(void);

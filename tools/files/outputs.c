@@ -14,12 +14,14 @@ bool spares_input(const char *output, const char *input)
     return false;
 }
 
-/* The terminal that standard output is has names of its own, /dev/stdout among them. */
+/* Standard output has names of its own, /dev/stdout among them. */
 static bool is_standard_output(const char *path)
 {
     struct stat named, standard;
-    return is_dash(path) || (stat(path, &named) == 0 && fstat(STDOUT_FILENO, &standard) == 0 && named.st_dev == standard.st_dev &&
-                             named.st_ino == standard.st_ino);
+    if (is_dash(path))
+        return true;
+    return stat(path, &named) == 0 && fstat(STDOUT_FILENO, &standard) == 0 && named.st_dev == standard.st_dev &&
+           named.st_ino == standard.st_ino;
 }
 
 bool takes_bytes(const char *output)

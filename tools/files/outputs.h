@@ -7,7 +7,7 @@
 /* False, with a message: what is written would change what is read. */
 bool spares_input(const char *output, const char *input);
 
-/* False, with a message: it is standard output, by whatever name, and that is a terminal; bytes that are no text do not go there. */
+/* For bytes that are no text.  False, with a message: it is standard output, by whatever name, and that is a terminal. */
 bool takes_bytes(const char *output);
 
 #endif

@@ -26,8 +26,8 @@ char *path_beside(const char *path, const char *name);
 bool leads_nowhere(const char *path);
 
 /*
- * Would what is written change what is read?  A regular file alone is in danger: a pipe or a device is none the worse.  Would two
- * that are written be one file or pipe?  "-" is standard input, or output.
+ * Would what is written change what is read?  A regular file alone is in danger: a pipe or a device is none the worse.  Would
+ * two that are written be one file or pipe?  "-" is standard input, or output.
  */
 bool is_written_over(const char *input, const char *output);
 bool is_one_output(const char *one, const char *other);
