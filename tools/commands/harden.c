@@ -20,7 +20,7 @@ static const char usage[] =
     "  Hardens a table, from standard input if none is given, or each of many into a folder, with a line for each and a count.\n"
     "  A file is replaced whole or stays as it was; for a refused table nothing is written.  A signal (SIGINT, SIGTERM,\n"
     "  SIGHUP) leaves no temporary file, and count and report then say what is interrupted.\n"
-    "  -o OUT          where the hardened table goes, standard output (which is no terminal then) if not given\n"
+    "  -o OUT          where the hardened table goes, standard output if not given, unless that is a terminal\n"
     "  --into FOLDER   each hardened table goes to a file of the same name in this folder\n"
     "  --report FILE   a line for each table, tab-separated: name, SHA-256 in and out, refusal, place, nodes in and out\n";
 

@@ -108,13 +108,6 @@ static bool write_to_standard_output(const uint8_t *bytes, size_t length)
     return true;
 }
 
-static bool is_standard_output(const struct stat *there)
-{
-    struct stat output;
-    return fstat(STDOUT_FILENO, &output) == 0 && output.st_dev == there->st_dev && output.st_ino == there->st_ino &&
-           !S_ISCHR(there->st_mode);
-}
-
 static bool write_into(const char *path, const uint8_t *bytes, size_t length)
 {
     int file = open_file(path, O_WRONLY);
@@ -211,7 +204,7 @@ bool write_file(const char *path, const uint8_t *bytes, size_t length)
     if (names_folder(path))
         return complain(path, "is the name of a folder, and not of a file"), false;
     if (stat(path, &there) == 0) {
-        if (is_standard_output(&there))
+        if (!S_ISCHR(there.st_mode) && is_standard_output(path))
             return write_to_standard_output(bytes, length);
         if (!S_ISREG(there.st_mode))
             return write_into(path, bytes, length) || complain_why(path);

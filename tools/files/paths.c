@@ -85,10 +85,15 @@ static int compare(const void *left, const void *right)
     return (one->inode > two->inode) - (one->inode < two->inode);
 }
 
+static bool is_one(const struct stat *first, const struct stat *second)
+{
+    return first->st_dev == second->st_dev && first->st_ino == second->st_ino;
+}
+
 static bool is_one_folder(const char *one, const char *other)
 {
     struct stat first, second;
-    return stat(one, &first) == 0 && stat(other, &second) == 0 && first.st_dev == second.st_dev && first.st_ino == second.st_ino;
+    return stat(one, &first) == 0 && stat(other, &second) == 0 && is_one(&first, &second);
 }
 
 /* One name in one folder. */
@@ -120,6 +125,12 @@ bool leads_nowhere(const char *path)
 {
     struct stat there;
     return !is_dash(path) && lstat(path, &there) == 0 && S_ISLNK(there.st_mode) && stat(path, &there) != 0;
+}
+
+bool is_standard_output(const char *path)
+{
+    struct stat named, standard;
+    return is_dash(path) || (stat(path, &named) == 0 && fstat(STDOUT_FILENO, &standard) == 0 && is_one(&named, &standard));
 }
 
 static void file_set_take(struct file_set *set, char *const *paths, size_t count, int standard)

@@ -25,6 +25,9 @@ char *path_beside(const char *path, const char *name);
 /* Is it a link that leads nowhere? */
 bool leads_nowhere(const char *path);
 
+/* Is it standard output: "-", or the same file by another name, as /dev/stdout? */
+bool is_standard_output(const char *path);
+
 /*
  * Would what is written change what is read?  A regular file alone is in danger: a pipe or a device is none the worse.  Would
  * two that are written be one file or pipe?  "-" is standard input, or output.
