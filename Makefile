@@ -45,8 +45,7 @@ $(BUILD)/test/%: $(BUILD)/tools/test/%.o $(call objects,tools/test/memory.c $(PA
 	@mkdir -p $(@D)
 	$(CC) $(LDFLAGS) -o $@ $^
 
-check: check-transcripts check-round-trips check-explain check-fuzz check-install
-check: check-signals
+check: check-transcripts check-round-trips check-explain check-stuck check-signals check-fuzz check-install
 
 # What every command prints, with its exit status; the examples of README among them.
 check-transcripts: $(BUILD)/flow $(BUILD)/test/failing.so
@@ -67,6 +66,10 @@ check-round-trips: $(BUILD)/test/round_trips
 # line.)
 check-explain: $(BUILD)/test/explain_words
 	$< $(SEED) | python3 tools/test/explain_check.py
+
+# Why runs are stuck, against other directives in the place of the one that does not fit.
+check-stuck: $(BUILD)/test/stuck_reasons
+	$< $(SEED)
 
 costs: $(BUILD)/flow
 	python3 tools/test/costs.py $(BUILD)
@@ -120,9 +123,8 @@ clean:
 
 -include $(shell find $(BUILD) -name '*.d' 2>/dev/null)
 
-.PHONY: demo test
-.PHONY: all check check-transcripts check-round-trips check-explain check-fuzz check-install costs install clean always
-.PHONY: check-signals
+.PHONY: all demo test check check-transcripts check-round-trips check-explain check-stuck check-signals check-fuzz check-install
+.PHONY: costs install clean always
 .DELETE_ON_ERROR:
 # objects are kept; the library is not among them, since a secondary file that is missing is not made again
 .SECONDARY: $(call objects,$(GENERATOR) $(wildcard tools/test/*.c))

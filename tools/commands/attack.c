@@ -5,13 +5,14 @@
 #include "commands/command.h"
 #include "commands/numbers.h"
 #include "commands/open_table.h"
-#include "files/messages.h"
-#include "flow_words.h"
 #include "library/refusals.h"
 #include "library/runs.h"
+#include "library/verdict.h"
 #include "records/directives.h"
+#include "text/ends.h"
 #include "text/faults.h"
 #include "text/script.h"
+#include "text/script_faults.h"
 #include "text/state.h"
 #include "text/words.h"
 
@@ -25,13 +26,15 @@ static const char usage[] =
     BUDGET_USAGE
     NAMING_USAGE
     "  Exit status: 0 one list of observations begins the other; 1 refused; 2 wrong usage, or a file cannot be read;\n"
-    "  3 the states are told apart; 4 no verdict, since a run was cut.\n";
+    "  3 the states are told apart; 4 no verdict, since a run was cut; 5 no verdict, since a directive does not fit.\n";
 
 enum { MOST_PRINTED = 40 }; /* of observations and directives: a run may show thousands */
 
-/* Two runs of a table, one from each state, and what they say together. */
+/* Two runs of a table, one from each state, why they are stuck if they are, and what they say together. */
 struct pair {
+    const struct open_table *opened;
     struct run runs[2];
+    struct stuck stuck[2];
     struct verdict verdict;
 };
 
@@ -55,24 +58,27 @@ static enum machine machine_of(const struct attack *attack)
 
 static void print_refused(const struct attack *attack, const struct open_table *opened, struct answer answer)
 {
-    bool of_script = concern_of(answer.refusal) == CONCERN_SCRIPT;
-    print_refusal(stderr, of_script ? attack->script.name : opened->name, &opened->bytes, answer);
-    if (of_script && !attack->rollback && count_directives(&attack->script.directives, FLOW_ROLLBACK, UINT64_MAX) > 0)
-        complain(attack->script.name, "a rollback is a directive with --rollback only");
+    if (concern_of(answer.refusal) == CONCERN_SCRIPT)
+        print_script_refusal(stderr, attack->script.name, &attack->script.directives, attack->rollback);
+    else
+        print_refusal(stderr, opened->name, &opened->bytes, answer);
 }
 
 /* False, with a message: the library refused. */
 static bool play(const struct attack *attack, const struct open_table *opened, enum machine machine, struct pair *pair)
 {
+    const struct buffer *script = &attack->script.directives;
+    pair->opened = opened;
     for (unsigned i = 0; i < 2; i++) {
-        struct answer answer = run_table(&opened->table, machine, &attack->script.directives, &attack->states[i],
-                                         attack->budget, &pair->runs[i]);
+        struct run *run = &pair->runs[i];
+        struct answer answer = run_table(&opened->table, machine, script, &attack->states[i], attack->budget, run);
         if (answer.refusal != FLOW_ACCEPTED) {
             print_refused(attack, opened, answer);
             return false;
         }
+        pair->stuck[i] = find_stuck(&opened->table, machine, script, run);
     }
-    pair->verdict = compare_runs(pair->runs);
+    pair->verdict = compare_runs(pair->runs, pair->stuck);
     return true;
 }
 
@@ -98,19 +104,29 @@ static void pair_free(struct pair *pair)
 
 /* ---- Printing ---- */
 
-static void print_run(const struct open_table *opened, const struct run *run, unsigned state)
+static void print_end_from(const struct pair *pair, unsigned state)
 {
-    printf("  state %u: %s\n", state + 1, flow_end_words(run->end));
+    print_end(stdout, &pair->opened->names, &pair->opened->table, &pair->runs[state], &pair->stuck[state]);
+    printf("\n");
+}
+
+static void print_run(const struct pair *pair, unsigned state)
+{
+    const struct names *names = &pair->opened->names;
+    const struct run *run = &pair->runs[state];
+    printf("  state %u: ", state + 1);
+    print_end_from(pair, state);
     printf("    steps %" PRIu64 ", directives used %" PRIu64 ", flag %" PRIu64, run->steps, run->directives, run->flag);
     if (run->end != FLOW_FINISHED)
         printf(", next node %" PRIu64, run->next);
     printf("\n");
-    print_observations(stdout, "    ", &opened->names, &run->observations, MOST_PRINTED);
-    print_saves(stdout, "    ", &opened->names, &opened->table, &run->saves, run->open_saves);
+    print_observations(stdout, "    ", names, &run->observations, MOST_PRINTED);
+    print_saves(stdout, "    ", names, &pair->opened->table, &run->saves, run->open_saves);
 }
 
-static void print_difference(const struct names *names, const struct pair *pair)
+static void print_difference(const struct pair *pair)
 {
+    const struct names *names = &pair->opened->names;
     const struct verdict *verdict = &pair->verdict;
     printf("  observation %zu: ", verdict->observation);
     print_observation(stdout, names, pair->runs[0].observations.bytes + verdict->at);
@@ -127,20 +143,20 @@ static void print_verdict(const char *indent, const struct pair *pair)
         printf("the lists differ at observation %zu: the states are told apart\n", verdict->observation);
     else if (verdict->kind == VERDICT_ALIKE)
         printf("one list of observations begins the other: the states are not told apart\n");
-    else
-        printf("none, since the run from state %u was cut: %s\n", verdict->cut + 1,
-               flow_end_words(pair->runs[verdict->cut].end));
+    else {
+        printf("none, since the run from state %u %s", verdict->run + 1, verdict->kind == VERDICT_CUT ? "was cut: " : "is ");
+        print_end_from(pair, verdict->run);
+    }
 }
 
 /* Two runs under a heading, and in the end where they first differ. */
-static void print_pair(const struct attack *attack, const char *heading, const char *machine, const struct open_table *opened,
-                       const struct pair *pair)
+static void print_pair(const struct attack *attack, const char *heading, const char *machine, const struct pair *pair)
 {
     printf("%s%s:\n", attack->harden ? heading : "", machine);
     for (unsigned i = 0; i < 2; i++)
-        print_run(opened, &pair->runs[i], i);
+        print_run(pair, i);
     if (pair->verdict.kind == VERDICT_TOLD_APART)
-        print_difference(&opened->names, pair);
+        print_difference(pair);
 }
 
 /* `differs` is what the states differ in that the table labels public, or NULL. */
@@ -173,7 +189,7 @@ static void print_notes(const struct attack *attack, const char *differs)
         printf("note: the states do not agree on what is public: %s\n", promise);
     if (attack->plain.verdict.kind == VERDICT_TOLD_APART)
         printf("note: the program itself, without guessing, tells the states apart: %s\n", promise);
-    if (attack->plain.verdict.kind == VERDICT_NONE)
+    if (attack->plain.verdict.kind == VERDICT_CUT)
         printf("note: a run without guessing was cut: whether the program itself tells the states apart is not known\n");
     bool promised = attack->harden && differs == NULL && attack->plain.verdict.kind == VERDICT_ALIKE;
     if (promised && attack->guessing_hardened.verdict.kind == VERDICT_TOLD_APART)
@@ -188,12 +204,12 @@ static void print_attack(const struct attack *attack)
     print_directives(stdout, &attack->original.names, &attack->script.directives, MOST_PRINTED);
     printf("\n");
     print_agreement(differs);
-    print_pair(attack, "before hardening, ", "without guessing", &attack->original, &attack->plain);
+    print_pair(attack, "before hardening, ", "without guessing", &attack->plain);
     print_verdict("  ", &attack->plain);
-    print_pair(attack, "before hardening, ", machine, &attack->original, &attack->guessing);
+    print_pair(attack, "before hardening, ", machine, &attack->guessing);
     if (attack->harden) {
         print_verdict("  ", &attack->guessing);
-        print_pair(attack, "hardened, ", machine, &attack->hardened, &attack->guessing_hardened);
+        print_pair(attack, "hardened, ", machine, &attack->guessing_hardened);
     }
     if (deciding_pair(attack)->verdict.kind == VERDICT_ALIKE)
         print_unplayed(attack, deciding_pair(attack));
@@ -208,7 +224,8 @@ static int status_of(enum verdict_kind kind)
     switch (kind) {
     case VERDICT_ALIKE: return STATUS_DONE;
     case VERDICT_TOLD_APART: return STATUS_TOLD_APART;
-    default: return STATUS_CUT;
+    case VERDICT_CUT: return STATUS_CUT;
+    default: return STATUS_UNFIT;
     }
 }
 

@@ -10,7 +10,8 @@ enum {
     STATUS_REFUSED = 1,    /* the library refused a table, script or question, or a source cannot be assembled */
     STATUS_TROUBLE = 2,    /* wrong usage, or something could not be read or written */
     STATUS_TOLD_APART = 3, /* attack: the script tells the two states apart */
-    STATUS_CUT = 4         /* run, attack: a run was cut, and there is no verdict */
+    STATUS_CUT = 4,        /* run, attack: a run was cut, and there is no verdict */
+    STATUS_UNFIT = 5       /* attack: a directive of the script does not fit, and there is no verdict */
 };
 
 struct command {

@@ -23,7 +23,7 @@ static const char conclusion[] =
     "flow COMMAND --help says more of a command, `man flow` all of it.  flow --version prints the release.\n"
     "TABLE and SOURCE are files; - is standard input, which is also read where a [TABLE] or [SOURCE] is not given.\n"
     "Exit status: 0 done; 1 refused; 2 wrong usage, or a file cannot be read or written; 3 attack: told apart;\n"
-    "4 run, attack: a run was cut.\n";
+    "4 run, attack: a run was cut; 5 attack: a directive of the script does not fit.\n";
 
 const struct command *command_named(const char *name)
 {

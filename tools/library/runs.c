@@ -3,7 +3,6 @@
 #include <string.h>
 
 #include "records/directives.h"
-#include "records/little_endian.h"
 
 enum {
     LONGEST_OBSERVATION = 10,
@@ -106,29 +105,4 @@ void run_free(struct run *run)
 bool run_was_cut(const struct run *run)
 {
     return run->end == FLOW_SPENT || run->end == FLOW_FULL || (run->end == FLOW_OUT_OF_DIRECTIVES && run->directives == 0);
-}
-
-/* Does the same observation stand at this byte of both lists?  Both have one there. */
-static bool same_observation(const struct buffer *one, const struct buffer *other, size_t at)
-{
-    size_t length = get16(one->bytes + at);
-    return length == get16(other->bytes + at) && memcmp(one->bytes + at, other->bytes + at, length) == 0;
-}
-
-struct verdict compare_runs(const struct run runs[2])
-{
-    const struct buffer *one = &runs[0].observations, *other = &runs[1].observations;
-    struct verdict verdict = {.kind = VERDICT_ALIKE, .observation = 1};
-    while (verdict.at < one->length && verdict.at < other->length) {
-        if (!same_observation(one, other, verdict.at)) {
-            verdict.kind = VERDICT_TOLD_APART;
-            return verdict;
-        }
-        verdict.at += get16(one->bytes + verdict.at);
-        verdict.observation++;
-    }
-    if (run_was_cut(&runs[0]) || run_was_cut(&runs[1]))
-        verdict.kind = VERDICT_NONE;
-    verdict.cut = run_was_cut(&runs[0]) ? 0 : 1;
-    return verdict;
 }

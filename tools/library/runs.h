@@ -1,4 +1,4 @@
-/* Runs of a table on the machines of the library, in buffers of their own, and what two runs say together. */
+/* Runs of a table on the machines of the library, in buffers of their own. */
 #ifndef RUNS_H
 #define RUNS_H
 
@@ -40,21 +40,5 @@ void run_free(struct run *run);
  * was over before its first directive was used.  To be stuck, or out of directives after some, is an end of the rules.
  */
 bool run_was_cut(const struct run *run);
-
-/* What two runs say of the states that they started from. */
-enum verdict_kind {
-    VERDICT_ALIKE,      /* one list of observations begins the other */
-    VERDICT_TOLD_APART, /* the lists differ */
-    VERDICT_NONE        /* the lists agree as far as they go, and a run was cut */
-};
-
-struct verdict {
-    enum verdict_kind kind;
-    size_t observation; /* told apart: the number, from 1, of the first observation that differs, */
-    size_t at;          /* and the byte where it begins, in both lists */
-    unsigned cut;       /* none: the run that was cut, 0 or 1 */
-};
-
-struct verdict compare_runs(const struct run runs[2]);
 
 #endif

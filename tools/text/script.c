@@ -8,12 +8,6 @@
 #include "text/text.h"
 #include "text/words.h"
 
-/* Does the line of the last token go on?  A line break ends a directive. */
-static bool line_goes_on(const struct text *text)
-{
-    return text->next.kind != TOKEN_END && text->next.line == text->last.line;
-}
-
 /* The kind of the directive that is next; 0: none is. */
 static unsigned next_directive(const struct text *text)
 {
@@ -28,7 +22,7 @@ static unsigned read_array(struct text *text, const struct names *names)
 {
     struct token token = text->next;
     int array = token.kind == TOKEN_NAME ? array_named(names, token.at, token.length) : -1;
-    if (!line_goes_on(text) || (token.kind != TOKEN_NAME && token.kind != TOKEN_NUMBER))
+    if (!text_line_goes_on(text) || (token.kind != TOKEN_NAME && token.kind != TOKEN_NUMBER))
         text_fail(text, &token, "an array is wanted here, not %s", token_in_words(&token).words);
     else if (token.kind == TOKEN_NAME && array < 0)
         text_fail(text, &token, "no array %s: the table has %s", token_in_words(&token).words, arrays_in_words(names).words);
@@ -40,11 +34,12 @@ static unsigned read_array(struct text *text, const struct names *names)
 
 static uint32_t read_index(struct text *text)
 {
-    if (!line_goes_on(text) || text->next.kind != TOKEN_NUMBER)
+    if (!text_line_goes_on(text) || text->next.kind != TOKEN_NUMBER)
         text_fail(text, &text->next, "an index is wanted here, not %s", token_in_words(&text->next).words);
     return text_take(text).number;
 }
 
+/* A line break ends a directive, too. */
 static void read_directive(struct text *text, const struct names *names, const char *hint, struct buffer *directives)
 {
     unsigned kind = next_directive(text);
@@ -59,7 +54,7 @@ static void read_directive(struct text *text, const struct names *names, const c
     } else {
         assemble_directive(directives, kind);
     }
-    if (line_goes_on(text) && !text_is(text, ";"))
+    if (text_line_goes_on(text) && !text_is(text, ";"))
         text_fail(text, &text->next, "';' or a line break is wanted here, not %s", token_in_words(&text->next).words);
 }
 

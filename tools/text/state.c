@@ -131,6 +131,7 @@ static void read_item(struct reader *reader)
     }
 }
 
+/* Items with a comma or a line break between them; what is not given is 0. */
 static bool read_text(struct reader *reader, const struct operand *operand)
 {
     size_t bytes = 4 * state_words(reader->table, reader->state->variables);
@@ -139,19 +140,19 @@ static bool read_text(struct reader *reader, const struct operand *operand)
         memset(reader->state->words.bytes, 0, bytes);
     reader->state->words.length = bytes;
     text_open(&reader->text, operand->name, operand->bytes.bytes, operand->bytes.length, stderr);
-    if (reader->text.next.kind == TOKEN_END)
-        return !reader->text.failed;
-    read_item(reader);
     while (reader->text.next.kind != TOKEN_END) {
-        text_expect(&reader->text, ",");
         read_item(reader);
+        if (text_line_goes_on(&reader->text))
+            text_expect(&reader->text, ",");
+        else
+            text_accept(&reader->text, ",");
     }
     return !reader->text.failed;
 }
 
 /* ---- Files ---- */
 
-static bool take_file(const struct table *table, const struct operand *operand, struct state *state)
+static bool take_words(const struct table *table, const struct operand *operand, struct state *state)
 {
     size_t wanted = 4 * state_words(table, state->variables);
     if (operand->bytes.length != wanted) {
@@ -168,8 +169,8 @@ bool read_state(const char *argument, const char *called, const struct table *ta
     struct operand operand;
     bool read = operand_open(&operand, argument, called);
     *state = (struct state){.variables = variables};
-    if (read && operand.file) {
-        read = take_file(table, &operand, state);
+    if (read && operand.file && !can_be_text(operand.bytes.bytes, operand.bytes.length)) {
+        read = take_words(table, &operand, state);
     } else if (read) {
         struct reader reader = {.hint = operand.hint, .table = table, .names = names, .state = state};
         read = read_text(&reader, &operand);

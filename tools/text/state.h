@@ -1,4 +1,4 @@
-/* States: a value for each variable and cell, as text (`v0=4,a1=1 2 3,a2[0]=77`) or as a file of words. */
+/* States: a value for each variable and cell, as text (`v0=4,a1=1 2 3,a2[0]=77`) or as a file of text or words. */
 #ifndef STATE_H
 #define STATE_H
 
@@ -9,13 +9,14 @@
 #include "text/names.h"
 
 #define STATE_USAGE \
-    "  STATE is text, as v0=4,a1=1 2 3,a2[0]=77 (what is not given is 0), or @FILE: words of 4 bytes, variables, then cells.\n" \
+    "  STATE is text, as v0=4,a1=1 2 3,a2[0]=77 (what is not given is 0), or @FILE: of text, or of words of 4 bytes,\n" \
+    "  variables, then cells.\n" \
     "  With --flag, f is no part of a state and starts at 0.\n"
 
 /*
  * Reads the operand, which is called so in messages, into an empty state of the table's first variables, so many, and all its
- * cells.  Whatever a text does not give is 0.  False, with a message: a file cannot be read or is not of the right length, or a
- * text is no state.
+ * cells.  Whatever a text does not give is 0.  A file is a text if it can be one, else words.  False, with a message: a file
+ * cannot be read, its words are not as many as the state's, or a text is no state.
  */
 bool read_state(const char *argument, const char *called, const struct table *table, const struct names *names,
                 unsigned variables, struct state *state);

@@ -52,6 +52,23 @@ static void skip_blanks(struct text *text)
     }
 }
 
+static bool is_printable(int c)
+{
+    return c >= ' ' && c <= '~';
+}
+
+bool can_be_text(const uint8_t *bytes, size_t length)
+{
+    if (length == 0 || memchr(bytes, 0, length) != NULL)
+        return false;
+    const char *start = (const char *)bytes;
+    struct text text = {.start = start, .at = start, .end = start + length};
+    for (skip_blanks(&text); text.at < text.end; text.at++, skip_blanks(&text))
+        if (!is_printable(peek(&text, 0)))
+            return false;
+    return true;
+}
+
 static void read_name(struct text *text, struct token *token)
 {
     token->kind = TOKEN_NAME;
@@ -121,7 +138,7 @@ static void read_symbol(struct text *text, struct token *token)
     token->length = then == '=' && c != 0 && strchr(":<>=!", c) != NULL ? 2 : 1;
     if (c == '-' && then == '-')
         text_fail(text, token, "a blank is wanted before '--', which begins a comment");
-    else if (c < ' ' || c > '~')
+    else if (!is_printable(c))
         fail_outside_ascii(text, token);
     else if (token->length == 1 && !is_symbol(c))
         text_fail(text, token, "%s is no word of the language", token_in_words(token).words);
@@ -175,6 +192,11 @@ bool text_accept(struct text *text, const char *what)
     if (is)
         text_take(text);
     return is;
+}
+
+bool text_line_goes_on(const struct text *text)
+{
+    return text->next.kind != TOKEN_END && text->next.line == text->last.line;
 }
 
 void text_expect(struct text *text, const char *what)

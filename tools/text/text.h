@@ -34,6 +34,9 @@ struct text {
     bool failed;
 };
 
+/* Could these bytes be a text?  Then there are some, none is zero, and outside comments all are printable ASCII or blanks. */
+bool can_be_text(const uint8_t *bytes, size_t length);
+
 /* Starts a text: its first token is next. */
 void text_open(struct text *text, const char *name, const uint8_t *bytes, size_t length, FILE *errors);
 
@@ -44,6 +47,9 @@ struct token text_take(struct text *text);
 bool text_is(const struct text *text, const char *what);
 bool text_accept(struct text *text, const char *what);
 void text_expect(struct text *text, const char *what);
+
+/* Does the line of the last token go on? */
+bool text_line_goes_on(const struct text *text);
 
 /* Prints NAME:LINE:COLUMN: message, for the first error alone.  From then on the text has failed, and its end is next. */
 void text_fail(struct text *text, const struct token *where, const char *format, ...);

@@ -111,7 +111,7 @@ void print_observation(FILE *to, const struct names *names, const uint8_t *recor
     }
 }
 
-static void print_directive(FILE *to, const struct names *names, const uint8_t *record)
+void print_directive(FILE *to, const struct names *names, const uint8_t *record)
 {
     const uint8_t *fields = record + RECORD_HEAD;
     unsigned kind = get16(record + 2);

@@ -29,7 +29,8 @@ struct names_words arrays_in_words(const struct names *names);
 void print_observation(FILE *to, const struct names *names, const uint8_t *record);
 void print_observations(FILE *to, const char *indent, const struct names *names, const struct buffer *observations, size_t most);
 
-/* A list of directives that the library has accepted, on one line, in the form of a script; at most so many. */
+/* Directives that the library has accepted, as in a script: the one that begins here; of a list, on one line, so many. */
+void print_directive(FILE *to, const struct names *names, const uint8_t *record);
 void print_directives(FILE *to, const struct names *names, const struct buffer *directives, size_t most);
 
 #endif
