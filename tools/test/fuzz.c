@@ -1,9 +1,11 @@
 /*
- * The parsers on random and mutated input, for a build with -fsanitize=address,undefined: sources, scripts, states and tables.
+ * The parsers on random and mutated input, for a build with -fsanitize=address,undefined: sources, scripts, states, tables and
+ * lists of directives.
  * fuzz [SEED [COUNT]]
  * Messages go to standard error, findings to standard output.
  * Nothing may be undefined, leak or hang, and what is accepted must hold up: a source gives a table that the library accepts and
  * that lists and assembles again to itself, a script one that no machine refuses, a state one that prints and reads as itself.
+ * A list of directives has a fault to name just where the library refuses it.
  */
 #include <stdbool.h>
 #include <stdlib.h>
@@ -17,17 +19,19 @@
 #include "text/labels.h"
 #include "text/listing.h"
 #include "text/script.h"
+#include "text/script_faults.h"
 #include "text/source.h"
 #include "text/state.h"
+#include "text/text.h"
 
-enum { INPUTS = 100000, SORTS = 4 };
+enum { INPUTS = 125000, SORTS = 5 };
 
 /* What the inputs came to, so that a run in which nothing was accepted, or nothing refused, is seen. */
 struct counts {
     unsigned accepted[SORTS], refused[SORTS];
 };
 
-static const char *const sorts[SORTS] = {"sources", "scripts", "states", "tables"};
+static const char *const sorts[SORTS] = {"sources", "scripts", "states", "tables", "lists of directives"};
 
 static void demand(bool holds, const char *what, const struct buffer *input)
 {
@@ -209,6 +213,19 @@ static void make_script(struct random *r, struct buffer *text)
     end_operand(text);
 }
 
+/* Only the list is looked at: all else that is lent is too short. */
+static bool refuses_list(bool rollback, const struct buffer *table, const struct buffer *directives, size_t length)
+{
+    uint8_t numbers[FLOW_ANSWER_BYTES];
+    if (rollback)
+        flow_rollback(table->bytes, table->length, directives->bytes, length, NULL, 0, NULL, 0, NULL, 0, NULL, 0, NULL, 0, 0,
+                      numbers, sizeof numbers);
+    else
+        flow_guess(table->bytes, table->length, directives->bytes, length, NULL, 0, NULL, 0, NULL, 0, NULL, 0, 0, numbers,
+                   sizeof numbers);
+    return concern_of(flow_answer_number(numbers, sizeof numbers, 0)) == CONCERN_SCRIPT;
+}
+
 /* No machine refuses a script that was read. */
 static bool try_script(struct random *r)
 {
@@ -221,16 +238,46 @@ static bool try_script(struct random *r)
     number_names(&names, &table, false);
     make_script(r, &text);
     bool reads = read_script((const char *)text.bytes, &names, &script);
-    if (reads) {
-        uint8_t numbers[FLOW_ANSWER_BYTES];
-        uint64_t refusal = flow_rollback(bytes.bytes, bytes.length, script.directives.bytes, script.directives.length, NULL, 0,
-                                         NULL, 0, NULL, 0, NULL, 0, NULL, 0, 0, numbers, sizeof numbers);
-        demand(concern_of(refusal) != CONCERN_SCRIPT, "the library refuses this script", &text);
-    }
+    const struct buffer *directives = &script.directives;
+    if (reads)
+        demand(!refuses_list(true, &bytes, directives, directives->length), "the library refuses this script", &text);
     script_free(&script);
     buffer_free(&text);
     buffer_free(&bytes);
     return reads;
+}
+
+/* What is said of a list is its fault, and where a byte is named nothing before it is one. */
+static void demand_fault(bool rollback, const struct buffer *table, const struct buffer *directives, bool refused)
+{
+    size_t number, at;
+    struct printed printed;
+    print_open(&printed);
+    bool found = print_script_fault(printed.to, directives, rollback);
+    struct buffer words = print_close(&printed);
+    buffer_append(&words, (const uint8_t *)"", 1);
+    demand(found == refused && found == (words.length > 1), "this list has a fault and none is named, or none", directives);
+    if (sscanf((const char *)words.bytes, "directive %zu, at byte %zu", &number, &at) == 2)
+        demand(at < directives->length && !refuses_list(rollback, table, directives, at),
+               "this list has a fault before the one that is named", directives);
+    buffer_free(&words);
+}
+
+static bool try_list(struct random *r)
+{
+    struct buffer table = {0}, directives = {0};
+    bool rollback = random_percent(r, 50);
+    make_table(r, &table);
+    if (random_percent(r, 10))
+        make_bytes(r, &directives, 40);
+    else
+        generate_directives(r, ENTRY_ROLLBACK, 8, &directives);
+    mutate_some(r, &directives);
+    bool refused = refuses_list(rollback, &table, &directives, directives.length);
+    demand_fault(rollback, &table, &directives, refused);
+    buffer_free(&table);
+    buffer_free(&directives);
+    return !refused;
 }
 
 /* The text of a state. */
@@ -285,8 +332,10 @@ static bool try_state(struct random *r)
     size_t count = table.variables + table.cells;
     struct buffer text = make_state(r, &names, &table);
     bool reads = read_state((const char *)text.bytes, "STATE", &table, &names, table.variables, &state);
+    size_t length = strlen((const char *)text.bytes);
     if (reads) {
         struct buffer printed = state_text(&names, &table, &state);
+        demand(length == 0 || can_be_text(text.bytes, length), "this state reads, but a file of it would be words", &text);
         end_operand(&printed);
         demand(read_state((const char *)printed.bytes, "STATE", &table, &names, table.variables, &again) &&
                    state.words.length == 4 * count && same_bytes(&state.words, &again.words),
@@ -344,7 +393,7 @@ static bool try_table(struct random *r)
 
 int main(int argc, char **argv)
 {
-    static bool (*const tries[SORTS])(struct random *r) = {try_source, try_script, try_state, try_table};
+    static bool (*const tries[SORTS])(struct random *r) = {try_source, try_script, try_state, try_table, try_list};
     uint64_t seed = argc > 1 ? strtoull(argv[1], NULL, 10) : 1;
     unsigned count = argc > 2 ? (unsigned)strtoul(argv[2], NULL, 10) : INPUTS;
     struct counts counts = {0};

@@ -43,3 +43,8 @@ void operand_free(struct operand *operand)
 {
     buffer_free(&operand->bytes);
 }
+
+bool operand_holds_zero(const struct operand *operand)
+{
+    return operand->bytes.length > 0 && memchr(operand->bytes.bytes, 0, operand->bytes.length) != NULL;
+}

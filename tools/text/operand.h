@@ -17,4 +17,7 @@ struct operand {
 bool operand_open(struct operand *operand, const char *argument, const char *called);
 void operand_free(struct operand *operand);
 
+/* Does it hold a zero byte?  No text does. */
+bool operand_holds_zero(const struct operand *operand);
+
 #endif

@@ -1,7 +1,6 @@
 #include "text/script.h"
 
 #include <inttypes.h>
-#include <string.h>
 
 #include "records/assemble.h"
 #include "text/operand.h"
@@ -68,18 +67,13 @@ static bool read_text(const struct operand *operand, const struct names *names, 
     return !text.failed;
 }
 
-/* Every record has a zero byte, the high one of its length, and no text has one. */
-static bool holds_records(const struct buffer *bytes)
-{
-    return bytes->length > 0 && memchr(bytes->bytes, 0, bytes->length) != NULL;
-}
-
+/* Every record has a zero byte, the high one of its length. */
 bool read_script(const char *argument, const struct names *names, struct script *script)
 {
     struct operand operand;
     bool read = operand_open(&operand, argument, "SCRIPT");
     *script = (struct script){.name = operand.name};
-    if (read && holds_records(&operand.bytes))
+    if (read && operand_holds_zero(&operand))
         buffer_append(&script->directives, operand.bytes.bytes, operand.bytes.length);
     else if (read)
         read = read_text(&operand, names, &script->directives);

@@ -152,9 +152,19 @@ static bool read_text(struct reader *reader, const struct operand *operand)
 
 /* ---- Files ---- */
 
-static bool take_words(const struct table *table, const struct operand *operand, struct state *state)
+/*
+ * Few words hold no zero byte; then they are told by a byte that no text has, if they are as many as they should be: else it is
+ * a text with a mistake.  An empty file could be either, but a state of zeros is not meant by one that was cut to nothing.
+ */
+static bool holds_words(const struct operand *operand, size_t wanted)
 {
-    size_t wanted = 4 * state_words(table, state->variables);
+    const struct buffer *bytes = &operand->bytes;
+    return bytes->length == 0 || operand_holds_zero(operand) ||
+           (bytes->length == wanted && !can_be_text(bytes->bytes, bytes->length));
+}
+
+static bool take_words(const struct operand *operand, size_t wanted, struct state *state)
+{
     if (operand->bytes.length != wanted) {
         complain(operand->name, "%zu bytes, but a state of this table takes %zu", operand->bytes.length, wanted);
         return false;
@@ -167,10 +177,11 @@ bool read_state(const char *argument, const char *called, const struct table *ta
                 unsigned variables, struct state *state)
 {
     struct operand operand;
+    size_t wanted = 4 * state_words(table, variables);
     bool read = operand_open(&operand, argument, called);
     *state = (struct state){.variables = variables};
-    if (read && operand.file && !can_be_text(operand.bytes.bytes, operand.bytes.length)) {
-        read = take_words(table, &operand, state);
+    if (read && operand.file && holds_words(&operand, wanted)) {
+        read = take_words(&operand, wanted, state);
     } else if (read) {
         struct reader reader = {.hint = operand.hint, .table = table, .names = names, .state = state};
         read = read_text(&reader, &operand);

@@ -15,8 +15,8 @@
 
 /*
  * Reads the operand, which is called so in messages, into an empty state of the table's first variables, so many, and all its
- * cells.  Whatever a text does not give is 0.  A file is a text if it can be one, else words.  False, with a message: a file
- * cannot be read, its words are not as many as the state's, or a text is no state.
+ * cells.  Whatever a text does not give is 0.  False, with a message: a file cannot be read, its words are not as many as the
+ * state's, or a text is no state.
  */
 bool read_state(const char *argument, const char *called, const struct table *table, const struct names *names,
                 unsigned variables, struct state *state);
