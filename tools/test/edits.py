@@ -14,6 +14,7 @@ import sys
 FACTS = (
     "the two types",  # .. differ, as printed or computed: this is proved, and that is asked
     "the two indices",
+    "does not hold (this comparison",
     "lands at index",
     "expected type",
     "`omega`: the goal does not follow",
@@ -25,12 +26,10 @@ FACTS = (
 
 
 def first_error(log):
-    """(place, message) of the first refusal of a log, or None."""
-    for line in log.split("\n"):
-        found = re.match(r"(?:note: )?\S+?/((?:src|specs|proofs)/\S+:\d+:\d+): (error: |it is not proved that)(.*)", line)
-        if found:
-            return found[1], (found[2] + found[3]).removeprefix("error: ")
-    return None
+    """(place, message) of the first refusal of a log, or None; a message goes on in lines that are indented."""
+    refusal = r"^(?:note: )?\S+?/((?:src|specs|proofs)/\S+:\d+:\d+): (?:error: |(?=it is not proved that))(.*(?:\n  .*)*)"
+    found = re.search(refusal, log, re.M)
+    return found and (found[1], found[2])
 
 
 def judged(crate, name):
@@ -44,7 +43,7 @@ def judged(crate, name):
         return False, "its log has no error"
     place, message = error
     fact = any(words in message for words in FACTS)
-    return fact, f"{'a fact' if fact else 'NO FACT'}: {place}: {message[:100]}"
+    return fact, f"{'a fact' if fact else 'NO FACT'}: {place}: {message.split(chr(10))[0][:100]}"
 
 
 def main():
