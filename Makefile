@@ -3,7 +3,8 @@
 #
 #   make            build/flow
 #   make demo       a program of examples/, from its text to an attack before and after hardening
-#   make test       all tests: rt ci, then make check
+#   make test       all tests: rt ci, make edits, then make check
+#   make edits      says of each must-fail edit, by the logs of rt ci, at which fact it was refused first
 #   make check      every test of the command (SEED=..)
 #   make costs      what each command costs, as Markdown
 #   make install    to $(DESTDIR)$(PREFIX): the command, its man page, flow.h, flow_words.h, libflow.a, libflow.so.1 and flow.pc
@@ -35,7 +36,11 @@ demo: $(BUILD)/flow
 test:
 	$(want_rt)
 	rt ci
+	python3 tools/test/edits.py
 	$(MAKE) check
+
+edits:
+	python3 tools/test/edits.py
 
 # Tests: programs of tools/test over the command's own parts and the bench's generator.
 PARTS = $(filter-out tools/flow.c,$(SOURCES))
@@ -123,7 +128,7 @@ clean:
 
 -include $(shell find $(BUILD) -name '*.d' 2>/dev/null)
 
-.PHONY: all demo test check check-transcripts check-round-trips check-explain check-stuck check-signals check-fuzz check-install
+.PHONY: all demo test edits check check-transcripts check-round-trips check-explain check-stuck check-signals check-fuzz check-install
 .PHONY: costs install clean always
 .DELETE_ON_ERROR:
 # objects are kept; the library is not among them, since a secondary file that is missing is not made again

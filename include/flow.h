@@ -2,30 +2,31 @@
  * Flow: labels, hardens and runs AWHILE programs.  Link with libflow.a, or with libflow.so.
  *
  * Every entry takes byte slices, each as a pointer and then a size_t.  An empty slice may be (NULL, 0).  Slices need no
- * alignment.  They must not overlap, and each must be readable (where it is lent for writing: writable) over its whole length.
- * All numbers in all slices are little-endian and unsigned.
+ * alignment.  They must not overlap, and each must be readable (where it is lent for writing: writable) over its whole
+ * length.  All numbers in all slices are little-endian and unsigned.
  *
- * THE ANSWER.  An entry returns 0 if it accepted the call, else the number of the refusal.  The same number stands first in the
- * answer slice, which holds numbers of 8 bytes each:
+ * THE ANSWER.  An entry returns 0 if it accepted the call, else the number of the refusal.  The same number stands
+ * first in the answer slice, which holds numbers of 8 bytes each:
  *
  *     accepted, flow_sheet, flow_questions
- *     and flow_harden:                       0, bytes written                                                        (2 numbers)
+ *     and flow_harden:                0, bytes written                                                     (2 numbers)
  *     accepted, flow_run, flow_guess
- *     and flow_rollback:                     0, end, steps, directives used, observation bytes, flag, next node      (7 numbers)
- *     refused, every entry:                  refusal, place                                                          (2 numbers)
+ *     and flow_rollback:              0, end, steps, directives used, observation bytes, flag, next node   (7 numbers)
+ *     refused, every entry:           refusal, place                                                       (2 numbers)
  *
- * Numbers that do not fit whole into the answer slice are dropped, and its other bytes stay as they were: an answer slice of
- * 0 bytes is fine, and FLOW_ANSWER_BYTES holds every answer.
+ * Numbers that do not fit whole into the answer slice are dropped, and its other bytes stay as they were: an answer
+ * slice of 0 bytes is fine, and FLOW_ANSWER_BYTES holds every answer.
  *
- * A REFUSED CALL changes no lent memory except the answer slice.  Nothing is ever refused but for the causes listed below.
+ * A REFUSED CALL changes no lent memory except the answer slice.  Nothing is ever refused but for the causes listed
+ * below.
  *
- * STACK.  A call recurses as deep as its table nests and allocates nothing.  On the deepest tables flow_sheet and flow_questions
- * take 616 KiB, flow_run, flow_guess and flow_rollback 393 KiB, flow_harden 152 KiB (measured on x86-64 by `make -C bench run`):
- * 1 MiB suffices.
+ * STACK.  A call recurses as deep as its table nests and allocates nothing.  On the deepest tables flow_sheet and
+ * flow_questions take 616 KiB, flow_run, flow_guess and flow_rollback 393 KiB, flow_harden 152 KiB (measured on x86-64
+ * by `make -C bench run`): 1 MiB suffices.
  *
- * THREADS.  An entry keeps nothing between calls and shares nothing with other calls: what it answers depends on what it is lent
- * alone.  So entries may be called from many threads at once, without a lock, as long as no two calls at a time are lent memory
- * that overlaps and that one of them may write.  Mind a thread's stack (above).
+ * THREADS.  An entry keeps nothing between calls and shares nothing with other calls: what it answers depends on what
+ * it is lent alone.  So entries may be called from many threads at once, without a lock, as long as no two calls at a
+ * time are lent memory that overlaps and that one of them may write.  Mind a thread's stack (above).
  *
  * The meaning of refusals and ends, as texts, stands in flow_words.h.
  */
@@ -33,7 +34,7 @@
 #define FLOW_H
 
 /* The release of this header and of the library that belongs to it (CHANGELOG.md). */
-#define FLOW_RELEASE "1.7"
+#define FLOW_RELEASE "1.8"
 
 #include <stddef.h>
 #include <stdint.h>
@@ -51,7 +52,7 @@ enum {
     FLOW_MAX_CELLS = 16384,          /* all arrays together */
     FLOW_MAX_HARDENED_NODES = 512,   /* the most nodes of a table that flow_harden takes */
     FLOW_GROWTH = 8,                 /* at most this many nodes come out of flow_harden per node put in */
-    FLOW_MAX_QUESTIONS = 256,        /* pairs in a list that flow_questions takes; as many bytes hold all their labels */
+    FLOW_MAX_QUESTIONS = 256,        /* pairs in a list that flow_questions takes; as many bytes hold their labels */
     FLOW_QUESTION_BYTES = 4,         /* of a pair: node, then variable, 2 bytes each */
     FLOW_MAX_SAVES = 8               /* the most saves that are open at once in a run of flow_rollback */
 };
@@ -64,10 +65,10 @@ enum {
     FLOW_ANSWER_BYTES = 56
 };
 
-/* What flow_answer_number gives where the answer slice does not hold the number: no number of any answer is as large. */
+/* What flow_answer_number gives where the answer slice does not hold the number: no answer has one as large. */
 #define FLOW_NO_NUMBER UINT64_MAX
 
-/* Number i of an answer slice, from 0: 0 is the refusal, 1 the bytes written, the end of a run or the place of a refusal. */
+/* Number i of an answer slice: 0 is the refusal, 1 the bytes written, the end of a run or the place of a refusal. */
 static inline uint64_t flow_answer_number(const uint8_t *answer, size_t answer_len, size_t i)
 {
     uint64_t number = 0;
@@ -79,16 +80,17 @@ static inline uint64_t flow_answer_number(const uint8_t *answer, size_t answer_l
 }
 
 /*
- * Refusals.  The place is the byte offset, in the table, of the record concerned; for 7 it is the offset of the first extra byte,
- * and from 8 up it is 0.  The first failing record decides; within a record the order is 1 (head), 2, 1 (body), 3, 4, 5.
- * Then come 6, 7, 8, 9, 10, 11 and then 20 to 24.
+ * Refusals.  The place is the byte offset, in the table, of the record concerned; for 7 it is the offset of the first
+ * extra byte, and from 8 up it is 0.  The first failing record decides; within a record the order is 1 (head), 2, 1
+ * (body), 3, 4, 5.  Then come 6, 7, 8, 9, 10, 11 and then 20 to 24.
  */
 enum flow_refusal {
     FLOW_ACCEPTED = 0,
     FLOW_CUT = 1,              /* fewer than 4 bytes, or fewer than the record's length, remain */
     FLOW_WRONG_RECORD = 2,     /* kind or length wrong for this point */
-    FLOW_BEYOND_LIMITS = 3,    /* version, count or mask beyond the limits; a cell sum at the array record that passes it */
-    FLOW_OUT_OF_RANGE = 4,     /* variable not below V, array not below A, child not below its parent, constant above 1 */
+    FLOW_BEYOND_LIMITS = 3,    /* version, count or mask beyond the limits; a cell sum at the array that passes it */
+    FLOW_OUT_OF_RANGE = 4,     /* variable not below V, array not below A, child not below its parent, constant
+                                  above 1 */
     FLOW_WRONG_SORT = 5,       /* a child of the wrong sort */
     FLOW_NOT_A_TREE = 6,       /* a node not the last is a child never or more than once, or the last is no command;
                                   the place is the record of the lowest-numbered such node */
@@ -96,8 +98,8 @@ enum flow_refusal {
     FLOW_TOO_MANY_NODES = 8,   /* hardening with more than FLOW_MAX_HARDENED_NODES nodes */
     FLOW_NO_FREE_VARIABLE = 9, /* hardening with FLOW_MAX_VARIABLES variables: none is left for the flag */
     FLOW_BAD_DIRECTIVES = 10,  /* directive list cut, or a wrong kind or length in it */
-    FLOW_BAD_QUESTIONS = 11,   /* more than FLOW_MAX_QUESTIONS pairs, a list that ends inside a pair, a node that is not a command
-                                  (one not below N too), or a variable not below V */
+    FLOW_BAD_QUESTIONS = 11,   /* more than FLOW_MAX_QUESTIONS pairs, a list that ends inside a pair, a node that
+                                  is not a command (one not below N too), or a variable not below V */
     FLOW_VARIABLES_LENGTH = 20, /* the variables slice is not exactly 4 V bytes */
     FLOW_CELLS_LENGTH = 21,    /* the cells slice is not exactly 4 bytes for each cell of all arrays */
     FLOW_PENDING_SHORT = 22,   /* the pending slice is shorter than 4 N bytes */
@@ -105,7 +107,7 @@ enum flow_refusal {
     FLOW_SAVES_SHORT = 24      /* the saves slice is shorter than flow_saves_bytes gives */
 };
 
-/* How a run ended.  Before each step these are tested in this order (flow_rollback: with a rollback next, see there). */
+/* How a run ended, tested in this order before each step (flow_rollback: with a rollback next, see there). */
 enum flow_end {
     FLOW_FINISHED = 1,         /* nothing is pending */
     FLOW_SPENT = 2,            /* the budget is used */
@@ -114,7 +116,10 @@ enum flow_end {
     FLOW_FULL = 5              /* the next observation is longer than what is left of the observation buffer */
 };
 
-/* The kinds of records.  A record is a 2-byte length (of the whole record), a 2-byte kind, then fields of 2 bytes unless noted. */
+/*
+ * The kinds of records.  A record is a 2-byte length (of the whole record), a 2-byte kind, then fields of 2 bytes
+ * unless noted.
+ */
 enum flow_kind {
     /* tables: header, labels, A array records, N nodes */
     FLOW_HEADER = 1,           /* version, variables V (1 byte), arrays A (1 byte), nodes N */
@@ -148,9 +153,9 @@ enum flow_kind {
     FLOW_FORCE = 73,           /* at a branch: go the other way and set the flag; length 4 */
     FLOW_LOAD = 74,            /* at a read: array, index (4 bytes) of a cell; length 10 */
     FLOW_STORE = 75,           /* at a write: array, index (4 bytes) of a cell; length 10.  Where the program's own
-                                  index is in bounds, load and store are a step: its own cell is used, with the flag set or
-                                  clear, and the named one need not exist.  Out of bounds the named cell is used, which must
-                                  exist, and only with the flag set; else the run is stuck */
+                                  index is in bounds, load and store are a step: its own cell is used, with the flag
+                                  set or clear, and the named one need not exist.  Out of bounds the named cell is
+                                  used, which must exist, and only with the flag set; else the run is stuck */
     FLOW_ROLLBACK = 76,        /* a step of its own: undo the newest wrong guess; length 4 (flow_rollback only) */
     /* label sheets: the header, then by node number; label 1 is secret */
     FLOW_SHEET = 128,          /* version, N, final variable mask (4 bytes), final array mask */
@@ -162,24 +167,25 @@ enum flow_kind {
 };
 
 /*
- * Labels a table and writes its label sheet to the front of `sheet`.  An expression is secret if a variable in it is, but a product
- * with a number node of value 0 as an operand is public, and a variable inside one makes no larger expression secret.  Bytes of
- * `sheet` beyond the reported length are unchanged; exact length suffices.  Refusals: 1 to 7, 23.
+ * Labels a table and writes its label sheet to the front of `sheet`.  An expression is secret if a variable in it is,
+ * but a product with a number node of value 0 as an operand is public, and a variable inside one makes no larger
+ * expression secret.  Bytes of `sheet` beyond the reported length are unchanged; exact length suffices.  Refusals: 1 to
+ * 7, 23.
  */
 uint64_t flow_sheet(const uint8_t *table, size_t table_len,
                     uint8_t *sheet, size_t sheet_len,
                     uint8_t *answer, size_t answer_len);
 
 /*
- * Answers a list of questions from one analysis of a table: is this variable secret just before this command?  `questions` holds
- * at most FLOW_MAX_QUESTIONS pairs of FLOW_QUESTION_BYTES each: a node, which must be a command, then a variable.  For each pair,
- * in their order, one byte is written to the front of `labels`: 1 if the variable is secret in the labelling that enters the
- * command, else 0.  The context that the command stands in is not part of the answer.
+ * Answers a list of questions from one analysis of a table: is this variable secret just before this command?
+ * `questions` holds at most FLOW_MAX_QUESTIONS pairs of FLOW_QUESTION_BYTES each: a node, which must be a command, then
+ * a variable.  For each pair, in their order, one byte is written to the front of `labels`: 1 if the variable is secret
+ * in the labelling that enters the command, else 0.  The context that the command stands in is not part of the answer.
  *   inside a loop       the labelling meant is that of the settled pass of every loop around the command.
- *   for a loop itself   it is the one on entry, before the loop settles; for a loop inside a loop, the one on its entry in the
- *                       settled pass of the outer loop.
- * A pair asked alone gets the byte that it gets in any list.  A list of no pairs is accepted and nothing is written.  Bytes of
- * `labels` beyond the reported length, which is the number of pairs, are unchanged; exact length suffices.
+ *   for a loop itself   it is the one on entry, before the loop settles; for a loop inside a loop, the one on its entry
+ *                       in the settled pass of the outer loop.
+ * A pair asked alone gets the byte that it gets in any list.  A list of no pairs is accepted and nothing is written.
+ * Bytes of `labels` beyond the reported length, which is the number of pairs, are unchanged; exact length suffices.
  * Refusals: 1 to 7, 11, 23.
  */
 uint64_t flow_questions(const uint8_t *table, size_t table_len,
@@ -188,9 +194,9 @@ uint64_t flow_questions(const uint8_t *table, size_t table_len,
                         uint8_t *answer, size_t answer_len);
 
 /*
- * Hardens a table and writes the hardened table to the front of `out`.  It declares one variable more, the flag, whose number is
- * the input's V; the flag must be 0 where a run of the hardened table starts.  Bytes of `out` beyond the reported length are
- * unchanged; exact length suffices.  Refusals: 1 to 9, 23.
+ * Hardens a table and writes the hardened table to the front of `out`.  It declares one variable more, the flag, whose
+ * number is the input's V; the flag must be 0 where a run of the hardened table starts.  Bytes of `out` beyond the
+ * reported length are unchanged; exact length suffices.  Refusals: 1 to 9, 23.
  */
 uint64_t flow_harden(const uint8_t *table, size_t table_len,
                      uint8_t *out, size_t out_len,
@@ -200,10 +206,10 @@ uint64_t flow_harden(const uint8_t *table, size_t table_len,
  * Runs a table without guessing, from its root, for at most `budget` steps.
  *   variables     V words of 4 bytes: the values at the start, and at the end those that the run left.
  *   cells         a word for each cell, array after array by number; likewise.
- *   pending       at least N words; what they hold at the start is ignored.  At the end the first N words hold the nodes still
- *                 pending (the last of them is next) and then zeros; bytes beyond 4 N are unchanged.
- *   observations  any length; the run appends what it shows from the front and ends FLOW_FULL rather than write beyond it.
- *                 Bytes beyond those reported are unchanged.
+ *   pending       at least N words; what they hold at the start is ignored.  At the end the first N words hold the
+ *                 nodes still pending (the last of them is next) and then zeros; bytes beyond 4 N are unchanged.
+ *   observations  any length; the run appends what it shows from the front and ends FLOW_FULL rather than write beyond
+ *                 it.  Bytes beyond those reported are unchanged.
  * Flag and directives used are answered as 0; next node is 0 if nothing is pending.  Refusals: 1 to 7, 20, 21, 22.
  */
 uint64_t flow_run(const uint8_t *table, size_t table_len,
@@ -215,11 +221,12 @@ uint64_t flow_run(const uint8_t *table, size_t table_len,
                   uint8_t *answer, size_t answer_len);
 
 /*
- * Runs a table on the guessing machine: as flow_run, but each shown step (if, while, read, write) takes one directive of the list,
- * and the machine's flag (0 at the start) is set by the first force.  A list may be written once and played to several states: a
- * load at a read and a store at a write fit wherever the program's own index is in bounds.  The whole list is checked before the
- * first step.  A cell or array that does not exist is no cause of refusal: where it would be used the run ends FLOW_STUCK.
- * A rollback in the list is a wrong kind here and refused by 10.  Refusals: 1 to 7, 10, 20, 21, 22.
+ * Runs a table on the guessing machine: as flow_run, but each shown step (if, while, read, write) takes one directive
+ * of the list, and the machine's flag (0 at the start) is set by the first force.  A list may be written once and
+ * played to several states: a load at a read and a store at a write fit wherever the program's own index is in bounds.
+ * The whole list is checked before the first step.  A cell or array that does not exist is no cause of refusal: where
+ * it would be used the run ends FLOW_STUCK.  A rollback in the list is a wrong kind here and refused by 10.  Refusals:
+ * 1 to 7, 10, 20, 21, 22.
  */
 uint64_t flow_guess(const uint8_t *table, size_t table_len,
                     const uint8_t *directives, size_t directives_len,
@@ -230,29 +237,31 @@ uint64_t flow_guess(const uint8_t *table, size_t table_len,
                     uint32_t budget,
                     uint8_t *answer, size_t answer_len);
 
-/* The bytes of the save words that flow_rollback needs for a table of so many variables, cells (of all arrays) and nodes. */
+/* The bytes of save words that flow_rollback needs for a table of so many variables, cells of all arrays, and nodes. */
 static inline size_t flow_saves_bytes(size_t variables, size_t cells, size_t nodes)
 {
     return 4 * (size_t)FLOW_MAX_SAVES * (variables + cells + nodes);
 }
 
 /*
- * Runs a table on the machine that undoes wrong guesses: as flow_guess, but a force also opens a save, and the list may hold
- * rollbacks.  A save is the state of the right side: variables and cells as they are at the branch, and the pending list with which
- * the branch's own way goes on.
- *   rollback  A step that takes one directive, shows FLOW_SHOWN_ROLLBACK, makes variables, cells and pending list those of the
- *             newest save, and drops that save.
- *   order     A rollback is taken as soon as it is the next directive, before a silent step and also where nothing is pending.
- *             There the tests are: budget used, FLOW_SPENT; no save open, FLOW_STUCK; no room for the observation, FLOW_FULL.
- *             Otherwise a run with nothing pending has finished, whether a save is open or not.
- *   flag      1 exactly while a save is open: after the last of them is rolled back a load or store fits only in bounds again.
+ * Runs a table on the machine that undoes wrong guesses: as flow_guess, but a force also opens a save, and the list may
+ * hold rollbacks.  A save is the state of the right side: variables and cells as they are at the branch, and the
+ * pending list with which the branch's own way goes on.
+ *   rollback  A step that takes one directive, shows FLOW_SHOWN_ROLLBACK, makes variables, cells and pending list those
+ *             of the newest save, and drops that save.
+ *   order     A rollback is taken as soon as it is the next directive, before a silent step and also where nothing is
+ *             pending.  There the tests are: budget used, FLOW_SPENT; no save open, FLOW_STUCK; no room for the
+ *             observation, FLOW_FULL.  Otherwise a run with nothing pending has finished, whether a save is open or
+ *             not.
+ *   flag      1 exactly while a save is open: after the last of them is rolled back a load or store fits only in bounds
+ *             again.
  *   saves     at most FLOW_MAX_SAVES are open; a force beyond them does not fit, FLOW_STUCK.
- * The slice `saves` holds at least flow_saves_bytes(V, cells, N) bytes; what they hold at the start is ignored.  They are
- * FLOW_MAX_SAVES places of V + cells + N words each, and at the end place 0 holds the oldest save that is still open, place 1 the
- * next, and so on: its variables, its cells, and its pending list (the last entry is next) padded with zeros to N words.  Places
- * without a save are zeros, and bytes beyond the places are unchanged.  How many are open is not stored.  Like every slice `saves`
- * must not overlap another.  What hardening promises of runs on flow_guess it promises of runs on this machine.
- * Refusals: 1 to 7, 10, 20, 21, 22, 24.
+ * The slice `saves` holds at least flow_saves_bytes(V, cells, N) bytes; what they hold at the start is ignored.  They
+ * are FLOW_MAX_SAVES places of V + cells + N words each, and at the end place 0 holds the oldest save that is still
+ * open, place 1 the next, and so on: its variables, its cells, and its pending list (the last entry is next) padded
+ * with zeros to N words.  Places without a save are zeros, and bytes beyond the places are unchanged.  How many are
+ * open is not stored.  Like every slice `saves` must not overlap another.  What hardening promises of runs on
+ * flow_guess it promises of runs on this machine.  Refusals: 1 to 7, 10, 20, 21, 22, 24.
  */
 uint64_t flow_rollback(const uint8_t *table, size_t table_len,
                        const uint8_t *directives, size_t directives_len,

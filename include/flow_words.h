@@ -20,7 +20,8 @@ static inline const char *flow_refusal_words(uint64_t refusal)
     case FLOW_NO_FREE_VARIABLE: return "all variables are taken, and none is free for the flag";
     case FLOW_BAD_DIRECTIVES: return "the directive list is cut or holds a wrong kind or length";
     case FLOW_BAD_QUESTIONS:
-        return "the list of questions is too long or ends inside a pair, a node is no command, or a variable is not declared";
+        return "the list of questions is too long or ends inside a pair, a node is no command, or a variable is not "
+               "declared";
     case FLOW_VARIABLES_LENGTH: return "the variables lent are not 4 bytes for each variable";
     case FLOW_CELLS_LENGTH: return "the cells lent are not 4 bytes for each cell";
     case FLOW_PENDING_SHORT: return "the pending list lent has fewer than 4 bytes for each node";

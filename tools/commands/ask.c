@@ -116,7 +116,8 @@ static int ask_table(const struct open_table *opened, const struct buffer *quest
 static int run_ask(const struct command *self, int argc, char **argv)
 {
     struct naming naming = {0};
-    const struct option options[] = {{"--flag", &naming.flag, NULL}, {"--names", NULL, &naming.source}, {NULL, NULL, NULL}};
+    const struct option options[] = {
+        {.name = "--flag", .given = &naming.flag}, {.name = "--names", .path = &naming.source}, {0}};
     struct open_table opened;
     struct buffer questions = {0};
     if (!take_options(self, options, &argc, argv, 3, INT_MAX) || !are_inputs_in_order(self, naming, 1, argv, "-"))

@@ -43,7 +43,7 @@ static int assemble_file(const char *path, const char *output)
 static int run_assemble(const struct command *self, int argc, char **argv)
 {
     const char *output = NULL;
-    const struct option options[] = {{"-o", NULL, &output}, {NULL, NULL, NULL}};
+    const struct option options[] = {{.name = "-o", .path = &output}, {0}};
     if (!take_options(self, options, &argc, argv, 0, 1) || (argv = take_inputs(self, &argc, argv)) == NULL)
         return STATUS_TROUBLE;
     if (output == NULL)

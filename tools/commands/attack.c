@@ -273,12 +273,12 @@ static int run_attack(const struct command *self, int argc, char **argv)
 {
     const char *budget = NULL;
     struct attack attack = {0};
-    const struct option options[] = {{"--rollback", &attack.rollback, NULL},
-                                     {"--harden", &attack.harden, NULL},
-                                     {"--budget", NULL, &budget},
-                                     {"--flag", &attack.naming.flag, NULL},
-                                     {"--names", NULL, &attack.naming.source},
-                                     {NULL, NULL, NULL}};
+    const struct option options[] = {{.name = "--rollback", .given = &attack.rollback},
+                                     {.name = "--harden", .given = &attack.harden},
+                                     {.name = "--budget", .number = &budget},
+                                     {.name = "--flag", .given = &attack.naming.flag},
+                                     {.name = "--names", .path = &attack.naming.source},
+                                     {0}};
     if (!take_options(self, options, &argc, argv, 4, 4) || !take_budget(self, budget, &attack.budget) ||
         !are_inputs_in_order(self, attack.naming, argc, argv, "-"))
         return STATUS_TROUBLE;

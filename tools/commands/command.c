@@ -20,6 +20,11 @@ int misused(const struct command *self, const char *format, ...)
 
 /* ---- Options ---- */
 
+static const char **value_of(const struct option *option)
+{
+    return option->path != NULL ? option->path : option->number;
+}
+
 /* The option that an argument names; `value` is what stands in the same argument: behind "--into=", or behind "-o". */
 static const struct option *option_named(const struct option *options, const char *argument, const char **value)
 {
@@ -30,7 +35,7 @@ static const struct option *option_named(const struct option *options, const cha
             continue;
         if (argument[length] == 0)
             return options;
-        if (options->value != NULL && (argument[1] != '-' || argument[length] == '=')) {
+        if (options->given == NULL && (argument[1] != '-' || argument[length] == '=')) {
             *value = argument + length + (argument[1] == '-');
             return options;
         }
@@ -43,12 +48,6 @@ static bool looks_like_option(const char *argument)
     return argument[0] == '-' && argument[1] != 0;
 }
 
-/* Is the option's value the name of a file or folder?  All are but the number of steps. */
-static bool takes_name(const struct option *option)
-{
-    return strcmp(option->name, "--budget") != 0;
-}
-
 /* Is the argument behind an option its value?  False, with a message: it is NULL, an option, or a name that looks like one. */
 static bool is_value(const struct command *self, const struct option *options, const struct option *option,
                      const char *argument)
@@ -58,7 +57,7 @@ static bool is_value(const struct command *self, const struct option *options, c
         return true;
     if (argument == NULL || strcmp(argument, "--") == 0 || option_named(options, argument, &value) != NULL)
         misused(self, "%s lacks its value", option->name);
-    else if (takes_name(option))
+    else if (option->path != NULL)
         misused(self, "%s %s: a name that begins with - is given as ./%s", option->name, argument, argument);
     else
         return true;
@@ -72,15 +71,15 @@ static int take_option(const struct command *self, const struct option *options,
     const struct option *option = option_named(options, argv[0], &value);
     if (option == NULL)
         return misused(self, "no option %s", argv[0]), 0;
-    if (option->value == NULL ? *option->given : *option->value != NULL)
+    if (option->given != NULL ? *option->given : *value_of(option) != NULL)
         return misused(self, "%s is given twice", option->name), 0;
-    if (option->value == NULL)
+    if (option->given != NULL)
         return *option->given = true, 1;
     if (value != NULL && *value == '=' && argv[0][1] != '-')
         return misused(self, "%s: no = stands between %s and its value", argv[0], option->name), 0;
     if (value == NULL && !is_value(self, options, option, left > 1 ? argv[1] : NULL))
         return 0;
-    *option->value = value != NULL ? value : argv[1];
+    *value_of(option) = value != NULL ? value : argv[1];
     return value != NULL ? 1 : 2;
 }
 

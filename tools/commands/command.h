@@ -23,11 +23,12 @@ struct command {
 extern const struct command command_harden, command_list, command_assemble, command_explain, command_sheet, command_ask,
     command_run, command_attack, command_help;
 
-/* An option: `given` is set where it takes no value, else `value`.  A list of them ends with one that has no name. */
+/* An option, and what it sets, one of three.  A list of them ends with one that has no name. */
 struct option {
-    const char *name; /* with its dashes */
-    bool *given;
-    const char **value;
+    const char *name;    /* with its dashes */
+    bool *given;         /* it takes no value */
+    const char **path;   /* its value is the name of a file or folder, */
+    const char **number; /* or a number, which the command reads itself */
 };
 
 /*

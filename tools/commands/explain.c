@@ -79,7 +79,7 @@ static bool spares_all(int count, char **paths)
 
 static int run_explain(const struct command *self, int argc, char **argv)
 {
-    const struct option none[] = {{NULL, NULL, NULL}};
+    const struct option none[] = {{0}};
     int worst = STATUS_DONE; /* trouble is worse than a refusal */
     if (!take_options(self, none, &argc, argv, 0, INT_MAX) || (argv = take_inputs(self, &argc, argv)) == NULL)
         return STATUS_TROUBLE;

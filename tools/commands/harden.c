@@ -144,17 +144,20 @@ static int harden_batch(const struct batch *batch)
 static int run_harden(const struct command *self, int argc, char **argv)
 {
     struct batch batch = {0};
-    const struct option options[] = {
-        {"-o", NULL, &batch.out}, {"--into", NULL, &batch.into}, {"--report", NULL, &batch.report}, {0}};
-    char *standard_input[] = {"-"};
+    const struct option options[] = {{.name = "-o", .path = &batch.out},
+                                     {.name = "--into", .path = &batch.into},
+                                     {.name = "--report", .path = &batch.report},
+                                     {0}};
     if (!take_options(self, options, &argc, argv, 0, INT_MAX))
         return STATUS_TROUBLE;
-    batch.files = argc > 0 ? argv : standard_input;
-    batch.count = argc > 0 ? (size_t)argc : 1;
     if (batch.out != NULL && batch.into != NULL)
         return misused(self, "-o and --into exclude each other");
     if (batch.into != NULL && argc == 0)
         return misused(self, "--into needs the files to harden");
+    batch.files = take_inputs(self, &argc, argv);
+    if (batch.files == NULL)
+        return STATUS_TROUBLE;
+    batch.count = (size_t)argc;
     if (batch.into != NULL && count_dashes(batch.files, batch.count) > 0)
         return misused(self, "standard input has no name to go into a folder by");
     if (batch.into == NULL && argc > 1)

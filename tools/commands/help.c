@@ -52,7 +52,7 @@ void print_help(FILE *to)
 
 static int run_help(const struct command *self, int argc, char **argv)
 {
-    const struct option none[] = {{NULL, NULL, NULL}};
+    const struct option none[] = {{0}};
     if (!take_options(self, none, &argc, argv, 0, 1))
         return STATUS_TROUBLE;
     if (argc == 0)

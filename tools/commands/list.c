@@ -25,8 +25,10 @@ static int run_list(const struct command *self, int argc, char **argv)
 {
     bool nodes = false;
     struct naming naming = {0};
-    const struct option options[] = {
-        {"--nodes", &nodes, NULL}, {"--flag", &naming.flag, NULL}, {"--names", NULL, &naming.source}, {NULL, NULL, NULL}};
+    const struct option options[] = {{.name = "--nodes", .given = &nodes},
+                                     {.name = "--flag", .given = &naming.flag},
+                                     {.name = "--names", .path = &naming.source},
+                                     {0}};
     struct open_table opened;
     if (!take_options(self, options, &argc, argv, 0, 1) || (argv = take_inputs(self, &argc, argv)) == NULL ||
         !are_inputs_in_order(self, naming, argc, argv, "-"))

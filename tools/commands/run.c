@@ -99,11 +99,11 @@ static int run_run(const struct command *self, int argc, char **argv)
     const char *budget_value = NULL, *out = NULL;
     uint32_t budget;
     struct naming naming = {0};
-    const struct option options[] = {{"--budget", NULL, &budget_value},
-                                     {"--state-out", NULL, &out},
-                                     {"--flag", &naming.flag, NULL},
-                                     {"--names", NULL, &naming.source},
-                                     {NULL, NULL, NULL}};
+    const struct option options[] = {{.name = "--budget", .number = &budget_value},
+                                     {.name = "--state-out", .path = &out},
+                                     {.name = "--flag", .given = &naming.flag},
+                                     {.name = "--names", .path = &naming.source},
+                                     {0}};
     struct open_table opened;
     struct state state = {0};
     if (!take_options(self, options, &argc, argv, 2, 2) || !take_budget(self, budget_value, &budget) ||

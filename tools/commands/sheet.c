@@ -34,11 +34,11 @@ static int run_sheet(const struct command *self, int argc, char **argv)
     bool raw = false;
     const char *output = NULL;
     struct naming naming = {0};
-    const struct option options[] = {{"--raw", &raw, NULL},
-                                     {"-o", NULL, &output},
-                                     {"--flag", &naming.flag, NULL},
-                                     {"--names", NULL, &naming.source},
-                                     {NULL, NULL, NULL}};
+    const struct option options[] = {{.name = "--raw", .given = &raw},
+                                     {.name = "-o", .path = &output},
+                                     {.name = "--flag", .given = &naming.flag},
+                                     {.name = "--names", .path = &naming.source},
+                                     {0}};
     struct open_table opened;
     if (!take_options(self, options, &argc, argv, 0, 1) || (argv = take_inputs(self, &argc, argv)) == NULL)
         return STATUS_TROUBLE;

@@ -326,7 +326,7 @@ def check_terminal():
     child, terminal = pty.fork()
     if child == 0:
         take_default_signals()
-        os.execv(FLOW + "/flow", ["flow", "harden", "-o", "typed", "--report", "report"])
+        os.execv(FLOW + "/flow", ["flow", "harden", "-o", "typed", "--report", "report", "-"])
     time.sleep(0.3)
     os.write(terminal, b"\x03")
     _, status = os.waitpid(child, 0)

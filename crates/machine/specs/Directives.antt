@@ -1,5 +1,5 @@
--- Directives: "72 step; 73 force; 74 load and 75 store (array, index in 4 bytes)" and "76 (no fields, length 4)", a rollback; and the reading
--- of a list of them, refused by 10 where it is cut or holds a wrong kind or length.
+-- Directives: "72 step; 73 force, at a branch, goes the other way and sets the flag; 74 load, at a read, and 75 store, at a write (array, index in
+-- 4 bytes)", and "76 (no fields, length 4)", a rollback; and the reading of a list of them, refused by 10 where it is cut or holds a wrong kind or length.
 use Prim.Native.Nat.{ℕ, zero, suc}
 use mathlib.Core.Bool.{Bool, true, false, cond, _&&_}
 use mathlib.Core.Option.{Option, none, some}

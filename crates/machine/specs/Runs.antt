@@ -55,7 +55,7 @@ pub data Next (Note : Type 0) : Type 0 where
   over : End → Next Note
   goes : Machine Note → Next Note
 
--- a run that is over: why, and the machine as its last step left it ("nothing of a step happens when the run ends there")
+-- a run that is over: why, and the machine as its last step left it. Ends are "Checked before each step", so nothing of the next one has happened
 pub record Outcome (Note : Type 0) : Type 0 where
   pub end : End
   pub machine : Machine Note

@@ -1,4 +1,4 @@
-// What the next step of a board is, once it is decided: "nothing of a step happens when the run ends there".
+// What the next step of a board is, once it is decided. Ends are "Checked before each step", so where the run is over nothing of it has happened.
 use crate::state::MachineState;
 use directives::change::Back;
 use directives::change::Change;
