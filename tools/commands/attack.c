@@ -33,6 +33,7 @@ enum { MOST_PRINTED = 40 }; /* of observations and directives: a run may show th
 /* Two runs of a table, one from each state, why they are stuck if they are, and what they say together. */
 struct pair {
     const struct open_table *opened;
+    const char *whose; /* behind the number of a node: "", or that it is the hardened table's */
     struct run runs[2];
     struct stuck stuck[2];
     struct verdict verdict;
@@ -59,7 +60,7 @@ static enum machine machine_of(const struct attack *attack)
 static void print_refused(const struct attack *attack, const struct open_table *opened, struct answer answer)
 {
     if (concern_of(answer.refusal) == CONCERN_SCRIPT)
-        print_script_refusal(stderr, attack->script.name, &attack->script.directives, attack->rollback);
+        print_script_refusal(stderr, &attack->script, attack->rollback);
     else
         print_refusal(stderr, opened->name, &opened->bytes, answer);
 }
@@ -69,6 +70,7 @@ static bool play(const struct attack *attack, const struct open_table *opened, e
 {
     const struct buffer *script = &attack->script.directives;
     pair->opened = opened;
+    pair->whose = opened == &attack->hardened ? " of the hardened table" : "";
     for (unsigned i = 0; i < 2; i++) {
         struct run *run = &pair->runs[i];
         struct answer answer = run_table(&opened->table, machine, script, &attack->states[i], attack->budget, run);
@@ -106,7 +108,7 @@ static void pair_free(struct pair *pair)
 
 static void print_end_from(const struct pair *pair, unsigned state)
 {
-    print_end(stdout, &pair->opened->names, &pair->opened->table, &pair->runs[state], &pair->stuck[state]);
+    print_end(stdout, &pair->opened->names, &pair->opened->table, &pair->runs[state], &pair->stuck[state], pair->whose);
     printf("\n");
 }
 
@@ -117,8 +119,10 @@ static void print_run(const struct pair *pair, unsigned state)
     printf("  state %u: ", state + 1);
     print_end_from(pair, state);
     printf("    steps %" PRIu64 ", directives used %" PRIu64 ", flag %" PRIu64, run->steps, run->directives, run->flag);
-    if (run->end != FLOW_FINISHED)
-        printf(", next node %" PRIu64, run->next);
+    if (run->pending)
+        printf(", next node %" PRIu64 "%s", run->next, pair->whose);
+    else if (run->end != FLOW_FINISHED)
+        printf(", nothing is pending");
     printf("\n");
     print_observations(stdout, "    ", names, &run->observations, MOST_PRINTED);
     print_saves(stdout, "    ", names, &pair->opened->table, &run->saves, run->open_saves);

@@ -13,6 +13,7 @@
 #include "library/refusals.h"
 #include "records/table.h"
 #include "text/faults.h"
+#include "text/words.h"
 
 static const char usage[] =
     "flow explain [TABLE..]\n"
@@ -23,7 +24,7 @@ static const char usage[] =
 
 static void print_count(const char *before, size_t count, const char *what)
 {
-    printf("%s%zu %s%s", before, count, what, count == 1 ? "" : "s");
+    printf("%s%zu %s%s", before, count, what, plural(count));
 }
 
 static void print_accepted(const struct buffer *bytes)

@@ -32,7 +32,7 @@ static void print_run(const struct open_table *opened, unsigned variables, const
     const struct table *table = &opened->table;
     struct stuck stuck = find_stuck(table, MACHINE_PLAIN, NULL, run);
     printf("end: ");
-    print_end(stdout, &opened->names, table, run, &stuck);
+    print_end(stdout, &opened->names, table, run, &stuck, "");
     printf("\n");
     if (run_was_cut(run))
         printf("the run was cut%s\n", run->end == FLOW_SPENT ? ", and may go on with a larger --budget" : "");
@@ -63,17 +63,16 @@ static bool write_state(const char *out, const struct run *run, unsigned variabl
     return written;
 }
 
-/* `out` is where the words of the state go, or NULL. */
+/* `out` is where the words of the state go, or NULL.  They go first: printing may end by a pipe that nobody reads any more. */
 static int run_from(const struct open_table *opened, const struct state *state, uint32_t budget, const char *out)
 {
     struct run run;
     struct answer answer = run_table(&opened->table, MACHINE_PLAIN, NULL, state, budget, &run);
     int status = STATUS_REFUSED;
     if (answer.refusal == FLOW_ACCEPTED) {
+        bool written = out == NULL || write_state(out, &run, state->variables);
         print_run(opened, state->variables, &run);
-        status = run_was_cut(&run) ? STATUS_CUT : STATUS_DONE;
-        if (out != NULL && !write_state(out, &run, state->variables))
-            status = STATUS_TROUBLE;
+        status = !written ? STATUS_TROUBLE : run_was_cut(&run) ? STATUS_CUT : STATUS_DONE;
     } else
         print_refusal(stderr, opened->name, &opened->bytes, answer);
     run_free(&run);

@@ -73,8 +73,9 @@ static void take_answer(struct run *run, const struct buffer *room, const uint8_
     run->next = flow_answer_number(numbers, FLOW_ANSWER_BYTES, 6);
 }
 
-struct answer run_table(const struct table *table, enum machine machine, const struct buffer *script, const struct state *state,
-                        uint32_t budget, struct run *run)
+/* All that run_table gives but `pending`. */
+static struct answer run_once(const struct table *table, enum machine machine, const struct buffer *script,
+                              const struct state *state, uint32_t budget, struct run *run)
 {
     struct lent lent = {0};
     uint8_t numbers[FLOW_ANSWER_BYTES];
@@ -92,6 +93,32 @@ struct answer run_table(const struct table *table, enum machine machine, const s
     buffer_free(&lent.pending);
     buffer_free(&lent.room);
     return (struct answer){refusal, flow_answer_number(numbers, sizeof numbers, 1)};
+}
+
+/* Without the directives that were not used, a run of just its steps is finished exactly where nothing is pending. */
+static bool is_pending_after(const struct table *table, enum machine machine, const struct buffer *script,
+                             const struct state *state, const struct run *run)
+{
+    struct buffer used = *script;
+    struct run again;
+    const uint8_t *next = directive_numbered(script, run->directives + 1);
+    if (next != NULL)
+        used.length = (size_t)(next - script->bytes);
+    struct answer answer = run_once(table, machine, &used, state, (uint32_t)run->steps, &again);
+    bool pending = answer.refusal != FLOW_ACCEPTED || again.end != FLOW_FINISHED;
+    run_free(&again);
+    return pending;
+}
+
+/* Only with a rollback next is a run not finished though nothing is pending; and then the next node is given as 0. */
+struct answer run_table(const struct table *table, enum machine machine, const struct buffer *script, const struct state *state,
+                        uint32_t budget, struct run *run)
+{
+    struct answer answer = run_once(table, machine, script, state, budget, run);
+    run->pending = run->end != FLOW_FINISHED;
+    if (answer.refusal == FLOW_ACCEPTED && run->pending && run->next == 0 && machine == MACHINE_ROLLBACK)
+        run->pending = is_pending_after(table, machine, script, state, run);
+    return answer;
 }
 
 void run_free(struct run *run)

@@ -21,6 +21,7 @@ struct state {
 
 struct run {
     uint64_t end, steps, directives, flag, next; /* the answer's numbers: directives used, and the next node */
+    bool pending;                                /* is there a next node?  Its number is 0 where there is none, too */
     struct buffer variables, cells;              /* as the run left them */
     struct buffer observations;
     struct buffer saves; /* of MACHINE_ROLLBACK: the save words, and how many of their places hold a save that is open */

@@ -252,8 +252,9 @@ static void demand_fault(bool rollback, const struct buffer *table, const struct
 {
     size_t number, at;
     struct printed printed;
+    const struct script script = {.records = true, .directives = *directives};
     print_open(&printed);
-    bool found = print_script_fault(printed.to, directives, rollback);
+    bool found = print_script_fault(printed.to, &script, rollback);
     struct buffer words = print_close(&printed);
     buffer_append(&words, (const uint8_t *)"", 1);
     demand(found == refused && found == (words.length > 1), "this list has a fault and none is named, or none", directives);

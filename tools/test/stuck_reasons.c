@@ -153,13 +153,14 @@ static bool is_cell_right(const struct played *played, const struct run *run, co
     return (stuck->why == STUCK_NO_ARRAY ? !declared : missing) && run->flag == 1 && is_out_of_bounds(played, run, next);
 }
 
-/* With no directive in the place of the next, a run of a script is not stuck. */
+/* With no directive in the place of the next, a run of a script is not stuck; and where nothing is pending it ends there. */
 static bool is_unfit_right(const struct played *played, const struct run *run, const struct stuck *stuck,
                            const struct next *next)
 {
     unsigned directive = get16(stuck->directive + 2);
     struct run without = play(played, run, 0, 0);
-    bool goes_on = without.end != FLOW_STUCK && stuck->number == run->directives + 1;
+    bool pending = without.end != FLOW_FINISHED || without.steps > run->steps;
+    bool goes_on = without.end != FLOW_STUCK && stuck->number == run->directives + 1 && run->pending == pending;
     run_free(&without);
     if (!goes_on)
         return false;
@@ -239,19 +240,25 @@ static void check_run(struct random *r, unsigned counts[REASONS])
 }
 
 /* Every reason must have been met. */
-int main(int argc, char **argv)
+static bool print_counts(const unsigned counts[REASONS])
 {
-    uint64_t seed = argc > 1 ? strtoull(argv[1], NULL, 10) : 1;
-    unsigned count = argc > 2 ? (unsigned)strtoul(argv[2], NULL, 10) : CALLS;
-    unsigned counts[REASONS] = {0}, fewest = UINT32_MAX, stuck = 0;
-    for (unsigned number = 0; number < count; number++) {
-        struct random random = random_from(seed, number);
-        check_run(&random, counts);
-    }
+    unsigned fewest = UINT32_MAX, stuck = 0;
     for (unsigned why = STUCK_OUT_OF_BOUNDS; why < REASONS; why++) {
         fewest = counts[why] < fewest ? counts[why] : fewest;
         stuck += counts[why];
     }
     printf("stuck reasons: %u runs stuck and %u not, each reason at least %u times\n", stuck, counts[STUCK_NOT], fewest);
-    return fewest > 0 ? 0 : 1;
+    return fewest > 0;
+}
+
+int main(int argc, char **argv)
+{
+    uint64_t seed = argc > 1 ? strtoull(argv[1], NULL, 10) : 1;
+    unsigned count = argc > 2 ? (unsigned)strtoul(argv[2], NULL, 10) : CALLS;
+    unsigned counts[REASONS] = {0};
+    for (unsigned number = 0; number < count; number++) {
+        struct random random = random_from(seed, number);
+        check_run(&random, counts);
+    }
+    return print_counts(counts) ? 0 : 1;
 }

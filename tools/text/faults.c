@@ -54,11 +54,6 @@ struct phrase {
     char words[64];
 };
 
-static const char *plural(size_t count)
-{
-    return count == 1 ? "" : "s";
-}
-
 static const char *article(const char *noun)
 {
     return strchr("aeiou", noun[0]) != NULL ? "an" : "a";

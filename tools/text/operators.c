@@ -11,7 +11,7 @@ const struct operator operators[] = {
 
 const struct foreign_operator foreign_operators[] = {
     {"<=", "not (b < a)"}, {">", "b < a"},  {">=", "not (a < b)"},
-    {"!=", "not (a = b)"}, {"==", "a = b"}, {"or", "not (not a and not b)"},
+    {"!=", "not (a = b)"}, {"==", "a = b"}, {"or", "not (not (a) and not (b))"},
     {NULL, NULL},
 };
 

@@ -22,7 +22,7 @@ static unsigned read_array(struct text *text, const struct names *names)
     struct token token = text->next;
     int array = token.kind == TOKEN_NAME ? array_named(names, token.at, token.length) : -1;
     if (!text_line_goes_on(text) || (token.kind != TOKEN_NAME && token.kind != TOKEN_NUMBER))
-        text_fail(text, &token, "an array is wanted here, not %s", token_in_words(&token).words);
+        text_miss(text, &token, "an array");
     else if (token.kind == TOKEN_NAME && array < 0)
         text_fail(text, &token, "no array %s: the table has %s", token_in_words(&token).words, arrays_in_words(names).words);
     else if (token.kind == TOKEN_NUMBER && token.number > UINT16_MAX)
@@ -33,8 +33,9 @@ static unsigned read_array(struct text *text, const struct names *names)
 
 static uint32_t read_index(struct text *text)
 {
-    if (!text_line_goes_on(text) || text->next.kind != TOKEN_NUMBER)
-        text_fail(text, &text->next, "an index is wanted here, not %s", token_in_words(&text->next).words);
+    if (!text_line_goes_on(text))
+        text_miss(text, &text->next, "an index");
+    text_want_number(text, "an index");
     return text_take(text).number;
 }
 
@@ -72,8 +73,8 @@ bool read_script(const char *argument, const struct names *names, struct script 
 {
     struct operand operand;
     bool read = operand_open(&operand, argument, "SCRIPT");
-    *script = (struct script){.name = operand.name};
-    if (read && operand_holds_zero(&operand))
+    *script = (struct script){.name = operand.name, .records = read && operand_holds_zero(&operand)};
+    if (script->records)
         buffer_append(&script->directives, operand.bytes.bytes, operand.bytes.length);
     else if (read)
         read = read_text(&operand, names, &script->directives);

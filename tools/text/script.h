@@ -8,6 +8,7 @@
 
 struct script {
     const char *name; /* for messages */
+    bool records;     /* it was given as records, and so has bytes that messages can name */
     struct buffer directives;
 };
 

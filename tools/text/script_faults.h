@@ -5,15 +5,16 @@
 #include <stdbool.h>
 #include <stdio.h>
 
-#include "records/buffer.h"
+#include "text/script.h"
 
 /*
- * Prints the fault of the first directive that has one: "directive 3, at byte 14, has kind 99, which no directive has".
- * `rollback`: rollbacks are allowed in the list.  False: no directive has a fault, and nothing is printed.  Safe for any bytes.
+ * Prints the fault of the first directive that has one: "directive 3, at byte 14, has kind 99, which no directive has".  A byte
+ * is named of records alone.  `rollback`: rollbacks are allowed in the list.  False: no directive has a fault, and nothing is
+ * printed.  Safe for any bytes.
  */
-bool print_script_fault(FILE *to, const struct buffer *list, bool rollback);
+bool print_script_fault(FILE *to, const struct script *script, bool rollback);
 
 /* One line, for messages: "NAME: refused by 10: " and the fault. */
-void print_script_refusal(FILE *to, const char *name, const struct buffer *list, bool rollback);
+void print_script_refusal(FILE *to, const struct script *script, bool rollback);
 
 #endif

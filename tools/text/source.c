@@ -200,10 +200,8 @@ static struct part read_name_in_expression(struct parser *p, struct token start)
 /* Behind a minus that nothing stands before.  In its parentheses, what is to be written is right behind any operator. */
 static void fail_sign(struct parser *p, const struct token *sign)
 {
-    uint32_t number = p->text.next.number;
     if (p->text.next.kind == TOKEN_NUMBER)
-        text_fail(&p->text, sign, "there is no sign: for -%" PRIu32 " write (0 - %" PRIu32 ") or %" PRIu32, number, number,
-                  -number);
+        text_fail_sign(&p->text, sign, true);
     else
         text_fail(&p->text, sign, "there is no sign: for -a write (0 - a)");
 }

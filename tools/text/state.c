@@ -43,9 +43,8 @@ struct reader {
 static void take_word(struct reader *reader, size_t place)
 {
     struct text *text = &reader->text;
-    if (text->next.kind != TOKEN_NUMBER)
-        text_fail(text, &text->next, "a word is wanted here, not %s", token_in_words(&text->next).words);
-    else if (reader->given[place])
+    text_want_number(text, "a word");
+    if (reader->given[place])
         text_fail(text, &text->next, "this %s is given twice", place < reader->state->variables ? "variable" : "cell");
     if (text->failed)
         return;
@@ -77,9 +76,8 @@ static void read_cell(struct reader *reader, unsigned array, size_t first)
 {
     struct text *text = &reader->text;
     struct token index = text->next;
-    if (index.kind != TOKEN_NUMBER)
-        text_fail(text, &index, "an index is wanted here, not %s", token_in_words(&index).words);
-    else if (index.number >= reader->table->counts[array])
+    text_want_number(text, "an index");
+    if (index.number >= reader->table->counts[array])
         fail_beyond(reader, array);
     text_take(text);
     text_expect(text, "]");
@@ -88,7 +86,7 @@ static void read_cell(struct reader *reader, unsigned array, size_t first)
         take_word(reader, first + index.number);
 }
 
-/* Cells from the first one on: at least one word. */
+/* Cells from the first one on: at least one word.  A sign is taken for the start of a word, which is told that there is none. */
 static void read_cells(struct reader *reader, unsigned array, size_t first)
 {
     uint32_t cell = 0;
@@ -98,7 +96,7 @@ static void read_cells(struct reader *reader, unsigned array, size_t first)
             fail_beyond(reader, array);
         if (!reader->text.failed)
             take_word(reader, first + cell++);
-    } while (reader->text.next.kind == TOKEN_NUMBER);
+    } while (reader->text.next.kind == TOKEN_NUMBER || text_is(&reader->text, "-"));
 }
 
 static void fail_unknown(struct reader *reader, const struct token *name)

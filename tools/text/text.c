@@ -57,11 +57,19 @@ static bool is_printable(int c)
     return c >= ' ' && c <= '~';
 }
 
+static bool begins_with_mark(const char *bytes, size_t length)
+{
+    static const char mark[] = {'\xef', '\xbb', '\xbf'};
+    return length >= sizeof mark && memcmp(bytes, mark, sizeof mark) == 0;
+}
+
 bool can_be_text(const uint8_t *bytes, size_t length)
 {
+    const char *start = (const char *)bytes;
     if (length == 0 || memchr(bytes, 0, length) != NULL)
         return false;
-    const char *start = (const char *)bytes;
+    if (begins_with_mark(start, length))
+        return true;
     struct text text = {.start = start, .at = start, .end = start + length};
     for (skip_blanks(&text); text.at < text.end; text.at++, skip_blanks(&text))
         if (!is_printable(peek(&text, 0)))
@@ -122,9 +130,7 @@ static bool is_symbol(int c)
 
 static void fail_outside_ascii(struct text *text, const struct token *token)
 {
-    static const char mark[] = {'\xef', '\xbb', '\xbf'};
-    size_t left = (size_t)(text->end - text->at);
-    if (text->at == text->start && left >= sizeof mark && memcmp(text->at, mark, sizeof mark) == 0)
+    if (text->at == text->start && begins_with_mark(text->start, (size_t)(text->end - text->start)))
         text_fail(text, token, "the text begins with a byte order mark (ef bb bf): save it without one");
     else
         text_fail(text, token, "byte %d: only printable ASCII may stand outside comments", peek(text, 0));
@@ -218,6 +224,31 @@ void text_fail(struct text *text, const struct token *where, const char *format,
     fputc('\n', text->errors);
     text->failed = true;
     text->next = (struct token){.kind = TOKEN_END, .at = text->end, .line = text->line, .column = text->column};
+}
+
+void text_fail_sign(struct text *text, const struct token *sign, bool subtracts)
+{
+    uint32_t number = text->next.number;
+    char subtraction[24] = "";
+    if (subtracts)
+        snprintf(subtraction, sizeof subtraction, "(0 - %" PRIu32 ") or ", number);
+    text_fail(text, sign, "there is no sign: for -%" PRIu32 " write %s%" PRIu32, number, subtraction, -number);
+}
+
+void text_miss(struct text *text, const struct token *where, const char *what)
+{
+    text_fail(text, where, "%s is wanted here, not %s", what, token_in_words(where).words);
+}
+
+void text_want_number(struct text *text, const char *what)
+{
+    struct token next = text->next;
+    if (next.kind == TOKEN_NUMBER)
+        return;
+    if (text_accept(text, "-") && text->next.kind == TOKEN_NUMBER)
+        text_fail_sign(text, &next, false);
+    else
+        text_miss(text, &next, what);
 }
 
 struct token_words token_in_words(const struct token *token)

@@ -34,7 +34,10 @@ struct text {
     bool failed;
 };
 
-/* Could these bytes be a text?  Then there are some, none is zero, and outside comments all are printable ASCII or blanks. */
+/*
+ * Could these bytes be a text?  Then there are some, none is zero, and outside comments all are printable ASCII or blanks; or a
+ * byte order mark stands first, with which a text is an error that says so.
+ */
 bool can_be_text(const uint8_t *bytes, size_t length);
 
 /* Starts a text: its first token is next. */
@@ -53,6 +56,15 @@ bool text_line_goes_on(const struct text *text);
 
 /* Prints NAME:LINE:COLUMN: message, for the first error alone.  From then on the text has failed, and its end is next. */
 void text_fail(struct text *text, const struct token *where, const char *format, ...);
+
+/* Fails at a sign, behind which a number is next, and says what to write instead; `subtracts`: a subtraction can be written. */
+void text_fail_sign(struct text *text, const struct token *sign, bool subtracts);
+
+/* Fails: this is wanted ("an index"), and not the token that stands there. */
+void text_miss(struct text *text, const struct token *where, const char *what);
+
+/* Fails unless a number, wanted as this, is next. */
+void text_want_number(struct text *text, const char *what);
 
 /* For messages: the token as it stands in the text, cut where it is long. */
 struct token_words {

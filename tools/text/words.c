@@ -7,6 +7,11 @@
 #include "records/kinds.h"
 #include "records/little_endian.h"
 
+const char *plural(size_t count)
+{
+    return count == 1 ? "" : "s";
+}
+
 const char *kind_in_words(unsigned kind)
 {
     switch (kind) {

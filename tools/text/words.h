@@ -9,6 +9,9 @@
 #include "records/table.h"
 #include "text/names.h"
 
+/* What a noun ends in behind this number. */
+const char *plural(size_t count);
+
 /* The kind of a record of a table, by its name in document 01. */
 const char *kind_in_words(unsigned kind);
 
