@@ -3,9 +3,7 @@
 
 #include "commands/command.h"
 #include "files/files.h"
-#include "files/messages.h"
 #include "files/outputs.h"
-#include "files/paths.h"
 #include "library/calls.h"
 #include "text/faults.h"
 #include "text/source.h"
@@ -25,7 +23,7 @@ static int judge_and_write(const char *name, const struct buffer *table, const c
         print_refusal(stderr, name, table, answer);
         return STATUS_REFUSED;
     }
-    return write_file(output, table->bytes, table->length) ? STATUS_DONE : STATUS_TROUBLE;
+    return write_file(output, table->bytes, table->length) == WRITTEN ? STATUS_DONE : STATUS_TROUBLE;
 }
 
 static int assemble_file(const char *path, const char *output)
@@ -48,11 +46,7 @@ static int run_assemble(const struct command *self, int argc, char **argv)
         return STATUS_TROUBLE;
     if (output == NULL)
         output = "-";
-    if (is_written_over(argv[0], output)) {
-        complain(output_name(output), "would be written over its own source");
-        return STATUS_TROUBLE;
-    }
-    if (!takes_bytes(output))
+    if (!spares_input(output, argv[0]) || !takes_bytes(output))
         return STATUS_TROUBLE;
     return assemble_file(argv[0], output);
 }

@@ -66,9 +66,25 @@ static bool are_names_of_files(const struct batch *batch)
 
 static bool is_name_in_order(const char *path)
 {
+    if (*path == 0)
+        return complain_of(path, "is no name");
     if (names_folder(path))
         return complain_of(path, "is the name of a folder, and not of a file");
-    return !leads_nowhere(path) || complain_of(path, "is a link that leads nowhere");
+    if (is_standard_error(path))
+        return complain_of(path, "would be written and is standard error");
+    return !leads_nowhere(path) || complain_of(path, of_dangling);
+}
+
+/* Is it a file, or its folder there for it?  Of the report, else all would be done before that shows. */
+static bool is_place_of_file(const char *path)
+{
+    struct stat there;
+    char *folder = path_beside(path, ".");
+    bool found = stat(path, &there) == 0;
+    bool is_file = found && !S_ISDIR(there.st_mode), is_new = !found && errno == ENOENT && stat(folder, &there) == 0;
+    int why = errno;
+    free(folder);
+    return is_file || is_new || complain_of(path, found ? "is a folder, and not a file" : strerror(why));
 }
 
 static bool is_out_in_order(const struct batch *batch, const char *out, const struct file_set *inputs)
@@ -86,11 +102,8 @@ static bool is_out_in_order(const struct batch *batch, const char *out, const st
 
 static bool is_report_in_order(const struct batch *batch, const struct file_set *inputs)
 {
-    struct stat there;
-    if (!is_name_in_order(batch->report))
+    if (!is_name_in_order(batch->report) || (!is_dash(batch->report) && !is_place_of_file(batch->report)))
         return false;
-    if (!is_dash(batch->report) && stat(batch->report, &there) == 0 && S_ISDIR(there.st_mode))
-        return complain_of(batch->report, "is a folder, and not a file"); /* else all would be done before that shows */
     if (file_set_holds(inputs, batch->report))
         return complain_of(batch->report, "would be written and is read too");
     if (batch->into != NULL && is_one_output("-", batch->report))
@@ -108,13 +121,19 @@ static bool are_outs_distinct(const struct batch *batch, char *const *outs)
     return distinct;
 }
 
+static void take_outs(const struct batch *batch, struct buffer *outs)
+{
+    for (size_t i = 0; i < batch->count; i++) {
+        char *out = batch_out(batch, i);
+        buffer_append(outs, (const uint8_t *)&out, sizeof out);
+    }
+}
+
+/* Each is freed as it is looked at. */
 static bool are_outs_in_order(const struct batch *batch, const struct file_set *inputs)
 {
     struct buffer paths = {0};
-    for (size_t i = 0; i < batch->count; i++) {
-        char *out = batch_out(batch, i);
-        buffer_append(&paths, (const uint8_t *)&out, sizeof out);
-    }
+    take_outs(batch, &paths);
     char **outs = (char **)(void *)paths.bytes;
     bool in_order = are_outs_distinct(batch, outs);
     for (size_t i = 0; i < batch->count; i++) {

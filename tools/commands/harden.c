@@ -30,6 +30,7 @@ struct work {
     struct buffer dangling; /* a byte for each table */
     struct report report;
     size_t ended[ENDINGS];  /* how many tables ended so */
+    bool unsynced;          /* the folder of one that was written is not synced */
     bool unheard;           /* a line could not be printed: nobody is there to be told more */
 };
 
@@ -89,6 +90,7 @@ static void tell(struct work *work, const struct hardening *hardening, const cha
 static void take_down(struct work *work, const struct hardening *hardening)
 {
     work->ended[hardening->ending]++;
+    work->unsynced |= hardening->unsynced;
     report_add(&work->report, hardening);
 }
 
@@ -97,7 +99,7 @@ static void harden_one(struct work *work, size_t i)
     struct hardening hardening = {.name = work->batch->files[i], .ending = ENDED_FAILED};
     char *out = batch_out(work->batch, i);
     if (work->dangling.bytes[i])
-        complain(hardening.name, "is a link that leads nowhere");
+        complain(hardening.name, "%s", of_dangling);
     else
         harden_file(&hardening, hardening.name, out);
     take_down(work, &hardening);
@@ -122,7 +124,7 @@ static void harden_all(struct work *work)
 
 static int status_of(const struct work *work)
 {
-    if (work->unheard || work->ended[ENDED_FAILED] > 0)
+    if (work->unheard || work->unsynced || work->ended[ENDED_FAILED] > 0)
         return STATUS_TROUBLE;
     return work->ended[ENDED_REFUSED] > 0 ? STATUS_REFUSED : STATUS_DONE;
 }

@@ -20,9 +20,17 @@ static bool is_readable(const struct buffer *table)
     return answer.refusal == FLOW_ACCEPTED;
 }
 
-static enum ending ending_of(bool done)
+/* Of what could not be read or written.  A signal that only came meanwhile is not the reason. */
+static enum ending ending_of_failure(void)
 {
-    return done ? ENDED_HARDENED : is_interrupted() ? ENDED_INTERRUPTED : ENDED_FAILED;
+    return was_broken_off() ? ENDED_INTERRUPTED : ENDED_FAILED;
+}
+
+static enum ending write_hardened(struct hardening *hardening, const char *out)
+{
+    enum written written = write_file(out, hardening->hardened.bytes, hardening->hardened.length);
+    hardening->unsynced = written == WRITTEN_UNSYNCED;
+    return written == NOT_WRITTEN ? ending_of_failure() : ENDED_HARDENED;
 }
 
 void harden_file(struct hardening *hardening, const char *name, const char *out)
@@ -30,7 +38,7 @@ void harden_file(struct hardening *hardening, const char *name, const char *out)
     *hardening = (struct hardening){.name = name};
     hardening->read = read_file(name, &hardening->table);
     if (!hardening->read) {
-        hardening->ending = ending_of(false);
+        hardening->ending = ending_of_failure();
         return;
     }
     hardening->answer = harden_table(&hardening->table, &hardening->hardened);
@@ -39,8 +47,7 @@ void harden_file(struct hardening *hardening, const char *name, const char *out)
         hardening->nodes_out = nodes_of(&hardening->hardened);
     if (!refused || is_readable(&hardening->table))
         hardening->nodes_in = nodes_of(&hardening->table);
-    hardening->ending =
-        refused ? ENDED_REFUSED : ending_of(write_file(out, hardening->hardened.bytes, hardening->hardened.length));
+    hardening->ending = refused ? ENDED_REFUSED : write_hardened(hardening, out);
 }
 
 void hardening_free(struct hardening *hardening)

@@ -10,7 +10,7 @@ enum ending {
     ENDED_HARDENED,
     ENDED_REFUSED,     /* by the library */
     ENDED_FAILED,      /* it could not be read, or what came of it not be written */
-    ENDED_INTERRUPTED, /* a signal came before it was done */
+    ENDED_INTERRUPTED, /* a signal came before it was begun, or broke off the reading or writing */
     ENDINGS
 };
 
@@ -18,6 +18,7 @@ struct hardening {
     const char *name; /* the file's, as given */
     enum ending ending;
     bool read;        /* if it could not be, nothing below is known */
+    bool unsynced;    /* it is written, but its folder is not synced */
     struct answer answer;
     struct buffer table, hardened;
     unsigned nodes_in, nodes_out; /* 0: not known, as every table that reads has a node */

@@ -56,7 +56,7 @@ static bool write_state(const char *out, const struct run *run, unsigned variabl
     buffer_append(&words, run->cells.bytes, run->cells.length);
     bool written = !can_be_text(words.bytes, words.length);
     if (written)
-        written = write_file(out, words.bytes, words.length);
+        written = write_file(out, words.bytes, words.length) == WRITTEN;
     else
         complain(out, "is not written: the words of this state would be read as text");
     buffer_free(&words);

@@ -26,7 +26,7 @@ static int write_words(const struct open_table *opened, const char *output)
 
 static int write_bytes(const struct open_table *opened, const char *output)
 {
-    return write_file(output, opened->sheet.bytes, opened->sheet.length) ? STATUS_DONE : STATUS_TROUBLE;
+    return write_file(output, opened->sheet.bytes, opened->sheet.length) == WRITTEN ? STATUS_DONE : STATUS_TROUBLE;
 }
 
 static int run_sheet(const struct command *self, int argc, char **argv)

@@ -23,7 +23,7 @@ bool draft_write(struct draft *draft, const char *path)
 {
     bool whole = !ferror(draft->to);
     whole = fclose(draft->to) == 0 && whole;
-    bool written = whole ? write_file(path, (const uint8_t *)draft->text, draft->length) : complain_of_memory(path);
+    bool written = whole ? write_file(path, (const uint8_t *)draft->text, draft->length) == WRITTEN : complain_of_memory(path);
     free(draft->text);
     return written;
 }

@@ -12,9 +12,13 @@
 #include "files/messages.h"
 #include "files/paths.h"
 
+/* Says what errno says, and keeps it; of a link that leads nowhere it would say that the link is missing. */
 static bool complain_why(const char *path)
 {
-    complain(path, "%s", strerror(errno));
+    int why = errno;
+    bool dangling = (why == ENOENT || why == ELOOP) && leads_nowhere(path);
+    complain(path, "%s", dangling ? of_dangling : strerror(why));
+    errno = why;
     return false;
 }
 
@@ -101,17 +105,26 @@ static bool write_all(int file, const uint8_t *bytes, size_t length)
 }
 
 /* What was printed before goes out first. */
-static bool write_to_standard_output(const uint8_t *bytes, size_t length)
+static enum written write_to_standard_output(const uint8_t *bytes, size_t length)
 {
-    if (fflush(stdout) != 0 || !write_all(STDOUT_FILENO, bytes, length))
-        return complain_why("standard output");
-    return true;
+    bool done = fflush(stdout) == 0 && write_all(STDOUT_FILENO, bytes, length);
+    return done || complain_why("standard output") ? WRITTEN : NOT_WRITTEN;
 }
 
-static bool write_into(const char *path, const uint8_t *bytes, size_t length)
+static enum written write_into(const char *path, const uint8_t *bytes, size_t length)
 {
     int file = open_file(path, O_WRONLY);
-    return file >= 0 && close_after(file, write_all(file, bytes, length));
+    bool done = file >= 0 && close_after(file, write_all(file, bytes, length));
+    return done || complain_why(path) ? WRITTEN : NOT_WRITTEN;
+}
+
+static bool sync_file(int file)
+{
+    int failed;
+    do
+        failed = fsync(file);
+    while (failed && is_to_be_repeated());
+    return !failed;
 }
 
 /* The mode that a plain creation would give. */
@@ -137,7 +150,7 @@ static bool write_temporary(char *temporary, mode_t mode, const uint8_t *bytes, 
     int file = mkstemp(temporary);
     if (file < 0)
         return false;
-    bool done = write_all(file, bytes, length) && fchmod(file, mode) == 0 && fsync(file) == 0;
+    bool done = write_all(file, bytes, length) && fchmod(file, mode) == 0 && sync_file(file);
     return close_after(file, done) || drop(temporary);
 }
 
@@ -157,23 +170,19 @@ static bool write_and_rename(char *temporary, const char *target, mode_t mode, c
 }
 
 /* Makes the new name last.  A file system that cannot sync a folder (EINVAL) has nothing to sync. */
-static bool sync_folder(int folder, const char *path)
+static enum written sync_folder(int folder, const char *path)
 {
-    sigset_t before;
-    hold_signals(&before);
-    bool synced = close_after(folder, fsync(folder) == 0 || errno == EINVAL);
-    release_signals(&before);
-    if (synced)
-        return true;
-    complain(path, "is written, but its folder is not synced: %s", strerror(errno));
-    return false;
+    bool synced = close_after(folder, sync_file(folder) || errno == EINVAL);
+    if (!synced)
+        complain(path, "is written, but its folder is not synced: %s", strerror(errno));
+    return synced ? WRITTEN : WRITTEN_UNSYNCED;
 }
 
 /* Replaces the target, a regular file or none; `path` is its name in messages. */
-static bool replace(const char *target, const char *path, mode_t mode, const uint8_t *bytes, size_t length)
+static enum written replace(const char *target, const char *path, mode_t mode, const uint8_t *bytes, size_t length)
 {
     char *temporary = path_beside(target, ".flow-XXXXXX"), *parent = path_beside(target, ".");
-    int folder = open(parent, O_RDONLY | O_DIRECTORY | O_CLOEXEC);
+    int folder = open_file(parent, O_RDONLY | O_DIRECTORY);
     bool renamed = folder >= 0 && write_and_rename(temporary, target, mode, bytes, length);
     if (!renamed)
         complain_why(path);
@@ -182,37 +191,40 @@ static bool replace(const char *target, const char *path, mode_t mode, const uin
     if (renamed)
         return sync_folder(folder, path);
     if (folder >= 0)
-        close(folder);
-    return false;
+        close_after(folder, false);
+    return NOT_WRITTEN;
 }
 
 /* A file that may not be written is not replaced either. */
-static bool replace_existing(const char *path, mode_t mode, const uint8_t *bytes, size_t length)
+static enum written replace_existing(const char *path, mode_t mode, const uint8_t *bytes, size_t length)
 {
     char *target = realpath(path, NULL);
-    bool done = target != NULL && access(target, W_OK) == 0;
-    done = done ? replace(target, path, mode, bytes, length) : complain_why(path);
+    bool allowed = (target != NULL && access(target, W_OK) == 0) || complain_why(path);
+    enum written written = allowed ? replace(target, path, mode, bytes, length) : NOT_WRITTEN;
     free(target);
-    return done;
+    return written;
 }
 
-bool write_file(const char *path, const uint8_t *bytes, size_t length)
+/* errno is why the path leads to nothing. */
+static enum written write_new(const char *path, const uint8_t *bytes, size_t length)
+{
+    if (errno != ENOENT || leads_nowhere(path))
+        return complain_why(path), NOT_WRITTEN;
+    return replace(path, path, mode_of_new_file(), bytes, length);
+}
+
+enum written write_file(const char *path, const uint8_t *bytes, size_t length)
 {
     struct stat there;
     if (is_dash(path))
         return write_to_standard_output(bytes, length);
     if (names_folder(path))
-        return complain(path, "is the name of a folder, and not of a file"), false;
-    if (stat(path, &there) == 0) {
-        if (!S_ISCHR(there.st_mode) && is_standard_output(path))
-            return write_to_standard_output(bytes, length);
-        if (!S_ISREG(there.st_mode))
-            return write_into(path, bytes, length) || complain_why(path);
-        return replace_existing(path, there.st_mode & 0777, bytes, length);
-    }
-    if (errno != ENOENT)
-        return complain_why(path);
-    if (leads_nowhere(path))
-        return complain(path, "is a link that leads nowhere"), false;
-    return replace(path, path, mode_of_new_file(), bytes, length);
+        return complain(path, "is the name of a folder, and not of a file"), NOT_WRITTEN;
+    if (stat(path, &there) != 0)
+        return write_new(path, bytes, length);
+    if (!S_ISCHR(there.st_mode) && is_standard_output(path))
+        return write_to_standard_output(bytes, length);
+    if (!S_ISREG(there.st_mode))
+        return write_into(path, bytes, length);
+    return replace_existing(path, there.st_mode & 0777, bytes, length);
 }

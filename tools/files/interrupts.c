@@ -81,6 +81,11 @@ bool is_to_be_repeated(void)
     return errno == EINTR && !is_interrupted();
 }
 
+bool was_broken_off(void)
+{
+    return errno == EINTR && is_interrupted();
+}
+
 /* In this order none is lost: what comes later than the first line ends the program by itself. */
 void end_by_interrupt(void)
 {

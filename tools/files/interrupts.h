@@ -21,8 +21,9 @@ void release_signals(const sigset_t *before);
 void note_interrupts(void);
 bool is_interrupted(void);
 
-/* Of a call of the system that failed: was it broken off by a signal that is no reason to stop? */
+/* Of a call of the system that failed: was it broken off by a signal, which is no reason to stop, or by the one noted? */
 bool is_to_be_repeated(void);
+bool was_broken_off(void);
 
 /* Signals end the program again; and so does, here and now, the one that was noted. */
 void end_by_interrupt(void);

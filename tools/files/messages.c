@@ -1,5 +1,6 @@
 #include "files/messages.h"
 
+#include <errno.h>
 #include <stdbool.h>
 
 #include "files/paths.h"
@@ -50,6 +51,7 @@ void print_message(FILE *to, const char *format, va_list arguments)
 /* Whether standard output can be flushed shows at its end. */
 void complain(const char *name, const char *format, ...)
 {
+    int why = errno;
     va_list arguments;
     fflush(stdout);
     fputs("flow: ", stderr);
@@ -59,4 +61,5 @@ void complain(const char *name, const char *format, ...)
     print_message(stderr, format, arguments);
     va_end(arguments);
     fputc('\n', stderr);
+    errno = why;
 }

@@ -14,7 +14,7 @@ const char *output_name(const char *path);
 /* Prints a message, of which a very long one is cut. */
 void print_message(FILE *to, const char *format, va_list arguments);
 
-/* Prints "flow: NAME: .." on standard error, behind all that was printed on standard output before. */
+/* Prints "flow: NAME: .." on standard error, behind all that was printed on standard output before.  Keeps errno. */
 void complain(const char *name, const char *format, ...);
 
 #endif

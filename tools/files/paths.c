@@ -1,5 +1,6 @@
 #include "files/paths.h"
 
+#include <errno.h>
 #include <stdlib.h>
 #include <string.h>
 #include <sys/stat.h>
@@ -113,24 +114,42 @@ bool is_written_over(const char *input, const char *output)
            compare(&read, &written) == 0;
 }
 
+static bool is_standard(int standard, const char *path, struct stat *there)
+{
+    struct stat named;
+    return stat(path, &named) == 0 && fstat(standard, there) == 0 && is_one(&named, there);
+}
+
+bool is_standard_output(const char *path)
+{
+    struct stat there;
+    return is_dash(path) || is_standard(STDOUT_FILENO, path, &there);
+}
+
+bool is_standard_error(const char *path)
+{
+    struct stat there;
+    return !is_standard_output(path) && is_standard(STDERR_FILENO, path, &there) && S_ISREG(there.st_mode);
+}
+
+/* Of devices a terminal alone: two that go to /dev/null do not meet. */
 bool is_one_output(const char *one, const char *other)
 {
     struct identity first, second;
+    if (isatty(STDOUT_FILENO) && is_standard_output(one) && is_standard_output(other))
+        return true;
     if (identity_of(one, STDOUT_FILENO, &first) && identity_of(other, STDOUT_FILENO, &second))
         return compare(&first, &second) == 0;
     return !is_dash(one) && !is_dash(other) && is_one_name(one, other);
 }
 
+const char of_dangling[] = "is a link that leads nowhere";
+
 bool leads_nowhere(const char *path)
 {
     struct stat there;
-    return !is_dash(path) && lstat(path, &there) == 0 && S_ISLNK(there.st_mode) && stat(path, &there) != 0;
-}
-
-bool is_standard_output(const char *path)
-{
-    struct stat named, standard;
-    return is_dash(path) || (stat(path, &named) == 0 && fstat(STDOUT_FILENO, &standard) == 0 && is_one(&named, &standard));
+    return !is_dash(path) && lstat(path, &there) == 0 && S_ISLNK(there.st_mode) && stat(path, &there) != 0 &&
+           (errno == ENOENT || errno == ELOOP);
 }
 
 static void file_set_take(struct file_set *set, char *const *paths, size_t count, int standard)

@@ -22,15 +22,19 @@ char *path_copy(const char *path);
 char *path_within(const char *folder, const char *name);
 char *path_beside(const char *path, const char *name);
 
-/* Is it a link that leads nowhere? */
+/* Is it a link that leads nowhere?  (One that may not be followed may lead somewhere.)  And what is said of it. */
 bool leads_nowhere(const char *path);
+extern const char of_dangling[];
 
 /* Is it standard output: "-", or the same file by another name, as /dev/stdout? */
 bool is_standard_output(const char *path);
 
+/* Is it the regular file that standard error goes to, and not by way of standard output?  Replaced, it would lose the messages. */
+bool is_standard_error(const char *path);
+
 /*
  * Would what is written change what is read?  A regular file alone is in danger: a pipe or a device is none the worse.  Would
- * two that are written be one file or pipe?  "-" is standard input, or output.
+ * two that are written be one file, pipe or terminal?  "-" is standard input, or output.
  */
 bool is_written_over(const char *input, const char *output);
 bool is_one_output(const char *one, const char *other);

@@ -4,7 +4,7 @@
  *   FAIL=NAME, FAIL=NAME:N  the first, or the Nth, call of this name fails: read, write, fchmod, fsync, close or rename
  *   RAISE=NAME, ..:N        in this call the signal comes whose number is SIGNAL: in one of these, open, mkstemp or unlink,
  *                           before its work is done; with LATE=1, after that; with TWICE=1, twice
- *   SHORT=1                 reads and writes are interrupted every other time, and else take 7 bytes at most
+ *   SHORT=1                 open, read, write and fsync are interrupted every other time; reads and writes take 7 bytes at most
  *   TRACE=1                 fsync and rename are told on standard error
  */
 #include <dlfcn.h>
@@ -96,7 +96,7 @@ int open(const char *path, int flags, ...)
     mode_t mode = flags & O_CREAT ? va_arg(arguments, mode_t) : 0;
     va_end(arguments);
     let_come(signalled, false);
-    int file = next(path, flags, mode);
+    int file = is_interrupted() ? -1 : next(path, flags, mode);
     let_come(signalled, true);
     return file;
 }
@@ -139,7 +139,7 @@ int fsync(int file)
     if (getenv("TRACE") != NULL && fstat(file, &there) == 0)
         fprintf(stderr, "fsync of a %s\n", S_ISDIR(there.st_mode) ? "folder" : "file");
     let_come(signalled, false);
-    int done = fails("fsync", EIO) ? -1 : next(file);
+    int done = fails("fsync", EIO) || is_interrupted() ? -1 : next(file);
     let_come(signalled, true);
     return done;
 }

@@ -5,6 +5,7 @@ They come inside each call of the system that is made, before its work and after
 flow waits for a fifo, a pipe or a terminal. Each time: flow ends by the signal; no temporary file is left; what is reported, in
 lines, in the count and in the report, is what is in the folder; and a table that is not there is reported as interrupted.
 """
+import itertools
 import os
 import pty
 import random
@@ -130,48 +131,70 @@ def batch(names):
 
 # ---- Inside calls ----
 
+def reached(check, name, late):
+    """Calls `check` for the first call of this name, the second and so on, as long as it says that there is one."""
+    n = 1
+    while check(name, n, late, ENDING[n % len(ENDING)]):
+        n += 1
+    return n - 1
+
+
+def check_each_call(check):
+    for name, late in itertools.product(CALLS, (False, True)):
+        expect(reached(check, name, late) > 0, name, "is never called")
+
+
 def check_calls_of_batch():
-    """Each call in turn, up to the first number that is not reached."""
     names, met = ["a", "orphan", "b"], set()
-    for name in CALLS:
-        for late in False, True:
-            n = 0
-            while True:
-                n += 1
-                number = ENDING[n % len(ENDING)]
-                status, out, err = run(batch(names), environment=with_signal(name, n, late, number))
-                if status == 1:
-                    break
-                met.add(check_batch(names, number, out, status, (name, n, late, number)))
-                expect(err == "", name, n, err)
-            expect(n > 1, name, "is never called")
+
+    def check(name, n, late, number):
+        status, out, err = run(batch(names), environment=with_signal(name, n, late, number))
+        if status == 1:
+            return False
+        met.add(check_batch(names, number, out, status, (name, n, late, number)))
+        expect(err == "", name, n, err)
+        return True
+
+    check_each_call(check)
     expect(met == {1, 2, 3}, "ended after so many tables:", met)
 
 
 def check_calls_of(arguments, target, new):
     """One output file: it is as it was, or new and whole."""
-    for name in CALLS:
-        for late in False, True:
-            n = 0
-            while True:
-                n += 1
-                number = ENDING[n % len(ENDING)]
-                write(target, b"old\n")
-                status, _, err = run(arguments, environment=with_signal(name, n, late, number))
-                if status == 0:
-                    break
-                what = arguments, name, n, late, number
-                expect(status == -number and err == "" and temporaries() == [], what, status, err, temporaries())
-                expect(read(target) in (b"old\n", new), what, "wrote", read(target))
-            expect(n > 1, arguments, name, "is never called")
+    def check(name, n, late, number):
+        write(target, b"old\n")
+        status, _, err = run(arguments, environment=with_signal(name, n, late, number))
+        if status == 0:
+            return False
+        what = arguments, name, n, late, number
+        expect(status == -number and err == "" and temporaries() == [], what, status, err, temporaries())
+        expect(read(target) in (b"old\n", new), what, "wrote", read(target))
+        return True
+
+    check_each_call(check)
 
 
 def check_failing_write():
-    """A write fails, and in the unlink of the temporary file the signal comes."""
-    for late in False, True:
-        status, out, _ = run(batch(["a", "b"]), environment=with_signal("unlink", 1, late, signal.SIGTERM, FAIL="fchmod"))
-        expect(status == -signal.SIGTERM and temporaries() == [], "unlink", status, temporaries())
-        expect(out == "0 hardened, 0 refused, 2 interrupted\n", "unlink", out)
+    """A write fails, and meanwhile the signal comes: the table has failed, and the next one is interrupted."""
+    for name, late, fails in ("unlink", False, "fchmod"), ("unlink", True, "fchmod"), ("mkstemp", True, "write"):
+        status, out, _ = run(batch(["a", "b"]), environment=with_signal(name, 1, late, signal.SIGTERM, FAIL=fails))
+        expect(status == -signal.SIGTERM and temporaries() == [], name, fails, status, temporaries())
+        expect(out == "a: failed\n0 hardened, 0 refused, 1 failed, 1 interrupted\n", name, fails, out)
+        refusals = [line.split("\t")[3] for line in read("report").decode().splitlines()]
+        expect(refusals == ["refusal", "-", "interrupted"] and os.listdir("out") == [], name, fails, refusals)
+
+
+def check_failing_read():
+    status, out, err = run(batch(["a", "b"]), environment=with_signal("read", 1, False, signal.SIGTERM, FAIL="read"))
+    expect(status == -signal.SIGTERM and err == "flow: a: Input/output error\n", "read", status, err)
+    expect(out == "a: failed\n0 hardened, 0 refused, 1 failed, 1 interrupted\n", "read", out)
+
+
+def check_unsynced_folder():
+    """The sync of the folder alone fails, and the signal comes in it: the table is hardened."""
+    status, out, err = run(batch(["a", "b"]), environment=with_signal("fsync", 2, False, signal.SIGTERM, FAIL="fsync:2"))
+    expect(check_batch(["a", "b"], signal.SIGTERM, out, status, "unsynced") == 1, "unsynced")
+    expect(err == "flow: out/a: is written, but its folder is not synced: Input/output error\n", "unsynced", err)
 
 
 def check_two_at_once():
@@ -207,8 +230,8 @@ def check_random(rounds):
 # ---- While flow waits ----
 
 def is_asleep(process):
-    """Does it handle signals by now, and has the system put it to sleep?"""
-    lines = dict(line.split(":\t", 1) for line in read(f"/proc/{process.pid}/status").decode().splitlines() if ":\t" in line)
+    """Does this process handle signals by now, and has the system put it to sleep?"""
+    lines = dict(line.split(":\t", 1) for line in read(f"/proc/{process}/status").decode().splitlines() if ":\t" in line)
     return int(lines["SigCgt"], 16) >> (signal.SIGTERM - 1) & 1 and lines["State"].startswith("S")
 
 
@@ -220,13 +243,13 @@ def wait_until_asleep(process):
         asleep = asleep + 1 if is_asleep(process) else 0
         if asleep == 5:
             return
-    process.kill()
-    expect(False, process.args, "does not wait")
+    os.kill(process, signal.SIGKILL)
+    expect(False, process, "does not wait")
 
 
 def interrupt_waiting(arguments, number, **more):
     process = start(arguments, **more)
-    wait_until_asleep(process)
+    wait_until_asleep(process.pid)
     process.send_signal(number)
     return (*finish(process), process.returncode)
 
@@ -294,7 +317,7 @@ def check_further_signal():
     """Where all that is told must wait, the end takes seconds; a further signal, over a second later, ends flow at once."""
     ends = full_pipe()
     process = start(batch(["missing", "a"]), stdout=ends[1], stderr=ends[1])
-    wait_until_asleep(process)
+    wait_until_asleep(process.pid)
     process.send_signal(signal.SIGINT)
     time.sleep(1.5)
     process.send_signal(signal.SIGTERM)
@@ -312,7 +335,7 @@ def check_ignored():
 
     writer = os.open("fifo", os.O_RDWR)
     process = start(batch(["a", "fifo"]), preexec=ignore)
-    wait_until_asleep(process)
+    wait_until_asleep(process.pid)
     process.send_signal(signal.SIGHUP)
     time.sleep(0.1)
     os.write(writer, SKIP)
@@ -327,7 +350,7 @@ def check_terminal():
     if child == 0:
         take_default_signals()
         os.execv(FLOW + "/flow", ["flow", "harden", "-o", "typed", "--report", "report", "-"])
-    time.sleep(0.3)
+    wait_until_asleep(child)
     os.write(terminal, b"\x03")
     _, status = os.waitpid(child, 0)
     os.close(terminal)
@@ -348,6 +371,8 @@ def main():
         check_calls_of(["assemble", "-o", "target", "skip.flow"], "target", SKIP)
         check_calls_of(["sheet", "--raw", "-o", "target", "a"], "target", bytes.fromhex("0e008000 0100 0100 00000000 0000"))
         check_failing_write()
+        check_failing_read()
+        check_unsynced_folder()
         check_two_at_once()
         check_random(60)
         for number in ENDING:

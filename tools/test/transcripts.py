@@ -5,7 +5,7 @@ A transcript is a file of commands, `$ COMMAND`, each followed by the lines that
 by `? STATUS` or `(exit status STATUS)`; of a pipe the status is that of its last part that failed. Lines on standard error begin
 with `! ` and stand behind those on standard output. A command that ends in <<END goes on up to the line END. Lines that begin
 with `#`, and blank ones before a command, are for the reader. Each file is played in a fresh folder; EXAMPLES names that of the
-example sources. Of a Markdown file the blocks marked `console` are taken, in which standard error has no mark.
+example sources, TERMINAL is terminal.py, FAILING the library of failing.c. Of a Markdown file the blocks marked `console` are taken, in which standard error has no mark.
 """
 import difflib
 import os
@@ -75,9 +75,9 @@ def play_file(path, environment):
 def main():
     flow, *paths = sys.argv[1:]
     folder = os.path.abspath(flow)
-    examples = os.path.abspath(os.path.join(os.path.dirname(__file__), "../../examples"))
+    tests = os.path.dirname(os.path.abspath(__file__))
     environment = dict(os.environ, PATH=folder + ":" + os.environ["PATH"], FAILING=folder + "/test/failing.so",
-                       EXAMPLES=examples, LC_ALL="C")
+                       EXAMPLES=os.path.normpath(tests + "/../../examples"), TERMINAL=tests + "/terminal.py", LC_ALL="C")
     counts = [play_file(path, environment) for path in paths]
     played, failed = sum(count[0] for count in counts), sum(count[1] for count in counts)
     print(f"transcripts: {played} commands of {len(paths)} files, {failed} failed")

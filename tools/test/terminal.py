@@ -1,0 +1,13 @@
+#!/usr/bin/env python3
+"""Runs a command of the shell on a terminal of its own: terminal.py COMMAND. What comes in is typed there (\\004 at the start of
+a line ends it), what the terminal shows goes out without its carriage returns, and the exit status is the command's."""
+import os
+import pty
+import sys
+
+
+def shown(terminal):
+    return os.read(terminal, 4096).replace(b"\r", b"")
+
+
+sys.exit(os.waitstatus_to_exitcode(pty.spawn(["sh", "-c", sys.argv[1]], shown)))
