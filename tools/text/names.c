@@ -21,15 +21,19 @@ int array_named(const struct names *names, const char *name, size_t length)
     return find(names->array, names->arrays, name, length);
 }
 
+static void number(char (*list)[NAME_BYTES], unsigned count, char letter)
+{
+    for (unsigned i = 0; i < count; i++)
+        snprintf(list[i], NAME_BYTES, "%c%u", letter, i);
+}
+
 void number_names(struct names *names, const struct table *table, bool flag)
 {
     names->variables = table->variables;
     names->arrays = table->arrays;
     names->declared = false;
-    for (unsigned x = 0; x < names->variables; x++)
-        snprintf(names->variable[x], NAME_BYTES, "v%u", x);
-    for (unsigned a = 0; a < names->arrays; a++)
-        snprintf(names->array[a], NAME_BYTES, "a%u", a);
+    number(names->variable, names->variables, 'v');
+    number(names->array, names->arrays, 'a');
     if (flag)
         name_flag(names);
 }

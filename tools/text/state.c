@@ -190,34 +190,49 @@ bool read_state(const char *argument, const char *called, const struct table *ta
 
 /* ---- Printing and comparing ---- */
 
-/* The first word in any case, the others up to the last that is not 0. */
-static void print_cells(FILE *to, const uint8_t *words, size_t count)
+/* How many words there are up to the last that is not 0. */
+static size_t count_words(const uint8_t *words, size_t count)
 {
-    while (count > 1 && get32(words + 4 * (count - 1)) == 0)
+    while (count > 0 && get32(words + 4 * (count - 1)) == 0)
         count--;
+    return count;
+}
+
+static void print_words(FILE *to, char before, const uint8_t *words, size_t count)
+{
     for (size_t i = 0; i < count; i++)
-        fprintf(to, "%s%" PRIu32, i == 0 ? "=" : " ", get32(words + 4 * i));
+        fprintf(to, "%c%" PRIu32, i == 0 ? before : ' ', get32(words + 4 * i));
+}
+
+static void print_variables(FILE *to, const struct names *names, unsigned variables, const uint8_t *words)
+{
+    for (unsigned x = 0; x < variables; x++)
+        fprintf(to, "%c%s=%" PRIu32, x == 0 ? ' ' : ',', names->variable[x], get32(words + 4 * x));
+}
+
+/* Of each array the first cell in any case. */
+static void print_arrays(FILE *to, char before, const struct names *names, const struct table *table, const uint8_t *words)
+{
+    for (unsigned array = 0; array < table->arrays; array++) {
+        const uint8_t *cells = words + 4 * first_cell(table, array);
+        size_t count = count_words(cells, table->counts[array]);
+        fprintf(to, "%c%s", array == 0 ? before : ',', names->array[array]);
+        print_words(to, '=', cells, count > 0 ? count : 1);
+    }
 }
 
 void print_state(FILE *to, const struct names *names, const struct table *table, unsigned variables,
                  const uint8_t *variable_words, const uint8_t *cell_words)
 {
-    char separator = ' ';
-    for (unsigned x = 0; x < variables; x++, separator = ',')
-        fprintf(to, "%c%s=%" PRIu32, separator, names->variable[x], get32(variable_words + 4 * x));
-    for (unsigned array = 0; array < table->arrays; array++, separator = ',') {
-        fprintf(to, "%c%s", separator, names->array[array]);
-        print_cells(to, cell_words + 4 * first_cell(table, array), table->counts[array]);
-    }
+    print_variables(to, names, variables, variable_words);
+    print_arrays(to, variables == 0 ? ' ' : ',', names, table, cell_words);
 }
 
 static void print_pending(FILE *to, const uint8_t *words, size_t count)
 {
-    while (count > 0 && get32(words + 4 * (count - 1)) == 0)
-        count--;
-    for (size_t i = 0; i < count; i++)
-        fprintf(to, " %" PRIu32, get32(words + 4 * i));
-    if (count == 0)
+    size_t shown = count_words(words, count);
+    print_words(to, ' ', words, shown);
+    if (shown == 0)
         fprintf(to, " (zeros)");
 }
 
@@ -241,15 +256,26 @@ static bool same_words(const struct state states[2], size_t first, size_t count)
     return memcmp(states[0].words.bytes + 4 * first, states[1].words.bytes + 4 * first, 4 * count) == 0;
 }
 
-const char *public_difference(const struct state states[2], const struct table *table, const struct names *names)
+/* The first public variable or array in which they differ; -1: they do in none. */
+static int differing_variable(const struct state states[2], const struct table *table)
 {
-    unsigned variables = states[0].variables;
-    for (unsigned x = 0; x < variables; x++)
+    for (unsigned x = 0; x < states[0].variables; x++)
         if ((table->secret.variables >> x & 1) == 0 && !same_words(states, x, 1))
-            return names->variable[x];
+            return (int)x;
+    return -1;
+}
+
+static int differing_array(const struct state states[2], const struct table *table)
+{
     for (unsigned array = 0; array < table->arrays; array++)
         if ((table->secret.arrays >> array & 1) == 0 &&
-            !same_words(states, variables + first_cell(table, array), table->counts[array]))
-            return names->array[array];
-    return NULL;
+            !same_words(states, states[0].variables + first_cell(table, array), table->counts[array]))
+            return (int)array;
+    return -1;
+}
+
+const char *public_difference(const struct state states[2], const struct table *table, const struct names *names)
+{
+    int variable = differing_variable(states, table), array = differing_array(states, table);
+    return variable >= 0 ? names->variable[variable] : array >= 0 ? names->array[array] : NULL;
 }
