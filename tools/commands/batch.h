@@ -20,7 +20,7 @@ char *batch_out(const struct batch *batch, size_t i);
 
 /*
  * Before anything is written: the folder is there, every name is one of a file, no two tables would get one name or file in the
- * folder, no file that is read would be written, nor that of standard error, no link that would be written through leads nowhere,
+ * folder, no file that is read would be written, nor standard error's, no link that would be written through leads nowhere,
  * report and standard output are files of their own, the report has a folder to go to, and standard output is no terminal where
  * a table would go there.  False: there was a message.
  */

@@ -29,7 +29,7 @@ extern const char of_dangling[];
 /* Is it standard output: "-", or the same file by another name, as /dev/stdout? */
 bool is_standard_output(const char *path);
 
-/* Is it the regular file that standard error goes to, and not by way of standard output?  Replaced, it would lose the messages. */
+/* Is it the regular file of standard error, and not standard output too?  Were it replaced, messages would be lost. */
 bool is_standard_error(const char *path);
 
 /*

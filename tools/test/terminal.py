@@ -1,6 +1,9 @@
 #!/usr/bin/env python3
-"""Runs a command of the shell on a terminal of its own: terminal.py COMMAND. What comes in is typed there (\\004 at the start of
-a line ends it), what the terminal shows goes out without its carriage returns, and the exit status is the command's."""
+"""Runs a command of the shell on a terminal of its own: terminal.py COMMAND.
+
+Standard input is typed there, in which the byte 4 at the start of a line ends it; what the terminal shows is printed without
+its carriage returns; and the exit status is the command's.
+"""
 import os
 import pty
 import sys

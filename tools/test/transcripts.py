@@ -5,7 +5,8 @@ A transcript is a file of commands, `$ COMMAND`, each followed by the lines that
 by `? STATUS` or `(exit status STATUS)`; of a pipe the status is that of its last part that failed. Lines on standard error begin
 with `! ` and stand behind those on standard output. A command that ends in <<END goes on up to the line END. Lines that begin
 with `#`, and blank ones before a command, are for the reader. Each file is played in a fresh folder; EXAMPLES names that of the
-example sources, TERMINAL is terminal.py, FAILING the library of failing.c. Of a Markdown file the blocks marked `console` are taken, in which standard error has no mark.
+example sources, TERMINAL is terminal.py, and FAILING the library of failing.c. Of a Markdown file the blocks marked `console`
+are taken, in which standard error has no mark.
 """
 import difflib
 import os

@@ -86,7 +86,7 @@ static void read_cell(struct reader *reader, unsigned array, size_t first)
         take_word(reader, first + index.number);
 }
 
-/* Cells from the first one on: at least one word.  A sign is taken for the start of a word, which is told that there is none. */
+/* Cells from the first one on: at least one word.  A sign is taken for a word's, so that it is told what to write. */
 static void read_cells(struct reader *reader, unsigned array, size_t first)
 {
     uint32_t cell = 0;
