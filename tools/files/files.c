@@ -108,14 +108,14 @@ static bool write_all(int file, const uint8_t *bytes, size_t length)
 static enum written write_to_standard_output(const uint8_t *bytes, size_t length)
 {
     bool done = fflush(stdout) == 0 && write_all(STDOUT_FILENO, bytes, length);
-    return done || complain_why("standard output") ? WRITTEN : NOT_WRITTEN;
+    return (done || complain_why("standard output")) ? WRITTEN : NOT_WRITTEN;
 }
 
 static enum written write_into(const char *path, const uint8_t *bytes, size_t length)
 {
     int file = open_file(path, O_WRONLY);
     bool done = file >= 0 && close_after(file, write_all(file, bytes, length));
-    return done || complain_why(path) ? WRITTEN : NOT_WRITTEN;
+    return (done || complain_why(path)) ? WRITTEN : NOT_WRITTEN;
 }
 
 static bool sync_file(int file)

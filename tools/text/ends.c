@@ -28,15 +28,14 @@ static const char *fitting_step(unsigned directive)
 static void print_index(FILE *to, const struct names *names, const struct table *table, const struct stuck *stuck)
 {
     uint32_t count = table->counts[stuck->array];
-    fprintf(to, "out of bounds%s: index %" PRIu32 " of %s, which has %" PRIu32 " cell%s",
-            stuck->why == STUCK_FLAG_CLEAR ? " with the flag clear, since no wrong guess is open" : "", stuck->index,
-            names->array[stuck->array], count, plural(count));
+    fprintf(to, ": index %" PRIu32 " of %s, which has %" PRIu32 " cell%s", stuck->index, names->array[stuck->array], count,
+            plural(count));
 }
 
 static void print_out_of_bounds(FILE *to, const struct names *names, const struct table *table, const struct stuck *stuck,
                                 const char *whose)
 {
-    fprintf(to, "the %s at node %u%s is ", step_in_words(table_kind(table, stuck->node)), stuck->node, whose);
+    fprintf(to, "the %s at node %u%s is out of bounds", step_in_words(table_kind(table, stuck->node)), stuck->node, whose);
     print_index(to, names, table, stuck);
 }
 
@@ -44,16 +43,24 @@ static void print_out_of_bounds(FILE *to, const struct names *names, const struc
 static void print_next_step(FILE *to, const struct table *table, bool pending, unsigned node, const char *whose)
 {
     const char *step = step_in_words(table_kind(table, node));
-    if (pending)
-        fprintf(to, "the next step is %s%s (node %u%s)", step != NULL ? "a " : "", step != NULL ? step : "silent", node, whose);
-    else
+    if (!pending)
         fprintf(to, "nothing is pending");
+    else if (step == NULL)
+        fprintf(to, "the next step is silent (node %u%s)", node, whose);
+    else
+        fprintf(to, "the next step is a %s (node %u%s)", step, node, whose);
 }
 
 static void print_wrong_step(FILE *to, const struct stuck *stuck)
 {
     unsigned directive = get16(stuck->directive + 2);
     fprintf(to, "%s fits a %s alone", directive_in_words(directive), fitting_step(directive));
+}
+
+static void print_flag_clear(FILE *to, const struct names *names, const struct table *table, const struct stuck *stuck)
+{
+    fprintf(to, "it is out of bounds with the flag clear, since no wrong guess is open");
+    print_index(to, names, table, stuck);
 }
 
 /* The cell that a load or store names. */
@@ -76,7 +83,7 @@ static void print_why(FILE *to, const struct names *names, const struct table *t
 {
     switch (stuck->why) {
     case STUCK_WRONG_STEP: print_wrong_step(to, stuck); break;
-    case STUCK_FLAG_CLEAR: fprintf(to, "it is "), print_index(to, names, table, stuck); break;
+    case STUCK_FLAG_CLEAR: print_flag_clear(to, names, table, stuck); break;
     case STUCK_NO_ARRAY: print_no_array(to, names, stuck); break;
     case STUCK_NO_CELL: print_no_cell(to, names, table, stuck); break;
     case STUCK_ALL_SAVES: fprintf(to, "%d saves are open, the most that can be", FLOW_MAX_SAVES); break;
