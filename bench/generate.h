@@ -49,7 +49,7 @@ struct plan plan_any(struct random *r);
  */
 unsigned generate_part(struct random *r, const struct plan *plan, char sort, struct buffer *table);
 
-/* Puts a valid table of exactly the planned size.  (Where the plan has no variables, 2 nodes are made 3.) */
+/* Puts a valid table of exactly plan->nodes nodes.  (Without variables, 2 nodes are made 3.) */
 void generate_table(struct random *r, const struct plan *plan, struct buffer *table);
 
 /*

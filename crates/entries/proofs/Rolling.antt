@@ -12,10 +12,9 @@ use Rattle.awhile.specs.Tables.{Table, readTable}
 use Rattle.awhile.specs.Trees.{rootOf}
 use Rattle.awhile.specs.declared.Refusal.the-variants.{BadDirectives}
 use Rattle.machine.specs.Directives.{readRollingDirectives}
-use Rattle.machine.specs.Memory.{runNumbers}
 use Rattle.machine.specs.Observations.{shownBytes}
 use Rattle.machine.specs.Runs.{rolling, bytes, Outcome, endNumber}
-use Rattle.machine.specs.Memory.{nextNode}
+use Rattle.machine.specs.Memory.{runNumbers, nextNode}
 use Rattle.machine.specs.declared.Directive.{Directive}
 use Rattle.machine.proofs.Saving.{flag-while-open, eight-open}
 use Rattle.entries.specs.Answers.{answered}
@@ -24,18 +23,22 @@ use Rattle.entries.specs.Rolling.{RanSaving, savingFor, notRunSaving, ra
 use Rattle.entries.specs.Promises.{ranSavingAt, OpenSaves, RollsBack}
 use Rattle.entries.proofs.Accepted.{refusal-not-zero, saving-for}
 
-module _ (table : List ℕ) (lent : Lent) (saves : List ℕ) (budget : ℕ) (answer : List ℕ) where
+module _ (table directives : List ℕ) (lent : Lent) (saves : List ℕ) (budget : ℕ) (answer : List ℕ) where
   -- what a run leaves open
-  run-open : (t : Table) (ds : List Directive) → readTable table ≡ got t → OpenSaves table saves answer (ranSaving t lent saves answer (runIn t lent budget (rolling ds)))
+  run-open : (t : Table) (ds : List Directive) → readTable table ≡ got t → readRollingDirectives directives ≡ some ds
+      → OpenSaves table directives lent saves budget answer (ranSaving t lent saves answer (runIn t lent budget (rolling ds)))
   unfolding ranSaving ranAll runNumbers runIn
-  run-open t ds reads =
+  run-open t ds reads scripted =
       let o : Outcome ℕ = runIn t lent budget (rolling ds) in
       let vs = fromWords (t .variables) (lent .variables) in
       let cs = fromWords (sum (t .counts)) (lent .cells) in
       record {
         original = t;
         reads = reads;
+        script = ds;
+        scripted = scripted;
         saved = o .machine .saves;
+        left = refl;
         eight = eight-open (t .counts) (bytes (length (lent .observations))) budget (rootOf t) vs cs ds;
         places = refl;
         end = endNumber (o .end);
@@ -50,17 +53,17 @@ module _ (table : List ℕ) (lent : Lent) (saves : List ℕ) (budget : ℕ) (ans
       }
 
   -- a call that answers 0 has run
-  call-open : (a : Answer Table) (s : Option (List Directive)) → readTable table ≡ a → rollbackWith a lent saves budget answer s .ran .result ≡ 0
-      → OpenSaves table saves answer (rollbackWith a lent saves budget answer s)
+  call-open : (a : Answer Table) (s : Option (List Directive)) → readTable table ≡ a → readRollingDirectives directives ≡ s
+      → rollbackWith a lent saves budget answer s .ran .result ≡ 0 → OpenSaves table directives lent saves budget answer (rollbackWith a lent saves budget answer s)
   unfolding rollbackWith notRunSaving notRun savingRun
-  call-open (refused r) s reads zero = absurd (refusal-not-zero r zero)
-  call-open (got t) none reads zero = absurd (refusal-not-zero BadDirectives zero)
-  call-open (got t) (some ds) reads zero = go (savingFor lent saves t) refl zero
+  call-open (refused r) s reads scripted zero = absurd (refusal-not-zero r zero)
+  call-open (got t) none reads scripted zero = absurd (refusal-not-zero BadDirectives zero)
+  call-open (got t) (some ds) reads scripted zero = go (savingFor lent saves t) refl zero
     where
       go : (a : Answer Table) → savingFor lent saves t ≡ a → savingRun a lent saves budget answer (rolling ds) .ran .result ≡ 0
-          → OpenSaves table saves answer (savingRun a lent saves budget answer (rolling ds))
+          → OpenSaves table directives lent saves budget answer (savingRun a lent saves budget answer (rolling ds))
       go (refused r) fits none-left = absurd (refusal-not-zero r none-left)
-      go (got u) fits none-left = run-open u ds (reads ∙ ap got (saving-for lent saves t u fits))
+      go (got u) fits none-left = run-open u ds (reads ∙ ap got (saving-for lent saves t u fits)) scripted
 
 -- THE PROMISE of the rollback machine's entry: an entry that leaves what it is defined to leave answers the flag that the open saves give
 pub entry-rolls-back : {table directives saves answer : List ℕ} {lent : Lent} {budget : ℕ} {lent′ : Lent} {saves′ answer′ : List ℕ} {k : ℕ}
@@ -72,7 +75,7 @@ entry-rolls-back {table} {directives} {saves} {answer} {lent} {budget} w =
       rolls = w;
       flags =
           λ zero.
-          subst (OpenSaves table saves answer) (sym w)
-          (call-open table lent saves budget answer (readTable table) (readRollingDirectives directives) refl
+          subst (OpenSaves table directives lent saves budget answer) (sym w)
+          (call-open table directives lent saves budget answer (readTable table) (readRollingDirectives directives) refl refl
           (sym (ap (λ (x : RanSaving). x .ran .result) w) ∙ zero));
     }

@@ -5,6 +5,7 @@
 use Prim.Native.Nat.{ℕ, _*_, _<_, _≤_}
 use mathlib.Core.Bool.{false, cond}
 use mathlib.Core.List.{List, [], _∷_}
+use mathlib.Core.Option.{some}
 use mathlib.Core.Path.{_≡_}
 use lib.ListN.{length, getD, take}
 use Rattle.awhile.specs.Language.{Com}
@@ -17,13 +18,15 @@ use Rattle.labels.specs.Rules.{LeastAnnotation}
 use Rattle.labels.specs.Sheet.{sheetOf}
 use Rattle.labels.specs.Questions.{maxQuestions, pairAt, questionAt, TellsLabel}
 use Rattle.machine.specs.Steps.{State}
-use Rattle.machine.specs.Runs.{someOpen}
+use Rattle.machine.specs.Directives.{readRollingDirectives}
+use Rattle.machine.specs.Runs.{rolling, someOpen}
 use Rattle.machine.specs.Memory.{savesAfter}
+use Rattle.machine.specs.declared.Directive.{Directive}
 use Rattle.masks.specs.Hardening.{hardenedProgram}
 use Rattle.masks.specs.Demands.{Demands}
 use Rattle.entries.specs.Answers.{answered}
 use Rattle.entries.specs.Writing.{Written, writtenAll, sheetEntry, questionsEntry, hardenEntry}
-use Rattle.entries.specs.Running.{Lent, Ran, runEntry, guessEntry}
+use Rattle.entries.specs.Running.{Lent, Ran, runIn, runEntry, guessEntry}
 use Rattle.entries.specs.Rolling.{RanSaving, saveSize, rollbackEntry}
 use Rattle.entries.specs.Security.{CallsShowTheSame, flowGuess, flowRollback}
 
@@ -120,14 +123,17 @@ pub record Runs (table : List ℕ) (lent : Lent) (budget : ℕ) (answer : List �
 pub record Guesses (table directives : List ℕ) (lent : Lent) (budget : ℕ) (answer : List ℕ) (result : ℕ) (lent′ : Lent) (answer′ : List ℕ) : Type 0 where
   pub guesses : ranAt result lent′ answer′ ≡ guessEntry table directives lent budget answer
 
--- What a caller of the rollback machine's entry has where it answers 0, from the table's bytes, the save slice and the answer slice at entry and
--- what stands at exit. Every point of a run is the end of the call with a smaller budget, so this holds at every point of every run.
-pub record OpenSaves (table saves answer : List ℕ) (exit : RanSaving) : Type 0 where
-  -- the table that was accepted
+-- What a caller of the rollback machine's entry has where it answers 0, from the table's bytes, the list, the lent slices, the budget and the
+-- answer slice at entry and what stands at exit. Every point of a run is the end of the call with a smaller budget, so this holds at every point of every run.
+pub record OpenSaves (table directives : List ℕ) (lent : Lent) (saves : List ℕ) (budget : ℕ) (answer : List ℕ) (exit : RanSaving) : Type 0 where
+  -- the table and the list that were accepted
   pub original : Table
   pub reads : readTable table ≡ got original
-  -- the saves that are open, the newest first: "at most eight are"
+  pub script : List Directive
+  pub scripted : readRollingDirectives directives ≡ some script
+  -- the saves that the run leaves open, the newest first: "at most eight are"
   pub saved : List (State ℕ)
+  pub left : saved ≡ runIn original lent budget (rolling script) .machine .saves
   pub eight : length saved ≤ 8
   -- so many places of the save words hold them, and the rest of the eight is zeros
   pub places : exit .saves ≡ savesAfter (length (original .nodes)) (saveSize original) saved saves
@@ -143,4 +149,4 @@ pub record OpenSaves (table saves answer : List ℕ) (exit : RanSaving) : Type 0
 pub record RollsBack (table directives : List ℕ) (lent : Lent) (saves : List ℕ) (budget : ℕ) (answer : List ℕ)
     (result : ℕ) (lent′ : Lent) (saves′ answer′ : List ℕ) : Type 0 where
   pub rolls : ranSavingAt result lent′ saves′ answer′ ≡ rollbackEntry table directives lent saves budget answer
-  pub flags : result ≡ 0 → OpenSaves table saves answer (ranSavingAt result lent′ saves′ answer′)
+  pub flags : result ≡ 0 → OpenSaves table directives lent saves budget answer (ranSavingAt result lent′ saves′ answer′)
