@@ -46,11 +46,11 @@ edits:
 PARTS = $(filter-out tools/flow.c,$(SOURCES))
 GENERATOR = $(addprefix bench/,generate.c copies.c factors.c call.c reference.c)
 
-$(BUILD)/test/%: $(BUILD)/tools/test/%.o $(call objects,tools/test/memory.c $(PARTS) $(GENERATOR)) $(LIBRARY)
+$(BUILD)/test/%: $(BUILD)/tools/test/%.o $(call objects,tools/test/memory.c tools/test/widen.c $(PARTS) $(GENERATOR)) $(LIBRARY)
 	@mkdir -p $(@D)
 	$(CC) $(LDFLAGS) -o $@ $^
 
-check: check-transcripts check-round-trips check-explain check-stuck check-signals check-fuzz check-install
+check: check-transcripts check-round-trips check-versions check-explain check-stuck check-signals check-fuzz check-install
 
 # What every command prints, with its exit status; the examples of README among them.
 check-transcripts: $(BUILD)/flow $(BUILD)/test/failing.so
@@ -66,6 +66,10 @@ check-signals: $(BUILD)/flow $(BUILD)/test/failing.so
 
 check-round-trips: $(BUILD)/test/round_trips
 	$(BUILD)/test/round_trips $(SEED)
+
+# One program in tables of both versions, with the same words.
+check-versions: $(BUILD)/test/versions
+	$(BUILD)/test/versions $(SEED)
 
 # Refusals in words, against a check of each by brute force.  (A pipe forgets how its first part ended: the check wants a last
 # line.)
@@ -128,8 +132,8 @@ clean:
 
 -include $(shell find $(BUILD) -name '*.d' 2>/dev/null)
 
-.PHONY: all demo test edits check check-transcripts check-round-trips check-explain check-stuck check-signals check-fuzz check-install
-.PHONY: costs install clean always
+.PHONY: all demo test edits check check-transcripts check-round-trips check-versions check-explain check-stuck check-signals
+.PHONY: check-fuzz check-install costs install clean always
 .DELETE_ON_ERROR:
 # objects are kept; the library is not among them, since a secondary file that is missing is not made again
 .SECONDARY: $(call objects,$(GENERATOR) $(wildcard tools/test/*.c))

@@ -4,6 +4,7 @@
 #include <stdlib.h>
 #include <string.h>
 
+#include "declarations.h"
 #include "flow.h"
 #include "records/little_endian.h"
 #include "reference.h"
@@ -124,8 +125,7 @@ uint64_t call_answer(const struct call *call, unsigned number)
 /* Does this observation of a read or write show an index below the array's cell count? */
 static bool shows_in_bounds(const struct call *call, const uint8_t *shown)
 {
-    const uint8_t *first_array = call->slices[SLICE_TABLE].bytes + 20;
-    return get32(shown + 6) < get16(first_array + 6 * get16(shown + 4) + 4);
+    return get32(shown + 6) < count_of(call->slices[SLICE_TABLE].bytes, get16(shown + 4));
 }
 
 /* A directive that was used, and what it showed; answers how many saves are open after it, which is 0 where the flag is clear. */

@@ -73,6 +73,34 @@ static void chain_table(struct buffer *t, bool in_loop)
         assemble_node2(t, FLOW_WHILE, condition, body);
 }
 
+/* v0:=v1; (v1:=v2; ..) through so many variables, the last secret; in a loop while v0<3, if wanted */
+static void long_chain_table(struct buffer *t, unsigned variables, bool in_loop)
+{
+    unsigned last = variables - 1;
+    assemble_version(t, FLOW_VERSION_2, variables, 0, NULL, (uint64_t)1 << last, 0);
+    unsigned condition = in_loop ? compare(t, FLOW_LESS, 0, 3) : 0;
+    unsigned body = move(t, last - 1, last);
+    for (unsigned v = last - 1; v-- > 0;) {
+        unsigned first = move(t, v, v + 1);
+        body = sequence(t, first, body);
+    }
+    if (in_loop)
+        assemble_node2(t, FLOW_WHILE, condition, body);
+}
+
+/* while true do (v63:=v62; (v62:=v61; ..)), v0 secret: the last pass but one adds the highest bit alone */
+static void falling_chain_table(struct buffer *t)
+{
+    assemble_version(t, FLOW_VERSION_2, 64, 0, NULL, 1, 0);
+    unsigned condition = assemble_node1(t, FLOW_CONSTANT, 1);
+    unsigned body = move(t, 1, 0);
+    for (unsigned v = 2; v < 64; v++) {
+        unsigned first = move(t, v, v - 1);
+        body = sequence(t, first, body);
+    }
+    assemble_node2(t, FLOW_WHILE, condition, body);
+}
+
 /* while true do (q:=0; ((while true do (p:=q; q:=s)); x:=p)), q p x s numbers 0 to 3, s secret; hands the inner loop's node back */
 static unsigned inner_loop_table(struct buffer *t)
 {
@@ -160,9 +188,9 @@ static void bounds_check_table(struct buffer *t)
 }
 
 /* As many skips as make this many nodes (odd), or one more by a loop that never turns. */
-static void skip_chain_table(struct buffer *t, unsigned nodes)
+static void skip_chain_table(struct buffer *t, unsigned nodes, unsigned variables)
 {
-    assemble_table(t, 1, 0, NULL, 1, 0);
+    assemble_table(t, variables, 0, NULL, 1, 0);
     unsigned condition = nodes % 2 == 0 ? assemble_node1(t, FLOW_NOT, assemble_node1(t, FLOW_CONSTANT, 1)) : 0;
     unsigned last = skip(t);
     if (nodes % 2 == 0)
@@ -248,17 +276,20 @@ static void case_no_bytes(void)
 static void case_limits(void)
 {
     struct buffer t = {0};
-    skip_chain_table(&t, 512);
+    skip_chain_table(&t, 512, 1);
     expect(harden(&t) == FLOW_ACCEPTED, "N 512 hardens");
     buffer_free(&t);
-    skip_chain_table(&t, 513);
+    skip_chain_table(&t, 513, 1);
     expect(harden(&t) == FLOW_TOO_MANY_NODES && answered(1) == 0, "N 513 is 8");
     buffer_free(&t);
-    skips_table(&t, 0, 31);
-    expect(harden(&t) == FLOW_ACCEPTED, "V 31 hardens");
+    skips_table(&t, 0, 63);
+    expect(harden(&t) == FLOW_ACCEPTED, "V 63 hardens");
     buffer_free(&t);
-    skips_table(&t, 0, 32);
-    expect(harden(&t) == FLOW_NO_FREE_VARIABLE && answered(1) == 0, "V 32 is 9");
+    skips_table(&t, 0, 64);
+    expect(harden(&t) == FLOW_NO_FREE_VARIABLE && answered(1) == 0, "V 64 is 9");
+    buffer_free(&t);
+    skip_chain_table(&t, 513, 64);
+    expect(harden(&t) == FLOW_TOO_MANY_NODES && answered(1) == 0, "N 513 with V 64 is 8");
     buffer_free(&t);
 }
 
@@ -617,6 +648,188 @@ static void case_skip(void)
            "skip hardens to the bytes that document 01 gives");
 }
 
+/* ---- Versions, by their bytes ------------------------------------------------------------------------------------------- */
+
+/* Bytes as document 01 writes them: in hexadecimal, with spaces and bars between. */
+static void written(const char *hex, struct buffer *bytes)
+{
+    unsigned value;
+    for (; *hex; hex++)
+        if (*hex != ' ' && *hex != '|') {
+            uint8_t byte = sscanf(hex, "%2x", &value) == 1 ? (uint8_t)value : 0;
+            buffer_append(bytes, &byte, 1);
+            hex++;
+        }
+}
+
+/* Is this what the call has written, all of it and nothing behind it? */
+static bool is_written(const struct buffer *wanted)
+{
+    return answered(0) == FLOW_ACCEPTED && answered(1) == wanted->length && memcmp(output, wanted->bytes, wanted->length) == 0 &&
+           output[wanted->length] == UNTOUCHED;
+}
+
+static void expect_sheet(const char *table, const char *wanted, const char *what)
+{
+    struct buffer t = {0}, w = {0};
+    written(table, &t);
+    written(wanted, &w);
+    memset(output, UNTOUCHED, sizeof output);
+    sheet(&t);
+    expect(is_written(&w), what);
+    buffer_free(&t);
+    buffer_free(&w);
+}
+
+static void expect_hardened(const char *table, const char *wanted, const char *what)
+{
+    struct buffer t = {0}, w = {0};
+    written(table, &t);
+    written(wanted, &w);
+    memset(output, UNTOUCHED, sizeof output);
+    harden(&t);
+    expect(is_written(&w), what);
+    buffer_free(&t);
+    buffer_free(&w);
+}
+
+/* By every entry, whatever else is lent. */
+static void expect_refused(const char *table, uint64_t refusal, uint64_t place, const char *what)
+{
+    struct buffer t = {0};
+    written(table, &t);
+    expect(sheet(&t) == refusal && answered(1) == place, what);
+    expect(ask(&t, NULL, 0, NULL, 0) == refusal && answered(1) == place, what);
+    expect(harden(&t) == refusal && answered(1) == place, what);
+    expect(flow_run(t.bytes, t.length, NULL, 0, NULL, 0, NULL, 0, NULL, 0, 0, answer, sizeof answer) == refusal &&
+               answered(1) == place, what);
+    expect(flow_guess(t.bytes, t.length, NULL, 0, NULL, 0, NULL, 0, NULL, 0, NULL, 0, 0, answer, sizeof answer) == refusal &&
+               answered(1) == place, what);
+    expect(flow_rollback(t.bytes, t.length, NULL, 0, NULL, 0, NULL, 0, NULL, 0, NULL, 0, NULL, 0, 0, answer, sizeof answer) ==
+               refusal && answered(1) == place, what);
+    buffer_free(&t);
+}
+
+static void case_versions_hardened(void)
+{
+    expect_hardened("0a00 0100 0100 1f 00 0100 | 0a00 0300 00000000 0000 | 0400 3000",
+                    "0a00 0100 0100 20 00 0100 | 0a00 0300 00000000 0000 | 0400 3000", "version 1, V 31: version 1, V 32");
+    expect_hardened("0a00 0100 0100 20 00 0100 | 0a00 0300 00000000 0000 | 0400 3000",
+                    "0a00 0100 0200 21 00 0100 | 0e00 0300 0000000000000000 0000 | 0400 3000", "version 1, V 32: version 2, V 33");
+    expect_hardened("0a00 0100 0200 05 00 0100 | 0e00 0300 1000000000000000 0000 | 0400 3000",
+                    "0a00 0100 0200 06 00 0100 | 0e00 0300 1000000000000000 0000 | 0400 3000", "version 2, V 5: version 2, V 6");
+    expect_hardened("0a00 0100 0200 3f 00 0100 | 0e00 0300 0000000000000040 0000 | 0400 3000",
+                    "0a00 0100 0200 40 00 0100 | 0e00 0300 0000000000000040 0000 | 0400 3000", "version 2, V 63: version 2, V 64");
+    /* x31 := a1[x0], x31 and a1 secret: nothing is masked, and the counts stand four bytes on */
+    static const char declared_33[] = "0a00 0100 0200 21 02 0200 | 0e00 0300 0000008000000000 0200 | 0600 0200 0500 |"
+                                      "0600 0200 0300 | 0600 1100 0000 | 0a00 3500 1f00 0100 0000";
+    expect_hardened("0a00 0100 0100 20 02 0200 | 0a00 0300 00000080 0200 | 0600 0200 0500 | 0600 0200 0300 |"
+                    "0600 1100 0000 | 0a00 3500 1f00 0100 0000",
+                    declared_33, "version 1, V 32 with arrays: version 2, V 33, the same arrays and nodes");
+    expect_hardened(declared_33,
+                    "0a00 0100 0200 22 02 0200 | 0e00 0300 0000008000000000 0200 | 0600 0200 0500 | 0600 0200 0300 |"
+                    "0600 1100 0000 | 0a00 3500 1f00 0100 0000",
+                    "the same, hardened once more: version 2, V 34");
+    /* x0 := a0[0], all public: it is followed by x0 := (x32 = 1) ? 0 : x0 */
+    expect_hardened("0a00 0100 0100 20 01 0200 | 0a00 0300 00000000 0000 | 0600 0200 0400 | 0800 1000 00000000 |"
+                    "0a00 3500 0000 0000 0000",
+                    "0a00 0100 0200 21 01 0a00 | 0e00 0300 0000000000000000 0000 | 0600 0200 0400 | 0800 1000 00000000 |"
+                    "0a00 3500 0000 0000 0000 | 0600 1100 2000 | 0800 1000 01000000 | 0800 2100 0200 0300 | 0800 1000 00000000 |"
+                    "0600 1100 0000 | 0a00 1500 0400 0500 0600 | 0800 3100 0000 0700 | 0800 3200 0100 0800",
+                    "version 1, V 32 with a read to mask: the flag is 32");
+}
+
+static void case_versions_labelled(void)
+{
+    expect_sheet("0a00 0100 0200 40 00 0100 | 0e00 0300 0000000000000080 0000 | 0400 3000",
+                 "1200 8000 0200 0100 0000000000000080 0000", "version 2, V 64, v63 secret: a sheet of version 2");
+    expect_sheet("0a00 0100 0200 21 00 0100 | 0e00 0300 0000000001000000 0000 | 0400 3000",
+                 "1200 8000 0200 0100 0000000001000000 0000", "version 2, V 33, v32 secret: accepted");
+    expect_sheet("0a00 0100 0100 20 00 0100 | 0a00 0300 00000000 0000 | 0400 3000",
+                 "0e00 8000 0100 0100 00000000 0000", "version 1, V 32: a sheet of version 1");
+}
+
+static void case_versions_refused(void)
+{
+    expect_refused("0a00 0100 0100 21 00 0100 | 0a00 0300 00000000 0000 | 0400 3000", 3, 0, "V 33 in version 1: 3 at 0");
+    expect_refused("0a00 0100 0200 41 00 0100 | 0e00 0300 0000000000000000 0000 | 0400 3000", 3, 0, "V 65 in version 2: 3 at 0");
+    expect_refused("0a00 0100 0000 00 00 0100 | 0a00 0300 00000000 0000 | 0400 3000", 3, 0, "version 0: 3 at 0");
+    expect_refused("0a00 0100 0300 00 00 0100 | 0e00 0300 0000000000000000 0000 | 0400 3000", 3, 0, "version 3: 3 at 0");
+    expect_refused("0a00 0100 ffff 00 00 0100 | 0e00 0300 0000000000000000 0000 | 0400 3000", 3, 0, "version 65,535: 3 at 0");
+    expect_refused("0a00 0100 0100 00 00 0100 | 0e00 0300 0000000000000000 0000 | 0400 3000", 2, 10,
+                   "version 1 with a labels record of 14 bytes: 2 at 10");
+    expect_refused("0a00 0100 0200 00 00 0100 | 0a00 0300 00000000 0000 | 0400 3000", 2, 10,
+                   "version 2 with a labels record of 10 bytes: 2 at 10");
+    expect_refused("0a00 0100 0200 21 00 0100 | 0e00 0300 0000000002000000 0000 | 0400 3000", 3, 10, "V 33, mask bit 33: 3 at 10");
+    expect_refused("0a00 0100 0200 3f 00 0100 | 0e00 0300 0000000000000080 0000 | 0400 3000", 3, 10, "V 63, mask bit 63: 3 at 10");
+    expect_refused("0a00 0100 0100 1f 00 0100 | 0a00 0300 00000080 0000 | 0400 3000", 3, 10, "V 31, mask bit 31: 3 at 10");
+    expect_refused("0a00 0100 0200 00 00 0100 | 0e00 0300 00000000000000", 1, 10, "version 2, cut in the labels record: 1 at 10");
+}
+
+/* Every mask of a sheet of version 2 that has loops and sequences alone. */
+static bool all_masks_are(uint64_t mask)
+{
+    size_t length = answered(1), at = 0;
+    bool all = true;
+    for (; at < length; at += get16(output + at)) {
+        const uint8_t *masks = output + at + get16(output + at) - 10; /* at the end of each record */
+        all = all && get64(masks) == mask && get16(masks + 8) == 0;
+    }
+    return all && at == length;
+}
+
+/* 63 moves and 62 sequences in a loop: 3 + 126 + 62 + 1 nodes; its sheet has 18 + 62 * 16 + 18 bytes. */
+static void case_long_chain(void)
+{
+    static const uint16_t pairs[] = {191, 32, 191, 63, 189, 0, 189, 33}; /* before the loop, and before v0:=v1 in it */
+    static const uint8_t labels[] = {0, 1, 1, 1};
+    struct buffer t = {0};
+    long_chain_table(&t, 64, true);
+    expect(get16(t.bytes + 8) == 192 && sheet(&t) == FLOW_ACCEPTED && answered(1) == 1028 && all_masks_are(UINT64_MAX),
+           "a chain through 64 variables in a loop: all of them secret");
+    const uint8_t *loop = output + 1010; /* the last record */
+    expect(get16(loop + 2) == FLOW_SHEET_WHILE && get16(loop + 6) == 1, "its condition is secret");
+    expect(answers(&t, pairs, labels), "the chain asked: v32 as the loop is entered is public");
+    expect(harden(&t) == FLOW_NO_FREE_VARIABLE, "it has no variable left for the flag");
+    buffer_free(&t);
+    falling_chain_table(&t);
+    expect(sheet(&t) == FLOW_ACCEPTED && answered(1) == 1028 && all_masks_are(UINT64_MAX), "the other way round: all of them secret");
+    buffer_free(&t);
+    long_chain_table(&t, 64, false);
+    expect(sheet(&t) == FLOW_ACCEPTED && answered(1) == 18 + 62 * 16 && get64(output + 8) == (uint64_t)3 << 62,
+           "the same without the loop: v62 and v63 secret");
+    buffer_free(&t);
+    /* a condition of 7 nodes and 52 bytes, two updates of 11 and 84, the body's 185 and 1,356, and sequence, loop, sequence */
+    long_chain_table(&t, 63, true);
+    expect(t.length == 1410 && harden(&t) == FLOW_ACCEPTED && answered(1) == 1624 && get16(output + 4) == 2 && output[6] == 64 &&
+               get16(output + 8) == 217,
+           "through 63 variables: 189 nodes and 1,410 bytes become 217 nodes and 1,624 bytes, and 64 variables");
+    expect(get16(output + 26) == FLOW_VARIABLE && get16(output + 28) == 63, "the first node is the flag, variable 63");
+    buffer_free(&t);
+}
+
+/* Each of 64 variables gets the next one's value: 63 moves and 62 sequences. */
+static void case_long_run(void)
+{
+    struct buffer t = {0};
+    uint8_t variables[4 * FLOW_MAX_VARIABLES], pending[4 * 256];
+    bool moved = true;
+    long_chain_table(&t, 64, false);
+    for (unsigned v = 0; v < 64; v++)
+        put32(variables + 4 * v, 100 + v);
+    uint64_t refusal = flow_run(t.bytes, t.length, variables, sizeof variables, NULL, 0, pending, sizeof pending, NULL, 0, 1000,
+                                answer, sizeof answer);
+    for (unsigned v = 0; v < 64; v++)
+        moved = moved && get32(variables + 4 * v) == (v < 63 ? 101 + v : 163);
+    expect(refusal == FLOW_ACCEPTED && answered(1) == FLOW_FINISHED && answered(2) == 125 && moved,
+           "the chain through 64 variables run: each has the next one's value, after 125 steps");
+    expect(flow_run(t.bytes, t.length, variables, 4 * 63, NULL, 0, pending, sizeof pending, NULL, 0, 1000, answer, sizeof answer) ==
+               FLOW_VARIABLES_LENGTH, "63 variable words for 64 variables: 20");
+    buffer_free(&t);
+}
+
+/* ---- All ----------------------------------------------------------------------------------------------------------------- */
+
 bool cases_hold(void)
 {
     all_hold = true;
@@ -637,5 +850,10 @@ bool cases_hold(void)
     case_nine_forces();
     case_budget_zero();
     case_skip();
+    case_versions_hardened();
+    case_versions_labelled();
+    case_versions_refused();
+    case_long_chain();
+    case_long_run();
     return all_hold;
 }

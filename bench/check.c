@@ -16,10 +16,12 @@
 
 #include "call.h"
 #include "cases.h"
+#include "declarations.h"
 #include "demands.h"
 #include "factors.h"
 #include "flow.h"
 #include "generate.h"
+#include "versions.h"
 
 enum { DEFAULT_COUNT = 480000, ENOUGH_TO_PLAY = 1000, HANGING_SECONDS = 120, MOST_REFUSAL = 24, MOST_END = 5, MOST_ALONE = 8 };
 
@@ -29,6 +31,8 @@ struct tally {
     uint64_t alone; /* pairs of lists of questions that were asked alone too */
     struct led led[ENTRIES]; /* directives that calls of flow_guess and flow_rollback used */
     struct factored factored[ENTRIES]; /* tables of accepted calls of flow_sheet, flow_questions and flow_harden */
+    struct versions versions[ENTRIES]; /* tables of accepted calls */
+    uint64_t other_labels[2]; /* calls refused by 2 for the other version's labels record: of tables of version 1 and of 2 */
     struct plays plays;
 };
 
@@ -55,6 +59,10 @@ static void count_call(struct tally *tally, const struct call *reference, uint64
     const struct slice *table = &reference->slices[SLICE_TABLE];
     if (!runs(entry) && result == FLOW_ACCEPTED)
         count_factored(table->bytes, table->length, &tally->factored[entry]);
+    if (result == FLOW_ACCEPTED)
+        count_version(table->bytes, &tally->versions[entry]);
+    if (result == FLOW_WRONG_RECORD && has_other_labels(table->bytes, table->length))
+        tally->other_labels[version_of(table->bytes) == FLOW_VERSION_2]++;
 }
 
 static bool compare_call(const struct call *call, struct tally *tally)
@@ -191,9 +199,35 @@ static void print_factored(const struct factored *factored)
            factored->nought, factored->lowered, factored->one);
 }
 
+static void print_versions(const struct versions *versions)
+{
+    printf("    versions  %" PRIu64 " tables of version 2, %" PRIu64 " of version 1 with 32 variables; %" PRIu64
+           " with 33 to 63 variables, %" PRIu64 " with 64\n",
+           versions->second, versions->full, versions->wide, versions->widest);
+}
+
 static void print_leaks(const struct attack *attack)
 {
-    printf("    (%" PRIu64 " scripts told the states apart on the program before hardening)\n", attack->leaks_before);
+    printf("    (%" PRIu64 " scripts told the states apart on the program before hardening, %" PRIu64
+           " of them where the flag is 32 or above)\n",
+           attack->leaks_before, attack->leaks_high);
+}
+
+static void print_plays(const struct plays *plays)
+{
+    printf("  demand 2: %" PRIu64 " runs of hardened programs without guessing, as the original's\n", plays->same_runs);
+    printf("  demand 3: %" PRIu64 " pairs of states, %" PRIu64 " with related plain runs\n", plays->pairs, plays->related);
+    print_factored(&plays->factored);
+    print_versions(&plays->versions);
+    printf("    flags     %" PRIu64 " of number 32 and above: %" PRIu64 " of 32, %" PRIu64 " of 63; %" PRIu64
+           " programs have secret variables from 32 up\n",
+           plays->versions.flag_high, plays->versions.flag_32, plays->versions.flag_63, plays->versions.secret);
+    printf("  demand 3 on flow_guess: %" PRIu64 " scripts played to these\n", plays->guessing.scripts);
+    print_led(&plays->guessing.led);
+    print_leaks(&plays->guessing);
+    printf("  demand 3 on flow_rollback: %" PRIu64 " scripts played to these\n", plays->rolling.scripts);
+    print_rolled(&plays->rolling.led);
+    print_leaks(&plays->rolling);
 }
 
 static void print_tally(const struct tally *tally)
@@ -208,6 +242,7 @@ static void print_tally(const struct tally *tally)
             print_counts("ends    ", tally->ends[entry], 1, MOST_END);
         else
             print_factored(&tally->factored[entry]);
+        print_versions(&tally->versions[entry]);
         if (entry == ENTRY_GUESS)
             print_led(&tally->led[entry]);
         if (entry == ENTRY_ROLLBACK)
@@ -215,16 +250,9 @@ static void print_tally(const struct tally *tally)
         if (entry == ENTRY_QUESTIONS)
             printf("    %" PRIu64 " pairs asked alone too, with the byte that each got in its list\n", tally->alone);
     }
-    const struct plays *plays = &tally->plays;
-    printf("  demand 2: %" PRIu64 " runs of hardened programs without guessing, as the original's\n", plays->same_runs);
-    printf("  demand 3: %" PRIu64 " pairs of states, %" PRIu64 " with related plain runs\n", plays->pairs, plays->related);
-    print_factored(&plays->factored);
-    printf("  demand 3 on flow_guess: %" PRIu64 " scripts played to these\n", plays->guessing.scripts);
-    print_led(&plays->guessing.led);
-    print_leaks(&plays->guessing);
-    printf("  demand 3 on flow_rollback: %" PRIu64 " scripts played to these\n", plays->rolling.scripts);
-    print_rolled(&plays->rolling.led);
-    print_leaks(&plays->rolling);
+    printf("  refused by 2 for the other version's labels record: %" PRIu64 " tables of version 1, %" PRIu64 " of version 2\n",
+           tally->other_labels[0], tally->other_labels[1]);
+    print_plays(&tally->plays);
 }
 
 static bool met(bool all, const char *what)
@@ -270,6 +298,31 @@ static bool all_factored(const struct tally *tally)
            met(played->lowered > 0 && played->one > 0, "demand 3 was not played with products with 0 and 1");
 }
 
+/* Has each entry accepted tables of version 2 and with more than 32 variables, and some entry tables with 64? */
+static bool all_wide(const struct versions tables[ENTRIES])
+{
+    uint64_t widest = 0;
+    bool each = true;
+    for (enum entry entry = 0; entry < ENTRIES; entry++) {
+        each = each && tables[entry].second > 0 && tables[entry].wide > 0;
+        widest += tables[entry].widest;
+    }
+    return each && widest > 0;
+}
+
+/* Has all that P7 tells apart been compared and played? */
+static bool all_versioned(const struct tally *tally)
+{
+    const struct versions *played = &tally->plays.versions;
+    return met(all_wide(tally->versions),
+               "an entry was not compared on tables of version 2 and with 33 to 63 variables, or none on tables with 64") &&
+           met(tally->versions[ENTRY_HARDEN].full > 0, "no table of version 1 with 32 variables was hardened") &&
+           met(tally->refusals[ENTRY_HARDEN][FLOW_NO_FREE_VARIABLE] > 0, "no call was refused by 9") &&
+           met(tally->other_labels[0] > 0 && tally->other_labels[1] > 0, "no labels record of the other version was refused by 2") &&
+           met(played->second > 0 && played->secret > 0 && played->flag_32 > 0 && played->flag_63 > 0,
+               "demand 3 was not played in version 2, with secret variables from 32 up and with the flags 32 and 63");
+}
+
 static bool check_number(uint64_t seed, uint64_t number, struct tally *tally)
 {
     struct random r = random_from(seed, number);
@@ -307,5 +360,5 @@ int main(int argc, char **argv)
     }
     printf("library and reference agree (seed %" PRIu64 ")\n", seed);
     print_tally(&tally);
-    return count < ENOUGH_TO_PLAY || (all_led(&tally) && all_factored(&tally)) ? 0 : 1;
+    return count < ENOUGH_TO_PLAY || (all_led(&tally) && all_factored(&tally) && all_versioned(&tally)) ? 0 : 1;
 }

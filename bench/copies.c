@@ -24,13 +24,13 @@ static unsigned put_branch(struct random *r, const struct plan *plan, unsigned s
 static unsigned put_value(struct random *r, const struct plan *plan, unsigned size, unsigned inner, struct buffer *t)
 {
     unsigned value = put_expression(r, plan, 'N', size - 2, t);
-    unsigned assign = assemble_node2(t, FLOW_ASSIGN, random_below(r, plan->variables), value);
+    unsigned assign = assemble_node2(t, FLOW_ASSIGN, planned_variable(r, plan), value);
     return assemble_node2(t, FLOW_SEQUENCE, inner, assign);
 }
 
 void copies_table(struct random *r, const struct plan *plan, enum copies copies, unsigned level, struct buffer *t)
 {
-    assemble_table(t, plan->variables, plan->arrays, plan->counts, plan->secret_variables, plan->secret_arrays);
+    start_table(plan, t);
     unsigned inner = assemble_node0(t, FLOW_SKIP);
     for (unsigned left = plan->nodes - 1, size; left > 0; left -= size) {
         size = left < level + COPIES_LEAST_LEVEL ? left : level; /* no remainder that is too small for a level */

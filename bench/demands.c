@@ -3,6 +3,7 @@
 #include <stdio.h>
 #include <string.h>
 
+#include "declarations.h"
 #include "flow.h"
 #include "records/little_endian.h"
 
@@ -36,74 +37,91 @@ static void free_shown(struct shown *shown)
 
 /* ---- The program -------------------------------------------------------------------------------------------------------- */
 
-/* The variables i, j, x and k of a gadget; arrays 0 and 1 are public, array 2 is secret. */
-enum { I, J, X, K };
+/* A gadget has the variables i, j, x and k, whose numbers differ; arrays 0 and 1 are public, array 2 is secret. */
+struct gadget {
+    struct buffer *table;
+    unsigned i, j, x, k;
+};
 
-static unsigned gadget_sequence(struct buffer *t, unsigned first, unsigned second)
+static unsigned gadget_variable(const struct gadget *g, unsigned variable)
 {
-    return assemble_node2(t, FLOW_SEQUENCE, first, second);
+    return assemble_node1(g->table, FLOW_VARIABLE, variable);
 }
 
-/* j := array[index], the index a variable or, where it is none, 0 */
-static unsigned gadget_read(struct buffer *t, unsigned array, unsigned index)
+static unsigned gadget_number(const struct gadget *g, uint32_t value)
 {
-    unsigned at = index <= K ? assemble_node1(t, FLOW_VARIABLE, index) : assemble_node1(t, FLOW_NUMBER, 0);
-    return assemble_node3(t, FLOW_READ, J, array, at);
+    return assemble_node1(g->table, FLOW_NUMBER, value);
+}
+
+static unsigned gadget_sequence(const struct gadget *g, unsigned first, unsigned second)
+{
+    return assemble_node2(g->table, FLOW_SEQUENCE, first, second);
 }
 
 /* j := j*0, which makes it public, or j := j*1, which does not; the number may stand first. */
-static unsigned gadget_product(struct random *r, struct buffer *t)
+static unsigned gadget_product(struct random *r, const struct gadget *g)
 {
-    unsigned one = assemble_node1(t, FLOW_VARIABLE, J);
-    unsigned other = assemble_node1(t, FLOW_NUMBER, random_below(r, 2));
+    unsigned one = gadget_variable(g, g->j);
+    unsigned other = gadget_number(g, random_below(r, 2));
     bool swap = random_percent(r, 50);
-    return assemble_node2(t, FLOW_ASSIGN, J, assemble_node2(t, FLOW_MULTIPLY, swap ? other : one, swap ? one : other));
+    unsigned product = assemble_node2(g->table, FLOW_MULTIPLY, swap ? other : one, swap ? one : other);
+    return assemble_node2(g->table, FLOW_ASSIGN, g->j, product);
 }
 
 /* An access that shows j: x := a1[j], or a1[j] := k */
-static unsigned gadget_access(struct random *r, struct buffer *t)
+static unsigned gadget_access(struct random *r, const struct gadget *g)
 {
-    unsigned index = assemble_node1(t, FLOW_VARIABLE, J);
+    unsigned index = gadget_variable(g, g->j);
     if (random_percent(r, 50))
-        return assemble_node3(t, FLOW_READ, X, 1, index);
-    return assemble_node3(t, FLOW_WRITE, 1, index, assemble_node1(t, FLOW_VARIABLE, K));
+        return assemble_node3(g->table, FLOW_READ, g->x, 1, index);
+    return assemble_node3(g->table, FLOW_WRITE, 1, index, gadget_variable(g, g->k));
 }
 
-/* Before the branch, maybe, j := a2[0], and before that a2[1] := 0, which must not make the array public. */
-static unsigned gadget_start(struct random *r, struct buffer *t)
+/* Before the branch, maybe, j := k, or j := a2[0], and before that a2[1] := 0, which must not make the array public. */
+static unsigned gadget_start(struct random *r, const struct gadget *g)
 {
-    if (random_percent(r, 40))
-        return assemble_node0(t, FLOW_SKIP);
-    unsigned secret = gadget_read(t, 2, K + 1);
-    if (random_percent(r, 50))
+    unsigned chance = random_below(r, 100);
+    if (chance < 30)
+        return assemble_node0(g->table, FLOW_SKIP);
+    if (chance < 55)
+        return assemble_node2(g->table, FLOW_ASSIGN, g->j, gadget_variable(g, g->k));
+    unsigned secret = assemble_node3(g->table, FLOW_READ, g->j, 2, gadget_number(g, 0));
+    if (chance < 80)
         return secret;
-    unsigned index = assemble_node1(t, FLOW_NUMBER, 1);
-    unsigned write = assemble_node3(t, FLOW_WRITE, 2, index, assemble_node1(t, FLOW_NUMBER, 0));
-    return gadget_sequence(t, write, secret);
+    unsigned index = gadget_number(g, 1);
+    unsigned write = assemble_node3(g->table, FLOW_WRITE, 2, index, gadget_number(g, 0));
+    return gadget_sequence(g, write, secret);
 }
 
-/*
- * start; if i<bound then (j:=a0[i]; access j) else skip, or its like with a loop, without the first read or with a product behind
- * it, with sizes and labels by chance: the programs that leak most easily.
- */
-static void generate_gadget(struct random *r, struct buffer *t)
+/* start; if i<bound then (j:=a0[i]; access j) else skip, or its like with a loop, without the read or with a product behind it */
+static void put_gadget(struct random *r, const struct gadget *g, unsigned bound)
 {
-    uint16_t counts[] = {(uint16_t)(1 + random_below(r, 4)), (uint16_t)(1 + random_below(r, 6)), 3};
-    assemble_table(t, 4, 3, counts, random_below(r, 2) << K, 4);
-    unsigned start = gadget_start(r, t);
-    unsigned i = assemble_node1(t, FLOW_VARIABLE, I);
-    unsigned condition = assemble_node2(t, FLOW_LESS, i, assemble_node1(t, FLOW_NUMBER, random_below(r, counts[0] + 1u)));
-    unsigned body = gadget_access(r, t);
+    unsigned start = gadget_start(r, g);
+    unsigned i = gadget_variable(g, g->i);
+    unsigned condition = assemble_node2(g->table, FLOW_LESS, i, gadget_number(g, bound));
+    unsigned body = gadget_access(r, g);
     bool reads = random_percent(r, 60);
     if (random_percent(r, reads ? 20 : 50))
-        body = gadget_sequence(t, gadget_product(r, t), body);
+        body = gadget_sequence(g, gadget_product(r, g), body);
     if (reads)
-        body = gadget_sequence(t, gadget_read(t, 0, I), body);
+        body = gadget_sequence(g, assemble_node3(g->table, FLOW_READ, g->j, 0, gadget_variable(g, g->i)), body);
     if (random_percent(r, 50))
-        body = assemble_node3(t, FLOW_IF, condition, body, assemble_node0(t, FLOW_SKIP));
+        body = assemble_node3(g->table, FLOW_IF, condition, body, assemble_node0(g->table, FLOW_SKIP));
     else
-        body = assemble_node2(t, FLOW_WHILE, condition, body);
-    gadget_sequence(t, start, body);
+        body = assemble_node2(g->table, FLOW_WHILE, condition, body);
+    gadget_sequence(g, start, body);
+}
+
+/* The programs that leak most easily, with sizes, labels and variables, spread over all that there are, by chance. */
+static void generate_gadget(struct random *r, struct buffer *table)
+{
+    static const uint8_t numbers[] = {4, 4, 4, 32, 32, 33, 63, 63};
+    unsigned variables = numbers[random_below(r, sizeof numbers)], apart = variables / 4, first = random_below(r, variables);
+    unsigned version = random_percent(r, 30) ? FLOW_VERSION_2 : lowest_version(variables);
+    uint16_t counts[] = {(uint16_t)(1 + random_below(r, 4)), (uint16_t)(1 + random_below(r, 6)), 3};
+    struct gadget g = {table, first, (first + apart) % variables, (first + 2 * apart) % variables, (first + 3 * apart) % variables};
+    assemble_version(table, version, variables, 3, counts, (uint64_t)random_below(r, 2) << g.k, 4);
+    put_gadget(r, &g, random_below(r, counts[0] + 1u));
 }
 
 static void generate_program(struct random *r, struct buffer *table)
@@ -113,6 +131,8 @@ static void generate_program(struct random *r, struct buffer *table)
         return;
     }
     struct plan plan = plan_small(r, random_percent(r, 80) ? 50 : 150);
+    if (plan.variables == FLOW_MAX_VARIABLES) /* none would be left for the flag */
+        plan_variables(r, &plan, FLOW_VERSION_2, FLOW_MAX_VARIABLES - 1);
     plan.accesses = 60;
     plan.factors = 60;
     generate_table(r, &plan, table);
@@ -123,11 +143,9 @@ static void generate_program(struct random *r, struct buffer *table)
 static void make_states(struct random *r, struct scene *scene)
 {
     const uint8_t *table = scene->table.bytes;
-    unsigned variables = table[6], arrays = table[7];
-    uint32_t secret_variables = get32(table + 14), secret_arrays = get16(table + 18);
-    size_t cells = 0;
-    for (unsigned array = 0; array < arrays; array++)
-        cells += get16(table + 24 + 6 * array);
+    unsigned variables = variables_of(table), arrays = arrays_of(table);
+    uint64_t secret_variables = secret_variables_of(table), secret_arrays = secret_arrays_of(table);
+    size_t cells = cells_of(table);
     scene->variables = variables;
     slice_new(&scene->state_variables[0], 4 * (size_t)variables);
     slice_new(&scene->state_cells[0], 4 * cells);
@@ -141,7 +159,7 @@ static void make_states(struct random *r, struct scene *scene)
             generate_words(r, scene->state_variables[1].bytes + 4 * x, 1);
     uint8_t *cell = scene->state_cells[1].bytes;
     for (unsigned array = 0; array < arrays; array++) {
-        unsigned count = get16(table + 24 + 6 * array);
+        unsigned count = count_of(table, array);
         if ((secret_arrays >> array & 1) != 0 && random_percent(r, changed))
             generate_words(r, cell, count);
         cell += 4 * count;
@@ -157,13 +175,13 @@ static struct call make_run(const struct scene *scene, const uint8_t *table, siz
     const struct slice *variables = &scene->state_variables[state];
     const struct slice *cells = &scene->state_cells[state];
     slice_from(&call.slices[SLICE_TABLE], table, length);
-    slice_new(&call.slices[SLICE_VARIABLES], 4 * (size_t)table[6]);
-    if (table[6] > 0)
+    slice_new(&call.slices[SLICE_VARIABLES], 4 * (size_t)variables_of(table));
+    if (variables_of(table) > 0)
         memset(call.slices[SLICE_VARIABLES].bytes, 0, call.slices[SLICE_VARIABLES].length);
     if (variables->length > 0)
         memcpy(call.slices[SLICE_VARIABLES].bytes, variables->bytes, variables->length);
     slice_from(&call.slices[SLICE_CELLS], cells->bytes, cells->length);
-    slice_new(&call.slices[SLICE_PENDING], 4 * (size_t)get16(table + 8));
+    slice_new(&call.slices[SLICE_PENDING], 4 * (size_t)nodes_of(table));
     slice_new(&call.slices[SLICE_OBSERVATIONS], 10 * (size_t)budget);
     slice_new(&call.slices[SLICE_ANSWER], FLOW_ANSWER_BYTES);
     return call;
@@ -176,7 +194,7 @@ static struct call make_guess(const struct scene *scene, const uint8_t *table, s
     struct call call = make_run(scene, table, length, state, budget);
     call.entry = machine;
     if (machine == ENTRY_ROLLBACK)
-        slice_new(&call.slices[SLICE_SAVES], flow_saves_bytes(table[6], scene->state_cells[state].length / 4, get16(table + 8)));
+        slice_new(&call.slices[SLICE_SAVES], flow_saves_bytes(variables_of(table), cells_of(table), nodes_of(table)));
     return call;
 }
 
@@ -385,7 +403,9 @@ static bool play_scripts(struct random *r, const struct scene *scene, enum entry
     bool same = true;
     for (unsigned script = 0; same && script < SCRIPTS; script++) {
         same = play_script(r, scene, machine, attack);
-        attack->leaks_before += leaks_before_hardening(r, scene, machine);
+        bool leaks = leaks_before_hardening(r, scene, machine);
+        attack->leaks_before += leaks;
+        attack->leaks_high += leaks && scene->variables >= 32;
     }
     return same;
 }
@@ -406,6 +426,7 @@ bool play_demands(struct random *r, struct plays *plays)
         if (same && plain_runs_related(&scene)) {
             plays->related++;
             count_factored(scene.table.bytes, scene.table.length, &plays->factored);
+            count_version(scene.table.bytes, &plays->versions);
             same = play_scripts(r, &scene, ENTRY_GUESS, &plays->guessing) && play_scripts(r, &scene, ENTRY_ROLLBACK, &plays->rolling);
         }
     }

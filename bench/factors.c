@@ -4,6 +4,7 @@
 #include <string.h>
 
 #include "call.h"
+#include "declarations.h"
 #include "flow.h"
 #include "records/kinds.h"
 #include "records/little_endian.h"
@@ -19,7 +20,7 @@ static unsigned find_factors(const uint8_t *table, size_t length, uint32_t value
 {
     size_t nodes[FLOW_MAX_NODES];
     unsigned node = 0, count = 0;
-    for (size_t at = 20 + 6 * (size_t)table[7]; at < length; at += get16(table + at)) {
+    for (size_t at = nodes_at(table); at < length; at += get16(table + at)) {
         nodes[node++] = at;
         bool product = get16(table + at + 2) == FLOW_MULTIPLY;
         for (unsigned side = 0; product && side < 2; side++) {

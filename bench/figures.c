@@ -13,10 +13,10 @@ static const struct performers both = {call_library, call_reference};
 
 /* ---- Reading, labelling, hardening -------------------------------------------------------------------------------------- */
 
-static struct timing time_samples(enum entry entry, unsigned nodes)
+static struct timing time_samples(enum entry entry, sample_table *make, unsigned nodes)
 {
     struct call calls[SAMPLES];
-    sample_calls(entry, mixed_table, nodes, calls);
+    sample_calls(entry, make, nodes, calls);
     struct timing timing = time_calls(both, calls, SAMPLES);
     free_calls(calls, SAMPLES);
     return timing;
@@ -37,11 +37,24 @@ static void figures_of_sizes(void)
 {
     print_timing_head("Time against the number of nodes (8 generated tables of each size)", "", "N");
     for (const unsigned *nodes = sample_sizes; *nodes != 0; nodes++)
-        print_timing("reading (a run refused by 20)", *nodes, time_samples(ENTRY_RUN, *nodes));
+        print_timing("reading (a run refused by 20)", *nodes, time_samples(ENTRY_RUN, mixed_table, *nodes));
     for (const unsigned *nodes = sample_sizes; *nodes != 0; nodes++)
-        print_timing("labelling", *nodes, time_samples(ENTRY_SHEET, *nodes));
+        print_timing("labelling", *nodes, time_samples(ENTRY_SHEET, mixed_table, *nodes));
     for (const unsigned *nodes = sample_sizes; *nodes != 0 && *nodes <= FLOW_MAX_HARDENED_NODES; nodes++)
-        print_timing("hardening", *nodes, time_samples(ENTRY_HARDEN, *nodes));
+        print_timing("hardening", *nodes, time_samples(ENTRY_HARDEN, mixed_table, *nodes));
+}
+
+/* ---- Versions ----------------------------------------------------------------------------------------------------------- */
+
+static void figures_of_versions(void)
+{
+    print_timing_head("Version 2: the same tables with their variables spread over 63", "", "N");
+    for (const unsigned *nodes = copied_sizes; *nodes != 0; nodes++) {
+        print_timing("labelling, version 1", *nodes, time_samples(ENTRY_SHEET, mixed_table, *nodes));
+        print_timing("labelling, version 2", *nodes, time_samples(ENTRY_SHEET, wide_table, *nodes));
+        print_timing("hardening, version 1", *nodes, time_samples(ENTRY_HARDEN, mixed_table, *nodes));
+        print_timing("hardening, version 2", *nodes, time_samples(ENTRY_HARDEN, wide_table, *nodes));
+    }
 }
 
 /* ---- Sizing ------------------------------------------------------------------------------------------------------------- */
@@ -66,9 +79,9 @@ static void figures_of_sizing(void)
 {
     static const char text[] =
         "Many copies: nearly all nodes stand in conditions, of which hardening makes three copies; few: in values, of which it makes\n"
-        "one. Into a buffer of 20 + 6 A + 80 N bytes flow_harden writes at once, into a shorter one only when it has sized the result.\n"
-        "Sizing alone is the time with the exact buffer less that with the large one. As the difference of two measured times it is\n"
-        "noisier than they are: runs differ by a tenth of it, at N = 8 by a fifth. The reference never sizes.\n\n";
+        "one. Into a buffer of 20 + 6 A + 80 N bytes flow_harden writes these, of version 1, at once, into a shorter one only when it has\n"
+        "sized the result. Sizing alone is the time with the exact buffer less that with the large one. As the difference of two\n"
+        "measured times it is noisier than they are: runs differ by a tenth of it, at N = 8 by a fifth. The reference never sizes.\n\n";
     print_timing_head("Sizing (8 generated tables of each kind and size, each hardened into three buffers)", text, "N");
     for (const unsigned *nodes = copied_sizes; *nodes != 0; nodes++)
         figures_of_rooms("many copies", many_copies_table, *nodes);
@@ -309,6 +322,7 @@ int main(void)
     setvbuf(stdout, NULL, _IOLBF, 0);
     printf("# Figures\n\nTimes are the best of several rounds, library and reference in turn.\n");
     figures_of_sizes();
+    figures_of_versions();
     figures_of_sizing();
     figures_of_questions();
     figures_of_nesting();

@@ -4,6 +4,7 @@
 #include <string.h>
 
 #include "copies.h"
+#include "declarations.h"
 #include "records/kinds.h"
 #include "records/little_endian.h"
 #include "reference.h"
@@ -57,21 +58,62 @@ static uint32_t random_word(struct random *r)
 
 /* ---- Plans -------------------------------------------------------------------------------------------------------------- */
 
-static uint32_t random_mask(struct random *r, unsigned width)
+static uint64_t random_mask(struct random *r, unsigned width)
 {
-    uint32_t mask = (uint32_t)random_next(r);
+    uint64_t mask = random_next(r);
     switch (random_below(r, 4)) {
     case 0: mask = 0; break;
-    case 1: mask &= (uint32_t)random_next(r) & (uint32_t)random_next(r); break;
-    case 2: mask &= (uint32_t)random_next(r); break;
+    case 1: mask &= random_next(r) & random_next(r); break;
+    case 2: mask &= random_next(r); break;
     }
-    return width == 32 ? mask : mask & (((uint32_t)1 << width) - 1);
+    return width == 64 ? mask : mask & (((uint64_t)1 << width) - 1);
 }
 
 static void plan_labels(struct random *r, struct plan *plan)
 {
     plan->secret_variables = random_mask(r, plan->variables);
-    plan->secret_arrays = random_mask(r, plan->arrays);
+    plan->secret_arrays = (uint32_t)random_mask(r, plan->arrays);
+}
+
+/* One of so many variables, often the first, the last or one beside the width of a mask of 4 bytes. */
+static unsigned notable_variable(struct random *r, unsigned variables)
+{
+    const unsigned notable[] = {0, 31, 32, 33, variables - 1};
+    unsigned one = notable[random_below(r, 5)];
+    return one < variables && random_percent(r, 50) ? one : random_below(r, variables);
+}
+
+/* A small program of many variables would use each of them once or never, and hardly a label would go from one to another. */
+static void choose_variables(struct random *r, struct plan *plan)
+{
+    plan->chosen_count = plan->variables <= MOST_CHOSEN || random_percent(r, 15) ? 0 : 2 + random_below(r, MOST_CHOSEN - 1);
+    for (unsigned i = 0; i < plan->chosen_count; i++)
+        plan->chosen[i] = (uint8_t)notable_variable(r, plan->variables);
+}
+
+void plan_variables(struct random *r, struct plan *plan, unsigned version, unsigned variables)
+{
+    plan->version = version;
+    plan->variables = variables;
+    plan_labels(r, plan);
+    choose_variables(r, plan);
+}
+
+unsigned planned_variable(struct random *r, const struct plan *plan)
+{
+    return plan->chosen_count > 0 ? plan->chosen[random_below(r, plan->chosen_count)] : random_below(r, plan->variables);
+}
+
+/* Of few variables in version 1, as planned so far, often another number of them, the other version or both. */
+static void plan_version(struct random *r, struct plan *plan)
+{
+    static const uint8_t limits[] = {31, 32, 32, 32, 33, 33, 62, 63, 63, 64, 64, 64};
+    unsigned chance = random_below(r, 100), variables = plan->variables;
+    if (chance < 45)
+        return;
+    if (chance >= 57)
+        variables = random_percent(r, 70) ? limits[random_below(r, sizeof limits)] : random_below(r, FLOW_MAX_VARIABLES + 1);
+    plan_variables(r, plan, chance < 80 ? FLOW_VERSION_2 : FLOW_VERSION, variables);
 }
 
 static void plan_style(struct random *r, struct plan *plan)
@@ -84,9 +126,9 @@ static void plan_style(struct random *r, struct plan *plan)
     plan->factors = 30;
 }
 
-struct plan plan_small(struct random *r, unsigned most_nodes)
+struct plan plan_few(struct random *r, unsigned most_nodes)
 {
-    struct plan plan = {0};
+    struct plan plan = {.version = FLOW_VERSION};
     plan.variables = random_percent(r, 5) ? 0 : 1 + random_below(r, 6);
     plan.arrays = random_percent(r, 15) ? 0 : 1 + random_below(r, 3);
     plan.nodes = 1 + random_below(r, most_nodes);
@@ -94,6 +136,13 @@ struct plan plan_small(struct random *r, unsigned most_nodes)
         plan.counts[array] = (uint16_t)(1 + random_below(r, 5));
     plan_style(r, &plan);
     plan_labels(r, &plan);
+    return plan;
+}
+
+struct plan plan_small(struct random *r, unsigned most_nodes)
+{
+    struct plan plan = plan_few(r, most_nodes);
+    plan_version(r, &plan);
     return plan;
 }
 
@@ -112,11 +161,11 @@ static void plan_most_cells(struct random *r, struct plan *plan)
 struct plan plan_boundary(struct random *r)
 {
     static const unsigned nodes[] = {1, 2, 3, 511, 512, 512, 513, 4095, 4096};
-    static const unsigned variables[] = {0, 1, 30, 31, 31, 32};
+    static const unsigned variables[] = {0, 1, 30, 31, 31, 32, 32, 33, 62, 63, 63, 64};
     static const unsigned arrays[] = {0, 1, 15, 16};
     struct plan plan = {0};
     plan.nodes = nodes[random_below(r, sizeof nodes / sizeof *nodes)];
-    plan.variables = variables[random_below(r, sizeof variables / sizeof *variables)];
+    unsigned declared = variables[random_below(r, sizeof variables / sizeof *variables)];
     plan.arrays = arrays[random_below(r, sizeof arrays / sizeof *arrays)];
     if (random_percent(r, 40))
         plan_most_cells(r, &plan);
@@ -124,7 +173,7 @@ struct plan plan_boundary(struct random *r)
         for (unsigned array = 0; array < plan.arrays; array++)
             plan.counts[array] = (uint16_t)(1 + random_below(r, 9));
     plan_style(r, &plan);
-    plan_labels(r, &plan);
+    plan_variables(r, &plan, random_percent(r, 60) ? FLOW_VERSION : FLOW_VERSION_2, declared);
     return plan;
 }
 
@@ -316,7 +365,7 @@ static uint32_t random_field(struct sketch *s, char field)
     switch (field) {
     case 'n': return random_word(s->random);
     case 'b': return random_below(s->random, 2);
-    case 'x': return random_below(s->random, s->plan->variables);
+    case 'x': return planned_variable(s->random, s->plan);
     default: return random_below(s->random, s->plan->arrays);
     }
 }
@@ -436,9 +485,16 @@ unsigned generate_part(struct random *r, const struct plan *plan, char sort, str
     return top;
 }
 
+void start_table(const struct plan *plan, struct buffer *table)
+{
+    unsigned lowest = lowest_version(plan->variables);
+    assemble_version(table, plan->version > lowest ? plan->version : lowest, plan->variables, plan->arrays, plan->counts,
+                     plan->secret_variables, plan->secret_arrays);
+}
+
 void generate_table(struct random *r, const struct plan *plan, struct buffer *table)
 {
-    assemble_table(table, plan->variables, plan->arrays, plan->counts, plan->secret_variables, plan->secret_arrays);
+    start_table(plan, table);
     generate_part(r, plan, 'C', table);
 }
 
@@ -455,6 +511,31 @@ void nested_loops_table(unsigned depth, struct buffer *t)
     }
 }
 
+/* Puts the numbers below `count`, in an order by chance. */
+static void shuffle(struct random *r, uint8_t *numbers, unsigned count)
+{
+    for (unsigned i = 0; i < count; i++) {
+        unsigned other = random_below(r, i + 1);
+        numbers[i] = numbers[other];
+        numbers[other] = (uint8_t)i;
+    }
+}
+
+void shuffled_chain_table(struct random *r, unsigned version, unsigned variables, struct buffer *t)
+{
+    uint8_t order[FLOW_MAX_VARIABLES] = {0};
+    unsigned last = variables - 1;
+    shuffle(r, order, variables);
+    assemble_version(t, version, variables, 0, NULL, (uint64_t)1 << order[last], 0);
+    unsigned condition = assemble_node1(t, FLOW_CONSTANT, 1);
+    unsigned body = assemble_node0(t, FLOW_SKIP);
+    for (unsigned i = last; i-- > 0;) {
+        unsigned move = assemble_node2(t, FLOW_ASSIGN, order[i], assemble_node1(t, FLOW_VARIABLE, order[i + 1]));
+        body = assemble_node2(t, FLOW_SEQUENCE, move, body);
+    }
+    assemble_node2(t, FLOW_WHILE, condition, body);
+}
+
 /* ---- Damage ------------------------------------------------------------------------------------------------------------- */
 
 /* The records of a valid table. */
@@ -467,7 +548,7 @@ struct records {
 static void find_records(const struct buffer *table, struct records *found)
 {
     found->count = 0;
-    found->declarations = 2u + table->bytes[7];
+    found->declarations = 2 + arrays_of(table->bytes);
     for (size_t at = 0; at < table->length; at += get16(table->bytes + at))
         found->places[found->count++] = at;
 }
@@ -544,8 +625,8 @@ static uint32_t first_refused(const struct buffer *table, unsigned node, char fi
 {
     switch (field) {
     case 'b': return 2;
-    case 'x': return table->bytes[6];
-    case 'a': return table->bytes[7];
+    case 'x': return variables_of(table->bytes);
+    case 'a': return arrays_of(table->bytes);
     default: return node;
     }
 }
@@ -568,30 +649,79 @@ static void damage_field(struct random *r, struct buffer *table, const struct re
 static void damage_header(struct random *r, struct buffer *table)
 {
     uint8_t *version = table->bytes + 4, *variables = table->bytes + 6, *arrays = table->bytes + 7, *nodes = table->bytes + 8;
-    static const uint32_t counts[] = {0, 1, 16, 17, 31, 32, 33, 255};
+    static const uint32_t counts[] = {0, 1, 16, 17, 31, 32, 33, 63, 64, 65, 255};
+    unsigned count = counts[random_below(r, sizeof counts / sizeof *counts)];
     switch (random_below(r, 6)) {
     case 0: put16(version, random_percent(r, 50) ? random_below(r, 4) : 257); break;
-    case 1: *variables = (uint8_t)counts[random_below(r, 8)]; break;
-    case 2: *arrays = (uint8_t)counts[random_below(r, 8)]; break;
+    case 1: *variables = (uint8_t)count; break;
+    case 2: *arrays = (uint8_t)count; break;
     case 3: put16(nodes, get16(nodes) + 1); break;
     case 4: put16(nodes, get16(nodes) - 1); break;
     default: put16(nodes, random_percent(r, 50) ? 0 : 4096 + random_below(r, 3)); break;
     }
 }
 
+/* A bit of a mask of so many bits: the first that must not be set, another from there up, or any. */
+static unsigned damaging_bit(struct random *r, unsigned declared, unsigned width)
+{
+    if (declared == width || random_percent(r, 30))
+        return random_below(r, width);
+    return random_percent(r, 50) ? declared : declared + random_below(r, width - declared);
+}
+
 static void damage_masks(struct random *r, struct buffer *table)
 {
-    uint8_t *mask = table->bytes + 14 + (random_percent(r, 50) ? 4 : 0);
-    unsigned bit = random_below(r, mask == table->bytes + 14 ? 32 : 16);
+    unsigned bytes = (unsigned)flow_mask_bytes(version_of(table->bytes));
+    bool arrays = random_percent(r, 40);
+    uint8_t *mask = table->bytes + MASK_AT + (arrays ? bytes : 0);
+    unsigned bit = arrays ? damaging_bit(r, arrays_of(table->bytes), 16) : damaging_bit(r, variables_of(table->bytes), 8 * bytes);
     mask[bit / 8] |= (uint8_t)(1u << bit % 8);
 }
 
 static void damage_counts(struct random *r, struct buffer *table)
 {
     static const uint32_t counts[] = {0, 1, 16383, 16384, 16385, 65535};
-    unsigned arrays = table->bytes[7];
+    unsigned arrays = arrays_of(table->bytes);
     if (arrays > 0)
-        put16(table->bytes + 20 + 6 * random_below(r, arrays) + RECORD_HEAD, counts[random_below(r, 6)]);
+        put16(table->bytes + array_at(table->bytes, random_below(r, arrays)) + RECORD_HEAD, counts[random_below(r, 6)]);
+}
+
+static unsigned other_version(const struct buffer *table)
+{
+    return version_of(table->bytes) == FLOW_VERSION ? FLOW_VERSION_2 : FLOW_VERSION;
+}
+
+/* The labels record becomes what it would be in the other version: the higher half of the mask comes, as zeros, or goes. */
+static void exchange_labels(struct buffer *table)
+{
+    static const uint8_t higher[4];
+    unsigned other = other_version(table);
+    if (other == FLOW_VERSION_2)
+        insert_bytes(table, MASK_AT + 4, higher, sizeof higher);
+    else
+        delete_bytes(table, MASK_AT + 4, sizeof higher);
+    put16(table->bytes + LABELS_AT, (uint32_t)labels_length(other));
+}
+
+/*
+ * What belongs to the version: its number, the variables that it holds, its labels record.  (That of the other version, with the
+ * other number, makes a good table where this holds the variables.)
+ */
+static void damage_version(struct random *r, struct buffer *table)
+{
+    static const uint32_t unknown[] = {0, 3, 65535, 257, 258, 512};
+    unsigned version = version_of(table->bytes), other = other_version(table), way = random_below(r, 8);
+    switch (way) {
+    case 0: put16(table->bytes + 4, unknown[random_below(r, sizeof unknown / sizeof *unknown)]); break;
+    case 1: put16(table->bytes + 4, other); break;
+    case 2: put16(table->bytes + LABELS_AT, (uint32_t)labels_length(other)); break;
+    case 3: table->length = LABELS_AT + random_below(r, (uint32_t)labels_length(version)); break;
+    case 4: table->bytes[6] = (uint8_t)(flow_max_variables(version) + 1); break;
+    default:
+        exchange_labels(table);
+        if (way == 5)
+            put16(table->bytes + 4, other);
+    }
 }
 
 /* A node more, which leaves the old root over. */
@@ -661,7 +791,7 @@ static void damage_tree(struct random *r, struct buffer *table, const struct rec
 /* The root becomes both parts of a new one: no node is left over, one is a child twice. */
 static void share_root(struct buffer *table)
 {
-    unsigned root = get16(table->bytes + 8) - 1;
+    unsigned root = nodes_of(table->bytes) - 1;
     if (root + 1 < FLOW_MAX_NODES)
         assemble_node2(table, FLOW_SEQUENCE, root, root);
 }
@@ -676,7 +806,7 @@ void damage_table(struct random *r, struct buffer *table)
     }
     if (random_percent(r, 3))
         share_root(table);
-    switch (random_below(r, 14)) {
+    switch (random_below(r, 19)) {
     case 0: damage_bits(r, table); break;
     case 1: damage_end(r, table, &records); break;
     case 2: damage_length(r, table, &records); break;
@@ -689,6 +819,11 @@ void damage_table(struct random *r, struct buffer *table)
     case 9: damage_counts(r, table); break;
     case 10: share_root(table); break;
     case 11: damage_tree(r, table, &records); break;
+    case 12:
+    case 13:
+    case 14:
+    case 15:
+    case 16: damage_version(r, table); break;
     default: damage_records(r, table, &records); break;
     }
 }
@@ -698,15 +833,16 @@ static void generate_noise(struct random *r, struct buffer *table)
     uint8_t noise[64];
     random_fill(r, noise, sizeof noise);
     if (random_percent(r, 50)) { /* a head that gets a reader going */
+        unsigned version = random_percent(r, 50) ? FLOW_VERSION : FLOW_VERSION_2;
         put16(noise, 10);
         put16(noise + 2, 1);
-        put16(noise + 4, 1);
-        noise[6] &= 31;
+        put16(noise + 4, version);
+        noise[6] &= (uint8_t)(flow_max_variables(version) - 1);
         noise[7] &= 3;
         put16(noise + 8, 1 + (noise[8] & 3));
-        put16(noise + 10, 10);
-        put16(noise + 12, 3);
-        memset(noise + 14, 0, 6);
+        put16(noise + LABELS_AT, (uint32_t)labels_length(version));
+        put16(noise + LABELS_AT + 2, 3);
+        memset(noise + MASK_AT, 0, flow_mask_bytes(version) + 2);
     }
     buffer_append(table, noise, random_below(r, sizeof noise + 1));
 }
@@ -777,9 +913,9 @@ static void find_layout(const struct slice *table, struct layout *layout)
 {
     struct buffer view = {.bytes = table->bytes, .length = table->length};
     find_records(&view, &layout->records);
-    layout->arrays = table->bytes[7];
+    layout->arrays = arrays_of(table->bytes);
     for (unsigned array = 0; array < layout->arrays; array++)
-        layout->counts[array] = get16(table->bytes + 20 + 6 * array + RECORD_HEAD);
+        layout->counts[array] = count_of(table->bytes, array);
 }
 
 /* A load at a read, a store at a write; seldom the other one.  `missing`: percent that name a cell or array that does not exist. */
@@ -898,7 +1034,7 @@ static void find_outline(const struct slice *table, struct outline *outline)
     struct records records;
     find_records(&view, &records);
     outline->nodes = records.count - records.declarations;
-    outline->variables = table->bytes[6];
+    outline->variables = variables_of(table->bytes);
     outline->in_loop[outline->nodes - 1] = false;
     for (unsigned node = outline->nodes; node-- > 0;) {
         const uint8_t *record = table->bytes + records.places[records.declarations + node];
@@ -942,16 +1078,16 @@ static void append_question(struct buffer *list, unsigned node, unsigned variabl
     buffer_append16(list, variable);
 }
 
-/* Good pairs, unless there are no variables; often all variables of a command before the next command. */
+/* Good pairs, unless there are no variables; often all variables of a command, from any on, before the next command. */
 static void append_questions(struct random *r, const struct outline *outline, unsigned count, struct buffer *list)
 {
     unsigned variables = outline->variables > 0 ? outline->variables : 1;
     bool sweep = random_percent(r, 40);
-    unsigned node = 0;
+    unsigned node = 0, first = random_below(r, variables);
     for (unsigned i = 0; i < count; i++) {
         if (!sweep || i % variables == 0)
             node = pick_asked(r, outline);
-        append_question(list, node, sweep ? i % variables : random_below(r, variables));
+        append_question(list, node, sweep ? (first + i) % variables : notable_variable(r, variables));
     }
 }
 
@@ -975,7 +1111,7 @@ static void damage_questions(struct random *r, const struct outline *outline, st
     unsigned count = (unsigned)(list->length / FLOW_QUESTION_BYTES);
     uint8_t *node = list->bytes + random_below(r, count) * FLOW_QUESTION_BYTES;
     uint8_t *variable = node + 2;
-    static const uint32_t far[] = {32, 64, 256, 512, 32768, 65504};
+    static const uint32_t far[] = {64, 128, 256, 512, 32768, 65472};
     switch (random_below(r, 8)) {
     case 0:
     case 1: put16(node, pick_expression(r, outline)); break;
@@ -994,7 +1130,7 @@ static void damage_questions(struct random *r, const struct outline *outline, st
 static void append_blind_questions(struct random *r, struct buffer *list)
 {
     for (unsigned count = random_below(r, random_percent(r, 10) ? 300 : 6); count > 0; count--)
-        append_question(list, random_below(r, 40), random_below(r, 6));
+        append_question(list, random_below(r, 40), random_below(r, 70));
     if (list->length > 0 && random_percent(r, 20))
         list->length -= 1 + random_below(r, 3);
 }
@@ -1067,8 +1203,7 @@ static size_t generate_room(struct random *r)
     }
 }
 
-/* The length of the sheet or table that the call writes, if it is accepted. */
-static size_t output_length(const struct call *call)
+size_t output_length(const struct call *call)
 {
     struct call trial = {.entry = call->entry};
     const struct slice *table = &call->slices[SLICE_TABLE];
@@ -1108,7 +1243,8 @@ static void generate_large_expressions(struct random *r, struct plan *plan, stru
 {
     unsigned chance = random_below(r, 100);
     unsigned level = COPIES_LEAST_LEVEL + random_below(r, plan->nodes);
-    plan->variables = plan->variables == 0 ? 1 : plan->variables;
+    if (plan->variables == 0 || plan->variables == FLOW_MAX_VARIABLES)
+        plan_variables(r, plan, plan->version, plan->variables == 0 ? 1 : FLOW_MAX_VARIABLES - 1);
     plan->long_expressions = 60;
     if (chance < 80)
         copies_table(r, plan, chance < 60 ? COPIES_MANY : COPIES_FEW, level, table);
@@ -1128,7 +1264,8 @@ static void lend_large_expressions(struct random *r, bool small, struct call *ca
     slice_free(&call->slices[SLICE_OUTPUT]);
     slice_from(&call->slices[SLICE_TABLE], table.bytes, table.length);
     buffer_free(&table);
-    size_t unsized = 20 + 6 * (size_t)plan.arrays + 80 * (size_t)plan.nodes;
+    bool second = version_of(call->slices[SLICE_TABLE].bytes) == 2 || plan.variables == 32; /* is the output of version 2? */
+    size_t unsized = (second ? 24 : 20) + 6 * (size_t)plan.arrays + 80 * (size_t)plan.nodes;
     fill_slice(r, &call->slices[SLICE_OUTPUT], length_that_tells(r, output_length(call), unsized));
 }
 
@@ -1294,13 +1431,13 @@ static void lend_state(struct random *r, const struct plan *plan, struct call *c
 static unsigned put_index(struct random *r, const struct plan *plan, unsigned array, struct buffer *t)
 {
     if (random_percent(r, 25))
-        return assemble_node1(t, FLOW_VARIABLE, random_below(r, plan->variables));
+        return assemble_node1(t, FLOW_VARIABLE, planned_variable(r, plan));
     return assemble_node1(t, FLOW_NUMBER, random_below(r, plan->counts[array] + (random_percent(r, 25) ? 2u : 0u)));
 }
 
 static unsigned put_access(struct random *r, const struct plan *plan, struct buffer *t)
 {
-    unsigned array = random_below(r, plan->arrays), variable = random_below(r, plan->variables);
+    unsigned array = random_below(r, plan->arrays), variable = planned_variable(r, plan);
     unsigned index = put_index(r, plan, array, t);
     if (random_percent(r, 55))
         return assemble_node3(t, FLOW_READ, variable, array, index);
@@ -1310,7 +1447,7 @@ static unsigned put_access(struct random *r, const struct plan *plan, struct buf
 /* if x<n then access else access */
 static unsigned put_branch(struct random *r, const struct plan *plan, struct buffer *t)
 {
-    unsigned x = assemble_node1(t, FLOW_VARIABLE, random_below(r, plan->variables));
+    unsigned x = assemble_node1(t, FLOW_VARIABLE, planned_variable(r, plan));
     unsigned condition = assemble_node2(t, FLOW_LESS, x, assemble_node1(t, FLOW_NUMBER, random_below(r, 6)));
     unsigned one = put_access(r, plan, t);
     return assemble_node3(t, FLOW_IF, condition, one, put_access(r, plan, t));
@@ -1326,7 +1463,7 @@ static unsigned put_count(struct buffer *t, unsigned variable)
 /* while x<n do access, or x := x + 1 */
 static unsigned put_loop(struct random *r, const struct plan *plan, struct buffer *t)
 {
-    unsigned variable = random_below(r, plan->variables);
+    unsigned variable = planned_variable(r, plan);
     unsigned x = assemble_node1(t, FLOW_VARIABLE, variable);
     unsigned condition = assemble_node2(t, FLOW_LESS, x, assemble_node1(t, FLOW_NUMBER, random_below(r, 4)));
     unsigned body = random_percent(r, 25) ? put_access(r, plan, t) : put_count(t, variable);
@@ -1344,7 +1481,9 @@ static void lend_accesses(struct random *r, unsigned branches, unsigned loops, s
     struct buffer table = {0};
     for (unsigned array = 0; array < plan.arrays; array++)
         plan.counts[array] = (uint16_t)(1 + random_below(r, 5));
-    assemble_table(&table, plan.variables, plan.arrays, plan.counts, 0, 0);
+    plan_version(r, &plan);
+    plan.variables = plan.variables == 0 ? 1 : plan.variables;
+    start_table(&plan, &table);
     unsigned all = put_branch(r, &plan, &table);
     for (unsigned more = random_below(r, 12); more > 0; more--) {
         unsigned next = !random_percent(r, branches) ? put_access(r, &plan, &table)
@@ -1359,21 +1498,75 @@ static void lend_accesses(struct random *r, unsigned branches, unsigned loops, s
     lend_state(r, &plan, call);
 }
 
+/* In the place of a table, the hardened one, where it hardens. */
+static void harden_input(struct buffer *table)
+{
+    static uint8_t hardened[FLOW_TABLE_BYTES];
+    uint8_t answer[16];
+    if (reference_harden(table->bytes, table->length, hardened, sizeof hardened, answer, sizeof answer) != FLOW_ACCEPTED)
+        return;
+    table->length = 0;
+    buffer_append(table, hardened, (size_t)get64(answer + 8));
+}
+
+/* A hardened table as an input, often that of a version 1 table with all its variables, which is one of version 2. */
+static void generate_hardened(struct random *r, bool small, struct plan *plan, struct buffer *table)
+{
+    *plan = plan_small(r, small ? 8 : 60);
+    if (random_percent(r, 40))
+        plan_variables(r, plan, FLOW_VERSION, FLOW_MAX_VARIABLES_1);
+    generate_table(r, plan, table);
+    harden_input(table);
+}
+
+static void generate_chain(struct random *r, struct plan *plan, struct buffer *table)
+{
+    unsigned variables = 2 + random_below(r, FLOW_MAX_VARIABLES - 1), lowest = lowest_version(variables);
+    shuffled_chain_table(r, random_percent(r, 50) ? lowest : FLOW_VERSION_2, variables, table);
+    plan->arrays = 0;
+}
+
+static void generate_nested(struct random *r, struct plan *plan, struct buffer *table)
+{
+    nested_loops_table(1 + random_below(r, random_percent(r, 50) ? 62 : 510), table);
+    plan->arrays = 0;
+}
+
+/* Any valid table, and the plan of the state that goes with it. */
+static void generate_valid(struct random *r, bool small, struct plan *plan, struct buffer *table)
+{
+    unsigned chance = random_below(r, 100);
+    if (!small && chance < 1)
+        generate_nested(r, plan, table);
+    else if (!small && chance < 2)
+        generate_chain(r, plan, table);
+    else if (chance < 10)
+        generate_hardened(r, small, plan, table);
+    else
+        generate_table(r, plan, table);
+    plan->variables = variables_of(table->bytes);
+    plan->nodes = nodes_of(table->bytes);
+}
+
+/* As many variables as leave just one for the flag, in either version, or one more. */
+static void plan_flag(struct random *r, struct plan *plan)
+{
+    static const uint8_t limits[] = {31, 32, 32, 32, 63, 64, 64};
+    unsigned variables = limits[random_below(r, sizeof limits)];
+    plan_variables(r, plan, random_percent(r, 80) ? FLOW_VERSION : FLOW_VERSION_2, variables);
+}
+
 /* Any table, and the plan of the state that goes with it. */
-static void generate_input(struct random *r, bool small, struct plan *plan, struct buffer *table)
+static void generate_input(struct random *r, bool small, enum entry entry, struct plan *plan, struct buffer *table)
 {
     *plan = small ? plan_small(r, 60) : plan_any(r);
     if (random_percent(r, 3)) {
         generate_noise(r, table);
         return;
     }
-    if (!small && random_percent(r, 1)) {
-        nested_loops_table(1 + random_below(r, random_percent(r, 50) ? 62 : 510), table);
-        plan->variables = 2;
-        plan->arrays = 0;
-    } else
-        generate_table(r, plan, table);
-    plan->nodes = get16(table->bytes + 8);
+    if (entry == ENTRY_HARDEN && random_percent(r, 30))
+        plan_flag(r, plan);
+    generate_valid(r, small, plan, table);
     if (random_percent(r, 25))
         damage_table(r, table);
 }
@@ -1383,7 +1576,7 @@ void generate_call(struct random *r, bool small, struct call *call)
     struct buffer table = {0};
     struct plan plan;
     *call = (struct call){.entry = random_below(r, ENTRIES)};
-    generate_input(r, small, &plan, &table);
+    generate_input(r, small, call->entry, &plan, &table);
     if (table.length > 0 || random_percent(r, 50))
         slice_from(&call->slices[SLICE_TABLE], table.bytes, table.length);
     buffer_free(&table);
@@ -1399,6 +1592,6 @@ void generate_call(struct random *r, bool small, struct call *call)
         lend_accesses(r, 75, 80, call);
     else
         lend_state(r, &plan, call);
-    if (call->entry == ENTRY_HARDEN && random_percent(r, 20)) /* last, so that a seed's other calls stay as they were */
+    if (call->entry == ENTRY_HARDEN && random_percent(r, 20))
         lend_large_expressions(r, small, call);
 }

@@ -26,11 +26,17 @@ enum shape { SHAPE_BUSHY, SHAPE_DEEP, SHAPE_BALANCED, SHAPES };
 /* Which of the nodes whose children all have numbers gets the next number. */
 enum order { ORDER_SHUFFLED, ORDER_NEWEST_FIRST, ORDER_OLDEST_FIRST, ORDERS };
 
+enum { MOST_CHOSEN = 8 };
+
 /* What a table is to be like. */
 struct plan {
+    unsigned version;   /* where it does not hold the variables: the lowest that does */
     unsigned variables, arrays, nodes;
     uint16_t counts[FLOW_MAX_ARRAYS];
-    uint32_t secret_variables, secret_arrays;
+    uint64_t secret_variables;
+    uint32_t secret_arrays;
+    unsigned chosen_count; /* 0: the program uses any variables; else these alone, each of them the more often */
+    uint8_t chosen[MOST_CHOSEN];
     enum shape shape;
     enum order order;
     unsigned loops;     /* percent of the larger commands that are loops */
@@ -39,9 +45,19 @@ struct plan {
     unsigned factors;   /* percent of sums, differences and products that become products with the number 0 or 1, where they can */
 };
 
-struct plan plan_small(struct random *r, unsigned most_nodes);
+struct plan plan_few(struct random *r, unsigned most_nodes); /* few variables, version 1; tables that are timed begin with it */
+struct plan plan_small(struct random *r, unsigned most_nodes); /* few nodes and arrays; either version, any number of variables */
 struct plan plan_boundary(struct random *r); /* sizes at and beside the limits */
 struct plan plan_any(struct random *r);
+
+/* Makes a plan one of so many variables in this version, with labels and a choice of variables by chance. */
+void plan_variables(struct random *r, struct plan *plan, unsigned version, unsigned variables);
+
+/* A variable that the program may use; there must be one. */
+unsigned planned_variable(struct random *r, const struct plan *plan);
+
+/* Puts header, labels and arrays, as planned. */
+void start_table(const struct plan *plan, struct buffer *table);
 
 /*
  * Puts nodes for one subtree into a table that was started, exactly as many as planned, and returns the number of its top, which
@@ -57,6 +73,12 @@ void generate_table(struct random *r, const struct plan *plan, struct buffer *ta
  * analysis multiplies.
  */
 void nested_loops_table(unsigned depth, struct buffer *table);
+
+/*
+ * Puts while 1 do (a:=b; (b:=c; (.. skip))) through all variables, at least 2, in an order by chance, the last one secret: each pass
+ * makes one more secret.
+ */
+void shuffled_chain_table(struct random *r, unsigned version, unsigned variables, struct buffer *table);
 
 /* Spoils a valid table: one cause of refusal or several, seldom none. */
 void damage_table(struct random *r, struct buffer *table);
@@ -77,6 +99,9 @@ void generate_script(struct random *r, const struct call *call, const struct man
 
 /* Puts a list of directives by chance, such as the entry's machine knows. */
 void generate_directives(struct random *r, enum entry entry, unsigned most, struct buffer *list);
+
+/* The length of the sheet or table that the call writes into a buffer that suffices; where it is refused, some length. */
+size_t output_length(const struct call *call);
 
 /* Makes any call of any entry.  With `small`, tables stay small. */
 void generate_call(struct random *r, bool small, struct call *call);

@@ -16,8 +16,8 @@ struct refusal {
 
 struct program {
     const uint8_t *table;
-    unsigned variables, arrays, nodes;
-    uint32_t secret_variables;
+    unsigned version, variables, arrays, nodes;
+    uint64_t secret_variables;
     uint32_t secret_arrays;
     uint32_t cells;                        /* of all arrays */
     uint32_t counts[FLOW_MAX_ARRAYS];
@@ -40,6 +40,22 @@ static unsigned field_at(const struct program *p, unsigned node, unsigned i)
 static uint32_t number_at(const struct program *p, unsigned node)
 {
     return get32(p->table + p->place[node] + RECORD_HEAD);
+}
+
+/* P7: how many variables a table of a version declares at most, and how many bytes its variable masks have. */
+static unsigned most_variables(unsigned version)
+{
+    return version == 2 ? 64 : 32;
+}
+
+static unsigned mask_length(unsigned version)
+{
+    return version == 2 ? 8 : 4;
+}
+
+static size_t labels_length(unsigned version)
+{
+    return RECORD_HEAD + mask_length(version) + 2;
 }
 
 /* A walk along the table.  The first refusal stops it. */
@@ -75,27 +91,34 @@ static bool read_header(struct reader *r, struct program *p)
     if (!head_remains(r) || !is_record(r, FLOW_HEADER, 10))
         return false;
     const uint8_t *fields = r->table + r->at + RECORD_HEAD;
+    p->version = get16(fields);
     p->variables = fields[2];
     p->arrays = fields[3];
     p->nodes = get16(fields + 4);
-    if (get16(fields) != FLOW_VERSION || p->variables > FLOW_MAX_VARIABLES || p->arrays > FLOW_MAX_ARRAYS ||
+    if ((p->version != 1 && p->version != 2) || p->variables > most_variables(p->version) || p->arrays > FLOW_MAX_ARRAYS ||
         p->nodes < 1 || p->nodes > FLOW_MAX_NODES)
         return refuse(r, FLOW_BEYOND_LIMITS, r->at);
     r->at += 10;
     return true;
 }
 
+/* Has the mask a bit from this number up?  A shift by 64 is not defined. */
+static bool has_bit_from(uint64_t mask, unsigned number)
+{
+    return number < 64 && mask >> number != 0;
+}
+
 static bool read_labels(struct reader *r, struct program *p)
 {
-    if (!head_remains(r) || !is_record(r, FLOW_LABELS, 10))
+    size_t mask = mask_length(p->version), length = labels_length(p->version);
+    if (!head_remains(r) || !is_record(r, FLOW_LABELS, length))
         return false;
     const uint8_t *fields = r->table + r->at + RECORD_HEAD;
-    p->secret_variables = get32(fields);
-    p->secret_arrays = get16(fields + 4);
-    /* 64 bits wide, so that a shift by 32 is defined */
-    if ((uint64_t)p->secret_variables >> p->variables != 0 || (uint64_t)p->secret_arrays >> p->arrays != 0)
+    p->secret_variables = mask == 8 ? get64(fields) : get32(fields);
+    p->secret_arrays = get16(fields + mask);
+    if (has_bit_from(p->secret_variables, p->variables) || has_bit_from(p->secret_arrays, p->arrays))
         return refuse(r, FLOW_BEYOND_LIMITS, r->at);
-    r->at += 10;
+    r->at += length;
     return true;
 }
 
@@ -189,7 +212,7 @@ static struct refusal read_program(const uint8_t *table, size_t length, struct p
 /* ---- Labels ------------------------------------------------------------------------------------------------------------- */
 
 struct labelling {
-    uint32_t variables; /* bit n set: variable n is secret */
+    uint64_t variables; /* bit n set: variable n is secret */
     uint32_t arrays;
 };
 
@@ -212,7 +235,7 @@ static bool same_labelling(struct labelling one, struct labelling other)
 struct analysis {
     const struct program *program;
     struct labelling final;
-    uint32_t telling[FLOW_MAX_NODES];
+    uint64_t telling[FLOW_MAX_NODES];
     struct labelling entering[FLOW_MAX_NODES];
     struct labelling noted[FLOW_MAX_NODES];
     bool context[FLOW_MAX_NODES];
@@ -244,9 +267,9 @@ static void collect_variables(struct analysis *a)
     const struct program *p = a->program;
     for (unsigned node = 0; node < p->nodes; node++) {
         unsigned kind = kind_at(p, node);
-        uint32_t in = 0;
+        uint64_t in = 0;
         if (kind == FLOW_VARIABLE)
-            in = (uint32_t)1 << field_at(p, node, 0);
+            in = (uint64_t)1 << field_at(p, node, 0);
         else if (sort_of(kind) != 'C' && !is_times_nought(p, node)) {
             const char *fields = fields_of(kind);
             for (unsigned i = 0; fields[i]; i++)
@@ -259,7 +282,7 @@ static void collect_variables(struct analysis *a)
 
 static struct labelling with_variable(struct labelling at, unsigned variable, bool secret)
 {
-    uint32_t bit = (uint32_t)1 << variable;
+    uint64_t bit = (uint64_t)1 << variable;
     at.variables = secret ? at.variables | bit : at.variables & ~bit;
     return at;
 }
@@ -382,9 +405,19 @@ static void write32(struct writer *w, uint32_t value)
     w->at += 4;
 }
 
-static void write_masks(struct writer *w, struct labelling masks)
+static void write64(struct writer *w, uint64_t value)
 {
-    write32(w, masks.variables);
+    put64(w->at, value);
+    w->at += 8;
+}
+
+/* Into a record of a table or sheet of this version. */
+static void write_masks(struct writer *w, unsigned version, struct labelling masks)
+{
+    if (mask_length(version) == 8)
+        write64(w, masks.variables);
+    else
+        write32(w, (uint32_t)masks.variables);
     write16(w, masks.arrays);
 }
 
@@ -394,12 +427,18 @@ static void write_head(struct writer *w, uint32_t length, uint32_t kind)
     write16(w, kind);
 }
 
-static size_t sheet_record_length(unsigned kind)
+/* The length of the sheet's first record, and of the record of a node of this kind: with a mask they depend on the version. */
+static uint32_t sheet_header_length(unsigned version)
+{
+    return 10 + mask_length(version);
+}
+
+static uint32_t sheet_record_length(unsigned version, unsigned kind)
 {
     switch (kind) {
-    case FLOW_SEQUENCE: return 12;
+    case FLOW_SEQUENCE: return 8 + mask_length(version);
     case FLOW_IF: return 8;
-    case FLOW_WHILE: return 14;
+    case FLOW_WHILE: return 10 + mask_length(version);
     case FLOW_READ: return 10;
     case FLOW_WRITE: return 8;
     default: return 0;
@@ -408,9 +447,9 @@ static size_t sheet_record_length(unsigned kind)
 
 static size_t sheet_length(const struct program *p)
 {
-    size_t length = 14;
+    size_t length = sheet_header_length(p->version);
     for (unsigned node = 0; node < p->nodes; node++)
-        length += sheet_record_length(kind_at(p, node));
+        length += sheet_record_length(p->version, kind_at(p, node));
     return length;
 }
 
@@ -422,27 +461,29 @@ static void write_sheet_head(struct writer *w, uint32_t length, uint32_t kind, u
 
 static void write_sheet_record(struct writer *w, const struct analysis *a, unsigned node)
 {
-    switch (kind_at(a->program, node)) {
+    unsigned version = a->program->version, kind = kind_at(a->program, node);
+    uint32_t length = sheet_record_length(version, kind);
+    switch (kind) {
     case FLOW_SEQUENCE:
-        write_sheet_head(w, 12, FLOW_SHEET_SEQUENCE, node);
-        write_masks(w, a->noted[node]);
+        write_sheet_head(w, length, FLOW_SHEET_SEQUENCE, node);
+        write_masks(w, version, a->noted[node]);
         break;
     case FLOW_IF:
-        write_sheet_head(w, 8, FLOW_SHEET_IF, node);
+        write_sheet_head(w, length, FLOW_SHEET_IF, node);
         write16(w, condition_label(a, node));
         break;
     case FLOW_WHILE:
-        write_sheet_head(w, 14, FLOW_SHEET_WHILE, node);
+        write_sheet_head(w, length, FLOW_SHEET_WHILE, node);
         write16(w, condition_label(a, node));
-        write_masks(w, a->noted[node]);
+        write_masks(w, version, a->noted[node]);
         break;
     case FLOW_READ:
-        write_sheet_head(w, 10, FLOW_SHEET_READ, node);
+        write_sheet_head(w, length, FLOW_SHEET_READ, node);
         write16(w, variable_label(a, node));
         write16(w, index_label(a, node));
         break;
     case FLOW_WRITE:
-        write_sheet_head(w, 8, FLOW_SHEET_WRITE, node);
+        write_sheet_head(w, length, FLOW_SHEET_WRITE, node);
         write16(w, index_label(a, node));
         break;
     }
@@ -450,12 +491,13 @@ static void write_sheet_record(struct writer *w, const struct analysis *a, unsig
 
 static void write_sheet(uint8_t *out, const struct analysis *a)
 {
+    const struct program *p = a->program;
     struct writer w = {out};
-    write_head(&w, 14, FLOW_SHEET);
-    write16(&w, FLOW_VERSION);
-    write16(&w, a->program->nodes);
-    write_masks(&w, a->final);
-    for (unsigned node = 0; node < a->program->nodes; node++)
+    write_head(&w, sheet_header_length(p->version), FLOW_SHEET);
+    write16(&w, p->version);
+    write16(&w, p->nodes);
+    write_masks(&w, p->version, a->final);
+    for (unsigned node = 0; node < p->nodes; node++)
         write_sheet_record(&w, a, node);
 }
 
@@ -655,15 +697,34 @@ static unsigned put_command(struct hardener *h, unsigned node)
     }
 }
 
+/* P7: version 2 where the input is, or where 33 variables are declared. */
+static unsigned hardened_version(const struct program *p)
+{
+    return p->version == 2 || p->variables + 1 == 33 ? 2 : 1;
+}
+
+/* The input's declarations with a variable more.  The header's number of nodes is still to come. */
+static void write_declarations(struct writer *w, const struct program *p)
+{
+    unsigned version = hardened_version(p);
+    size_t arrays = 6 * (size_t)p->arrays;
+    write_head(w, 10, FLOW_HEADER);
+    write16(w, version);
+    write16(w, (p->variables + 1) | p->arrays << 8);
+    write16(w, 0);
+    write_head(w, (uint32_t)labels_length(version), FLOW_LABELS);
+    write_masks(w, version, (struct labelling){p->secret_variables, p->secret_arrays});
+    memcpy(w->at, p->table + 10 + labels_length(p->version), arrays);
+    w->at += arrays;
+}
+
 /* Writes the hardened table to `out`, which has FLOW_TABLE_BYTES, and returns its length. */
 static size_t write_hardened(uint8_t *out, const struct analysis *a)
 {
     const struct program *p = a->program;
-    size_t declarations = 10 + 10 + 6 * (size_t)p->arrays;
-    memcpy(out, p->table, declarations);
-    struct hardener h = {.analysis = a, .program = p, .out = {out + declarations}, .flag = p->variables};
+    struct hardener h = {.analysis = a, .program = p, .out = {out}, .flag = p->variables};
+    write_declarations(&h.out, p);
     put_command(&h, p->nodes - 1);
-    out[6] = (uint8_t)(p->variables + 1);
     put16(out + 8, h.nodes);
     return (size_t)(h.out.at - out);
 }
@@ -1095,7 +1156,7 @@ uint64_t reference_harden(const uint8_t *table, size_t table_len,
         return answer_refusal(refusal, answer, answer_len);
     if (p.nodes > FLOW_MAX_HARDENED_NODES)
         return answer_number(FLOW_TOO_MANY_NODES, answer, answer_len);
-    if (p.variables == FLOW_MAX_VARIABLES)
+    if (p.variables == 64)
         return answer_number(FLOW_NO_FREE_VARIABLE, answer, answer_len);
     struct analysis a;
     analyse_program(&a, &p);

@@ -5,6 +5,7 @@
 #include <string.h>
 
 #include "copies.h"
+#include "declarations.h"
 #include "flow.h"
 #include "generate.h"
 #include "records/kinds.h"
@@ -27,7 +28,7 @@ const char *const room_names[ROOMS] = {"large buffer", "exact buffer", "one byte
 
 static struct plan sample_plan(struct random *r, unsigned nodes)
 {
-    struct plan plan = plan_small(r, nodes);
+    struct plan plan = plan_few(r, nodes);
     plan.nodes = nodes;
     plan.variables = 8;
     plan.arrays = 2;
@@ -45,6 +46,22 @@ void mixed_table(unsigned nodes, unsigned sample, struct buffer *table)
 {
     struct random r = random_from(nodes, sample);
     struct plan plan = sample_plan(&r, nodes);
+    generate_table(&r, &plan, table);
+}
+
+void wide_table(unsigned nodes, unsigned sample, struct buffer *table)
+{
+    struct random r = random_from(nodes, sample);
+    struct plan plan = sample_plan(&r, nodes);
+    uint64_t secret = plan.secret_variables;
+    plan.secret_variables = 0;
+    for (unsigned v = 0; v < plan.variables; v++) {
+        plan.chosen[v] = (uint8_t)(8 * v + v / 2);
+        plan.secret_variables |= (secret >> v & 1) << plan.chosen[v];
+    }
+    plan.chosen_count = plan.variables;
+    plan.version = FLOW_VERSION_2;
+    plan.variables = FLOW_MAX_VARIABLES - 1;
     generate_table(&r, &plan, table);
 }
 
@@ -119,12 +136,12 @@ struct call writing_call(enum entry entry, const struct buffer *table, size_t ro
 static void spread_questions(const struct buffer *table, struct buffer *list)
 {
     unsigned commands[FLOW_MAX_NODES], count = 0, node = 0;
-    for (size_t at = 20 + 6 * (size_t)table->bytes[7]; at < table->length; at += get16(table->bytes + at), node++)
+    for (size_t at = nodes_at(table->bytes); at < table->length; at += get16(table->bytes + at), node++)
         if (sort_of(get16(table->bytes + at + 2)) == 'C')
             commands[count++] = node;
     for (unsigned i = 0; i < FLOW_MAX_QUESTIONS; i++) {
         buffer_append16(list, commands[i * count / FLOW_MAX_QUESTIONS]);
-        buffer_append16(list, i % table->bytes[6]);
+        buffer_append16(list, i % variables_of(table->bytes));
     }
 }
 
@@ -149,13 +166,10 @@ static void zero_slice(struct slice *s, size_t length)
 static struct call zeros_call(enum entry entry, const struct buffer *table, uint32_t budget, size_t room)
 {
     struct call call = {.entry = entry, .budget = budget};
-    size_t cells = 0;
-    for (unsigned array = 0; array < table->bytes[7]; array++)
-        cells += get16(table->bytes + 24 + 6 * array);
     slice_from(&call.slices[SLICE_TABLE], table->bytes, table->length);
-    zero_slice(&call.slices[SLICE_VARIABLES], 4 * (size_t)table->bytes[6]);
-    zero_slice(&call.slices[SLICE_CELLS], 4 * cells);
-    zero_slice(&call.slices[SLICE_PENDING], 4 * (size_t)get16(table->bytes + 8));
+    zero_slice(&call.slices[SLICE_VARIABLES], 4 * (size_t)variables_of(table->bytes));
+    zero_slice(&call.slices[SLICE_CELLS], 4 * cells_of(table->bytes));
+    zero_slice(&call.slices[SLICE_PENDING], 4 * (size_t)nodes_of(table->bytes));
     zero_slice(&call.slices[SLICE_OBSERVATIONS], room);
     zero_slice(&call.slices[SLICE_ANSWER], FLOW_ANSWER_BYTES);
     return call;
@@ -220,7 +234,7 @@ struct call rolling_call(struct call guess)
 {
     const uint8_t *table = guess.slices[SLICE_TABLE].bytes;
     guess.entry = ENTRY_ROLLBACK;
-    zero_slice(&guess.slices[SLICE_SAVES], flow_saves_bytes(table[6], guess.slices[SLICE_CELLS].length / 4, get16(table + 8)));
+    zero_slice(&guess.slices[SLICE_SAVES], flow_saves_bytes(variables_of(table), cells_of(table), nodes_of(table)));
     return guess;
 }
 

@@ -7,12 +7,16 @@
 
 enum { SAMPLES = 8 }; /* tables of each size */
 
-/* What is timed: node counts (for all entries, for questions, for sizing), depths of nested loops, cells saved.  Each ends with 0. */
+/*
+ * What is timed: node counts (for all entries, for questions, for sizing and version 2), depths of nested loops, cells saved.  Each
+ * ends with 0.
+ */
 extern const unsigned sample_sizes[], asked_sizes[], copied_sizes[], nested_depths[], saved_cells[];
 
 /* Puts one of the tables of a size. */
 typedef void sample_table(unsigned nodes, unsigned sample, struct buffer *table);
 sample_table mixed_table;       /* mostly commands */
+sample_table wide_table;        /* the same nodes in version 2, but for the numbers of the variables, which are spread over 63 */
 sample_table many_copies_table; /* mostly conditions, each copied three times by hardening */
 sample_table few_copies_table;  /* mostly values of assignments, each copied once */
 

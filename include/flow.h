@@ -34,7 +34,7 @@
 #define FLOW_H
 
 /* The release of this header and of the library that belongs to it (CHANGELOG.md). */
-#define FLOW_RELEASE "1.8"
+#define FLOW_RELEASE "1.9"
 
 #include <stddef.h>
 #include <stdint.h>
@@ -45,8 +45,10 @@ extern "C" {
 
 /* The limits of a table, of a list of questions and of a run. */
 enum {
-    FLOW_VERSION = 1,
-    FLOW_MAX_VARIABLES = 32,
+    FLOW_VERSION = 1,                /* the version of tables and sheets whose variable masks have 4 bytes */
+    FLOW_VERSION_2 = 2,              /* and of those whose variable masks have 8 bytes */
+    FLOW_MAX_VARIABLES = 64,         /* of any version */
+    FLOW_MAX_VARIABLES_1 = 32,       /* of version 1 */
     FLOW_MAX_ARRAYS = 16,
     FLOW_MAX_NODES = 4096,
     FLOW_MAX_CELLS = 16384,          /* all arrays together */
@@ -59,11 +61,25 @@ enum {
 
 /* Buffers of these lengths always suffice. */
 enum {
-    FLOW_TABLE_BYTES = 10 + 10 + 6 * FLOW_MAX_ARRAYS + 10 * FLOW_MAX_NODES,
-    FLOW_SHEET_BYTES = 14 + 14 * FLOW_MAX_NODES,
+    FLOW_TABLE_BYTES = 10 + 14 + 6 * FLOW_MAX_ARRAYS + 10 * FLOW_MAX_NODES,
+    FLOW_SHEET_BYTES = 18 + 18 * FLOW_MAX_NODES,
     FLOW_SAVES_BYTES = 4 * FLOW_MAX_SAVES * (FLOW_MAX_VARIABLES + FLOW_MAX_CELLS + FLOW_MAX_NODES),
     FLOW_ANSWER_BYTES = 56
 };
+
+/*
+ * The bytes of a variable mask in a table or sheet of a version, and the most variables that such a table declares.  A
+ * version that is not known, which no entry accepts, has those of version 2.
+ */
+static inline size_t flow_mask_bytes(unsigned version)
+{
+    return version == FLOW_VERSION ? 4 : 8;
+}
+
+static inline unsigned flow_max_variables(unsigned version)
+{
+    return version == FLOW_VERSION ? FLOW_MAX_VARIABLES_1 : FLOW_MAX_VARIABLES;
+}
 
 /* What flow_answer_number gives where the answer slice does not hold the number: no answer has one as large. */
 #define FLOW_NO_NUMBER UINT64_MAX
@@ -88,7 +104,8 @@ enum flow_refusal {
     FLOW_ACCEPTED = 0,
     FLOW_CUT = 1,              /* fewer than 4 bytes, or fewer than the record's length, remain */
     FLOW_WRONG_RECORD = 2,     /* kind or length wrong for this point */
-    FLOW_BEYOND_LIMITS = 3,    /* version, count or mask beyond the limits; a cell sum at the array that passes it */
+    FLOW_BEYOND_LIMITS = 3,    /* version, count or mask beyond the limits (of variables: those of the version); a cell
+                                  sum at the array that passes it */
     FLOW_OUT_OF_RANGE = 4,     /* variable not below V, array not below A, child not below its parent, constant
                                   above 1 */
     FLOW_WRONG_SORT = 5,       /* a child of the wrong sort */
@@ -96,7 +113,8 @@ enum flow_refusal {
                                   the place is the record of the lowest-numbered such node */
     FLOW_EXTRA_BYTES = 7,      /* bytes after the last node */
     FLOW_TOO_MANY_NODES = 8,   /* hardening with more than FLOW_MAX_HARDENED_NODES nodes */
-    FLOW_NO_FREE_VARIABLE = 9, /* hardening with FLOW_MAX_VARIABLES variables: none is left for the flag */
+    FLOW_NO_FREE_VARIABLE = 9, /* hardening with FLOW_MAX_VARIABLES variables: none is left for the flag.  No
+                                  version 1 table has so many */
     FLOW_BAD_DIRECTIVES = 10,  /* directive list cut, or a wrong kind or length in it */
     FLOW_BAD_QUESTIONS = 11,   /* more than FLOW_MAX_QUESTIONS pairs, a list that ends inside a pair, a node that
                                   is not a command (one not below N too), or a variable not below V */
@@ -118,13 +136,15 @@ enum flow_end {
 
 /*
  * The kinds of records.  A record is a 2-byte length (of the whole record), a 2-byte kind, then fields of 2 bytes
- * unless noted.
+ * unless noted.  A variable mask has flow_mask_bytes(version) bytes, 4 or 8, by the version of its table or sheet; an
+ * array mask has 2.
  */
 enum flow_kind {
     /* tables: header, labels, A array records, N nodes */
     FLOW_HEADER = 1,           /* version, variables V (1 byte), arrays A (1 byte), nodes N */
     FLOW_ARRAY = 2,            /* cell count */
-    FLOW_LABELS = 3,           /* variable mask (4 bytes), array mask; a bit set means secret */
+    FLOW_LABELS = 3,           /* variable mask (4 or 8 bytes), array mask; a bit set means secret; length 10
+                                  or 14 */
     FLOW_NUMBER = 16,          /* numeric: value (4 bytes) */
     FLOW_VARIABLE = 17,        /* numeric: variable */
     FLOW_ADD = 18,             /* numeric: numeric, numeric; modulo 2^32, like the next two */
@@ -158,19 +178,19 @@ enum flow_kind {
                                   used, which must exist, and only with the flag set; else the run is stuck */
     FLOW_ROLLBACK = 76,        /* a step of its own: undo the newest wrong guess; length 4 (flow_rollback only) */
     /* label sheets: the header, then by node number; label 1 is secret */
-    FLOW_SHEET = 128,          /* version, N, final variable mask (4 bytes), final array mask */
-    FLOW_SHEET_SEQUENCE = 129, /* node, variable mask (4 bytes) and array mask after its first part */
-    FLOW_SHEET_IF = 130,       /* node, condition label */
-    FLOW_SHEET_WHILE = 131,    /* node, condition label, settled variable mask (4 bytes) and array mask */
-    FLOW_SHEET_READ = 132,     /* node, variable label, index label */
-    FLOW_SHEET_WRITE = 133     /* node, index label */
+    FLOW_SHEET = 128,          /* version (the table's), N, final variable mask and array mask; length 14 or 18 */
+    FLOW_SHEET_SEQUENCE = 129, /* node, variable mask and array mask after its first part; length 12 or 16 */
+    FLOW_SHEET_IF = 130,       /* node, condition label; length 8 */
+    FLOW_SHEET_WHILE = 131,    /* node, condition label, settled variable mask and array mask; length 14 or 18 */
+    FLOW_SHEET_READ = 132,     /* node, variable label, index label; length 10 */
+    FLOW_SHEET_WRITE = 133     /* node, index label; length 8 */
 };
 
 /*
- * Labels a table and writes its label sheet to the front of `sheet`.  An expression is secret if a variable in it is,
- * but a product with a number node of value 0 as an operand is public, and a variable inside one makes no larger
- * expression secret.  Bytes of `sheet` beyond the reported length are unchanged; exact length suffices.  Refusals: 1 to
- * 7, 23.
+ * Labels a table and writes its label sheet to the front of `sheet`.  A sheet has its table's version.  An expression
+ * is secret if a variable in it is, but a product with a number node of value 0 as an operand is public, and a variable
+ * inside one makes no larger expression secret.  Bytes of `sheet` beyond the reported length are unchanged; exact
+ * length suffices.  Refusals: 1 to 7, 23.
  */
 uint64_t flow_sheet(const uint8_t *table, size_t table_len,
                     uint8_t *sheet, size_t sheet_len,
@@ -195,8 +215,9 @@ uint64_t flow_questions(const uint8_t *table, size_t table_len,
 
 /*
  * Hardens a table and writes the hardened table to the front of `out`.  It declares one variable more, the flag, whose
- * number is the input's V; the flag must be 0 where a run of the hardened table starts.  Bytes of `out` beyond the
- * reported length are unchanged; exact length suffices.  Refusals: 1 to 9, 23.
+ * number is the input's V; the flag must be 0 where a run of the hardened table starts.  Its version is 2 where the
+ * input's is, or where it declares 33 variables; otherwise it stays 1.  Bytes of `out` beyond the reported length are
+ * unchanged; exact length suffices.  Refusals: 1 to 9, 23.
  */
 uint64_t flow_harden(const uint8_t *table, size_t table_len,
                      uint8_t *out, size_t out_len,

@@ -64,7 +64,8 @@ def guess(table, directives, variables, cells, budget=100, room=40, pending=None
 def saves_bytes(table):
     """of a table that is accepted: eight places, a word for each variable, cell and node"""
     V, A, N = table[6], table[7], model.un(table[8:10])
-    return 8 * 4 * (V + sum(model.un(table[24 + 6 * a:26 + 6 * a]) for a in range(A)) + N)
+    first = 28 if table[4] == 2 else 24     # the first array's count, behind the header, the labels of its version and the record's head
+    return 8 * 4 * (V + sum(model.un(table[first + 6 * a:first + 2 + 6 * a]) for a in range(A)) + N)
 def rollback(table, directives, variables, cells, budget=100, room=40, pending=None, saves=None, answer=56, want=None, **leaves):
     """saves: as slot has it; if none are given, exactly as many bytes as the table needs"""
     nodes = model.un(table[8:10])
@@ -86,7 +87,9 @@ def shown_write(array, index): return le(2, 10) + le(2, 66) + le(2, array) + le(
 SHOWN_BACK = le(2, 4) + le(2, 67)
 # records of a table put together by hand
 def head(V=0, A=0, N=1, version=1): return le(2, 10) + le(2, 1) + le(2, version) + [V, A] + le(2, N)
-def labels(variables=0, arrays=0): return le(2, 10) + le(2, 3) + le(4, variables) + le(2, arrays)
+def labels(variables=0, arrays=0, version=1):
+    if version == 2: return le(2, 14) + le(2, 3) + le(8, variables) + le(2, arrays)
+    return le(2, 10) + le(2, 3) + le(4, variables) + le(2, arrays)
 def array(count): return le(2, 6) + le(2, 2) + le(2, count)
 def node(kind, *fields):
     body = [b for letter, field in zip(model.LAY[kind], fields) for b in le(4 if letter == 'n' else 2, field)]

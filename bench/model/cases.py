@@ -12,13 +12,14 @@ from questions_cases import add_questions_cases
 from rollback_cases import add_rollback_cases
 from nought_cases import add_nought_cases
 from context_cases import add_context_cases
+from version_cases import add_version_cases
 from long_table import write_long_table
 CRATES = os.path.dirname(os.path.abspath(__file__)) + '/../../crates/'
 FOLDER = CRATES + 'cases/'
 written = []
 def main():
     for add in (add_sheet_cases, add_machine_cases, add_harden_cases, add_hardened_runs, add_tree_cases, add_questions_cases, add_rollback_cases,
-                add_nought_cases, add_context_cases): add()
+                add_nought_cases, add_context_cases, add_version_cases): add()
     write_files(FOLDER)
     write_long_table(CRATES + 'harden_long/')
     written.append({name: sum(call[0] == entry for call in calls) for entry, name in NAMES.items()})

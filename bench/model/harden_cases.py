@@ -19,10 +19,11 @@ def fits(tab, size, nodes):
     assert un(out[8:10]) == nodes and out[size:] == filled(3)
     harden(tab, size - 1, want=[23, 0])
     return out[:size]
-def hand(tab, V, variables, counts, arrays, nodes):
-    """the hardened table by hand: its nodes, one after another"""
+def hand(tab, V, variables, counts, arrays, nodes, version=1):
+    """the hardened table by hand: its version, and its nodes, one after another"""
     nodes = [node(*one) for one in nodes]
-    out = head(V, len(counts), len(nodes)) + labels(variables, arrays) + [b for c in counts for b in array(c)] + [b for one in nodes for b in one]
+    out = (head(V, len(counts), len(nodes), version) + labels(variables, arrays, version)
+           + [b for c in counts for b in array(c)] + [b for one in nodes for b in one])
     assert exactly(tab) == ([0, len(out)], out)
     return out
 # ---- document 01's cases
@@ -85,7 +86,8 @@ def limits():
     harden(skips(513), 0, want=[8, 0])
     many = head(32, 0, 513) + skips(513)[10:]
     harden(many, 50, want=[8, 0]); harden(many + [0], 50, want=[7, len(many)]); harden(head(1, 0, 513) + labels() + node('skip') * 513, 50, want=[6, 20])
-    for room in (0, 100): harden(flat(T['skip32']), room, want=[9, 0])
+    # all variables of version 1: it comes out in version 2, which has 28 bytes (P7; 9 is in version_cases)
+    harden(flat(T['skip32']), 0, want=[23, 0]); harden(flat(T['skip32']), 100, want=[0, 28])
     harden(flat(T['skip32']) + [1, 2], 100, want=[7, 24]); harden(head(33) + labels() + node('skip'), 100, want=[3, 0])
     # 8 for 1: 127 loops on a secret, 4 nodes each that become 32, around a 4-node if that becomes 16
     inner = ('if', ('const', 0), skip, skip)
@@ -99,7 +101,7 @@ def limits():
 def refused():
     two = head(2, 2, 2) + labels() + array(2) + array(3)    # nodes from 32
     good = two + node('var', 0) + node('read', 1, 1, 0)
-    for tab, number, place in (([], 1, 0), (good[:-1], 1, 38), (good[:40], 1, 38), (head(2, 2, 2) + labels() + node('skip'), 2, 20), (head(2, 2, 2, version=2) + good[10:], 3, 0),
+    for tab, number, place in (([], 1, 0), (good[:-1], 1, 38), (good[:40], 1, 38), (head(2, 2, 2) + labels() + node('skip'), 2, 20), (head(2, 2, 2, version=2) + good[10:], 2, 10),
             (two + node('var', 0) + node('read', 2, 1, 0), 4, 38), (two + node('skip') + node('read', 1, 1, 0), 5, 36),
             (two + node('skip') + node('skip'), 6, 32), (good + [9], 7, 48)):
         harden(tab, 200, want=[number, place]); harden(tab, 0, want=[number, place])

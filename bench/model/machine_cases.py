@@ -138,7 +138,7 @@ def values():
         ('assign', 5, ('choice', ('eq', v(6), n(0)), ('choice', ('const', 0), n(7), n(8)), v(7)))])))
     for a, b, after in ((1, 2147483648, [1, 0, 0, 1, 1, 2147483648]), (2147483648, 1, [0, 0, 1, 0, 1, 1]), (0, MOST, [1, 0, 0, 0, 1, 8]), (MOST, MOST, [0, 1, 1, 0, 1, MOST])):
         run(truths, [9] * 6 + [a, b], [], want=[0, FINISHED, 11, 0, 0, 0, 0], variables_left=words(after + [a, b]))
-    # the last variable and the last array that there can be; a write's index and value see the state before it
+    # the last variable of version 1 and the last array that there can be; a write's index and value see the state before it
     last = flat(table(32, 0, [1] * 15 + [3], 0, ('seq', ('write', 15, v(31), ('mul', v(31), n(2147483649))), ('read', 31, 15, n(2)))))
     both(last, [k for k in range(31)] + [2], list(range(100, 118)), [0, FINISHED, 3, 2, 20, 0, 0], variables_left=words(list(range(31)) + [2]),
          cells_left=words(list(range(100, 117)) + [2]), shown=shown_write(15, 2) + shown_read(15, 2) + [170])
@@ -205,7 +205,7 @@ def refused_states():
     guess(READ, [], [0, 7], FIVE, pending=0, want=[22, 0]); run(READ, [0, 7], FIVE, pending=0, want=[22, 0])
     # tables, with the state of a call that would run
     two = head(2, 2, 2) + labels() + array(2) + array(3)    # nodes from 32
-    for tab, number, place in (([], 1, 0), (READ[:-1], 1, 38), (READ[:40], 1, 38), (head(2, 2, 2) + labels() + node('skip'), 2, 20), (head(2, 2, 2, version=2) + READ[10:], 3, 0),
+    for tab, number, place in (([], 1, 0), (READ[:-1], 1, 38), (READ[:40], 1, 38), (head(2, 2, 2) + labels() + node('skip'), 2, 20), (head(2, 2, 2, version=2) + READ[10:], 2, 10),
             (two + node('var', 0) + node('read', 1, 2, 0), 4, 38), (two + node('skip') + node('read', 1, 1, 0), 5, 36),
             (two + node('skip') + node('skip'), 6, 32), (READ + [9], 7, 48)):
         run(tab, [0, 7], FIVE, pending=13, want=[number, place]); guess(tab, STEP, [0, 7], FIVE, pending=13, want=[number, place])

@@ -10,6 +10,10 @@ LAY = {'num':'n','var':'x','add':'NN','sub':'NN','mul':'NN','choice':'TNN','cons
        'skip':'','assign':'xN','seq':'CC','if':'TCC','while':'TC','read':'xaN','write':'aNN'}
 def sort(k): return 'N' if KIND[k] < 32 else 'T' if KIND[k] < 48 else 'C'
 def size(k): return 4 + sum(4 if f == 'n' else 2 for f in LAY[k])
+# P7: bytes of a variable mask, and the most variables, by the version of a table and its sheet
+MASK = {1: 4, 2: 8}
+MOST_VARIABLES = {1: 32, 2: 64}
+def masks(version, L): return le(MASK[version], L[0]) + le(2, L[1])
 # ---- assembler: trees (nested tuples) to records
 def emit(t, out):
     k = t[0]; f = []
@@ -17,9 +21,11 @@ def emit(t, out):
         f += le(4, v) if l == 'n' else le(2, emit(v, out)) if l in 'NTC' else le(2, v)
     out.append(le(2, 4 + len(f)) + le(2, KIND[k]) + f)
     return len(out) - 1
-def table(V, vm, counts, am, prog):
+def table(V, vm, counts, am, prog, version=None):
+    """of the version given, else of the lowest that holds the variables"""
+    if version is None: version = min(k for k in MASK if V <= MOST_VARIABLES[k])
     out = []; emit(prog, out)
-    return ([le(2,10)+le(2,1)+le(2,1)+le(1,V)+le(1,len(counts))+le(2,len(out)), le(2,10)+le(2,3)+le(4,vm)+le(2,am)]
+    return ([le(2,10)+le(2,1)+le(2,version)+le(1,V)+le(1,len(counts))+le(2,len(out)), le(2,6+MASK[version])+le(2,3)+masks(version, (vm, am))]
             + [le(2,6)+le(2,2)+le(2,c) for c in counts] + out)
 def flat(recs): return [b for r in recs for b in r]
 class Refused(Exception): pass
@@ -38,9 +44,9 @@ def readTable(bs):
         return kd, r, p
     _, r, p = frame(lambda k: 10 if k == 1 else None)
     ver, V, A, N = un(r[0:2]), r[2], r[3], un(r[4:6])
-    if ver != 1 or V > 32 or A > 16 or N < 1 or N > 4096: refuse(3, p)
-    _, r, p = frame(lambda k: 10 if k == 3 else None)
-    vm, am = un(r[0:4]), un(r[4:6])
+    if ver not in MASK or V > MOST_VARIABLES[ver] or A > 16 or N < 1 or N > 4096: refuse(3, p)
+    _, r, p = frame(lambda k: 6 + MASK[ver] if k == 3 else None)
+    vm, am = un(r[:MASK[ver]]), un(r[MASK[ver]:])
     if vm >> V or am >> A: refuse(3, p)
     counts = []
     for _i in range(A):
@@ -68,7 +74,7 @@ def readTable(bs):
     def tree(i):                # (number, kind, parts..)
         k, *fs = nodes[i]
         return (i, k) + tuple(tree(v) if l in 'NTC' else v for l, v in zip(LAY[k], fs))
-    return dict(V=V, A=A, N=N, vm=vm, am=am, counts=counts, kinds=[k for k, *_ in nodes], root=tree(N - 1))
+    return dict(version=ver, V=V, A=A, N=N, vm=vm, am=am, counts=counts, kinds=[k for k, *_ in nodes], root=tree(N - 1))
 def strip(t):
     return (t[1],) + tuple(strip(s) if isinstance(s, tuple) else s for s in t[2:])
 # ---- labels (trees with numbers)
@@ -108,15 +114,15 @@ def analyse(t, ctx, L, notes, before):
     if k == 'write':
         i = elabel(t[3], L); notes[n] = ('write', i)
         return (L[0], L[1] | ((i | elabel(t[4], L) | ctx) << t[2]))
-def masks(L): return le(4, L[0]) + le(2, L[1])
 def sheet(p):
     notes = {}; F = analyse(p['root'], 0, (p['vm'], p['am']), notes, {})
-    rs = [le(2,14)+le(2,128)+le(2,1)+le(2,p['N'])+masks(F)]
+    version = p['version']; wide = MASK[version]   # P7: "A sheet has its table's version."
+    rs = [le(2,10+wide)+le(2,128)+le(2,version)+le(2,p['N'])+masks(version, F)]
     for n in sorted(notes):
         t = notes[n]; k = t[0]
-        if k == 'seq': rs.append(le(2,12)+le(2,129)+le(2,n)+masks(t[1]))
+        if k == 'seq': rs.append(le(2,8+wide)+le(2,129)+le(2,n)+masks(version, t[1]))
         if k == 'if': rs.append(le(2,8)+le(2,130)+le(2,n)+le(2,t[1]))
-        if k == 'while': rs.append(le(2,14)+le(2,131)+le(2,n)+le(2,t[1])+masks(t[2]))
+        if k == 'while': rs.append(le(2,10+wide)+le(2,131)+le(2,n)+le(2,t[1])+masks(version, t[2]))
         if k == 'read': rs.append(le(2,10)+le(2,132)+le(2,n)+le(2,t[1])+le(2,t[2]))
         if k == 'write': rs.append(le(2,8)+le(2,133)+le(2,n)+le(2,t[1]))
     return rs
@@ -153,7 +159,8 @@ def hardened(p):
             r = ('read', t[2], t[3], index(strip(t[4]), i))
             return r if v or i else ('seq', r, ('assign', t[2], ('choice', ('eq', F, one), zero, ('var', t[2]))))
         if k == 'write': return ('write', t[2], index(strip(t[3]), notes[n][1]), strip(t[4]))
-    return table(f + 1, p['vm'], p['counts'], p['am'], h(p['root']))
+    version = 2 if p['version'] == 2 or f + 1 == 33 else 1   # P7: "version 2 where its input is, or where it declares 33 variables; otherwise it stays version 1"
+    return table(f + 1, p['vm'], p['counts'], p['am'], h(p['root']), version)
 # ---- evaluation and machines
 def ev(e, vs):
     k = e[1]
@@ -233,7 +240,7 @@ def writeEntry(make, tab, buf, hard=False):
     try:
         p = readTable(tab)
         if hard and p['N'] > 512: refuse(8, 0)
-        if hard and p['V'] == 32: refuse(9, 0)
+        if hard and p['V'] == 64: refuse(9, 0)
         out = flat(make(p))
         if len(out) > len(buf): refuse(23, 0)
         return [0, len(out)], over(buf, out)

@@ -76,7 +76,7 @@ def programs():
     # nodes in another order, commands first and last: skip, s, x:=s (2), skip (3), true, if 4 2 0 (5), sequence 5 3 (6)
     other = head(2, 0, 7) + labels(2) + node('skip') + node('var', 1) + node('assign', 0, 1) + node('skip') + node('const', 1) + node('if', 4, 2, 0) + node('seq', 5, 3)
     whole(other, {6: '01', 5: '01', 2: '01', 0: '01', 3: '11'})
-    # one node and no variable: nothing can be asked; one variable, public and secret; and the last that there can be
+    # one node and no variable: nothing can be asked; one variable, public and secret; and the last of version 1
     alone_skip = flat(table(0, 0, [], 0, skip))
     for pair in ((0, 0), (1, 0), (0, 65535)): bad(alone_skip, asks([pair]))
     questions(alone_skip, [], 0, want=[0, 0])
@@ -129,7 +129,7 @@ def refused():
     two = head(2, 2, 2) + labels() + array(2) + array(3)    # nodes from 32
     good = two + node('var', 0) + node('read', 1, 1, 0)
     said(good, [(1, 0), (1, 1)], [0, 0])
-    for tab, number, place in (([], 1, 0), (good[:-1], 1, 38), (good[:40], 1, 38), (head(2, 2, 2) + labels() + node('skip'), 2, 20), (head(2, 2, 2, version=2) + good[10:], 3, 0),
+    for tab, number, place in (([], 1, 0), (good[:-1], 1, 38), (good[:40], 1, 38), (head(2, 2, 2) + labels() + node('skip'), 2, 20), (head(2, 2, 2, version=2) + good[10:], 2, 10),
             (two + node('var', 0) + node('read', 2, 1, 0), 4, 38), (two + node('skip') + node('read', 1, 1, 0), 5, 36),
             (two + node('skip') + node('skip'), 6, 32), (two + node('var', 0) + node('var', 1), 6, 32), (good + [9], 7, 48)):
         for asked, room in (([1], 0), (asks([(0, 2)]), 0), (asks([(1, 0)]), 0), (asks([(1, 0)]), 3), ([], 0)): questions(tab, asked, room, want=[number, place])

@@ -259,7 +259,7 @@ def refused():
     for size in (8, 9, 11): rollback(READ, STEP, [0, 7], FIVE, pending=size, want=[0, FINISHED, 1, 1, 10, 0, 0], saves=300, saves_left=[0] * 288 + [170] * 12)
     # tables, with the state of a call that would run
     two = head(2, 2, 2) + labels() + array(2) + array(3)    # nodes from 32
-    for tab, number, place in (([], 1, 0), (READ[:-1], 1, 38), (head(2, 2, 2) + labels() + node('skip'), 2, 20), (head(2, 2, 2, version=2) + READ[10:], 3, 0),
+    for tab, number, place in (([], 1, 0), (READ[:-1], 1, 38), (head(2, 2, 2) + labels() + node('skip'), 2, 20), (head(2, 2, 2, version=2) + READ[10:], 2, 10),
             (two + node('var', 0) + node('read', 1, 2, 0), 4, 38), (two + node('skip') + node('read', 1, 1, 0), 5, 36),
             (two + node('skip') + node('skip'), 6, 32), (two + node('var', 0) + node('var', 1), 6, 32), (READ + [9], 7, 48)):
         rollback(tab, STEP, [0, 7], FIVE, pending=13, want=[number, place], **enough)

@@ -14,8 +14,8 @@ def refused():
     case([10,0,2,0],4,16,(2,0)); case([9,0,1,0],4,16,(2,0)); case(head()+SK,4,16,(2,10)); case(head(0,1,1)+labels()+SK,4,16,(2,20))
     case(head()+labels()+[4,0,99,0],4,16,(2,20)); case(head()+labels()+[5,0,48,0,0],4,16,(2,20)); case(head()+labels()+[4,0,16,0],4,16,(2,20))
     case(head()+labels()+[4,0,55,0],4,16,(2,20)); case(head()+labels()+[4,0,15,0],4,16,(2,20))
-    # 3
-    case(head(version=2)+labels()+SK,4,16,(3,0)); case(head(version=0)+labels()+SK,4,16,(3,0)); case(head(33)+labels()+SK,4,16,(3,0)); case(head(0,17)+labels()+SK,4,16,(3,0))
+    # 3, but for the first: version 2 has longer labels (P7)
+    case(head(version=2)+labels()+SK,4,16,(2,10)); case(head(version=0)+labels()+SK,4,16,(3,0)); case(head(33)+labels()+SK,4,16,(3,0)); case(head(0,17)+labels()+SK,4,16,(3,0))
     case(head(N=0)+labels(),4,16,(3,0)); case(head(N=4097)+labels()+SK,4,16,(3,0))
     case(head(3)+labels(8)+SK,4,16,(3,10)); case(head(0,2)+labels(0,4)+arr(1)+arr(1)+SK,4,16,(3,10)); case(head(31)+labels(1<<31)+SK,4,16,(3,10))
     case(head(0,1)+labels()+arr(0)+SK,4,16,(3,20)); case(head(0,2)+labels()+arr(16384)+arr(1)+SK,4,16,(3,26)); case(head(0,1)+labels()+arr(16385)+SK,4,16,(3,20))

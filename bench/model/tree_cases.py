@@ -26,6 +26,6 @@ def add_tree_cases():
     sixth(nodes(SKIP, *[NUMBER] * 11, SKIP, node('seq', 0, 12)), 24)
     # the nodes stand behind two arrays: 32, of 32, 36, 40
     sixth(head(1, 2, 3) + labels() + array(3) + array(2) + SKIP + SKIP + SKIP, 32)
-    # 6 comes before 9 and 23, before 10 and before 20 to 22
+    # 6 comes before 23, before 10 and before 20 to 22; version_cases has it before 9
     full = head(32, 1, 3) + labels() + array(1) + SKIP + TRUE + SKIP   # 26, 30, 36
     harden(full, 0, 16, (6, 26)); sheet(full, 0, 8, (6, 26)); run(full, [], [], pending=0, want=(6, 26)); guess(full, [1], [], [], pending=0, want=(6, 26))

@@ -11,6 +11,7 @@
 static const char usage[] =
     "flow assemble [-o TABLE] [SOURCE]\n"
     "  Puts a table together from text: declarations (var, array, secret) and a command in document 01's notation.\n"
+    "  The table is of version 1 with up to 32 variables, else of version 2, or of the one that stands first: `version 2`.\n"
     "  -o TABLE        where the table goes, standard output if not given\n";
 
 /* Everything that comes out has been accepted by the library. */

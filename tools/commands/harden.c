@@ -36,6 +36,14 @@ struct work {
 
 /* ---- Lines ---- */
 
+static void print_hardened(FILE *to, const struct hardening *hardening)
+{
+    fprintf(to, ": %u -> %u nodes, %zu bytes", hardening->nodes_in, hardening->nodes_out, hardening->hardened.length);
+    if (hardening->version_in != hardening->version_out)
+        fprintf(to, ", version %u -> %u", hardening->version_in, hardening->version_out);
+    fputc('\n', to);
+}
+
 /* Of many, each has its line.  It goes out at once, also into a pipe. */
 static bool print_line(const struct hardening *hardening)
 {
@@ -47,8 +55,7 @@ static bool print_line(const struct hardening *hardening)
     else
         print_name(line.to, hardening->name);
     if (hardening->ending == ENDED_HARDENED)
-        fprintf(line.to, ": %u -> %u nodes, %zu bytes\n", hardening->nodes_in, hardening->nodes_out,
-                hardening->hardened.length);
+        print_hardened(line.to, hardening);
     else if (hardening->ending == ENDED_FAILED)
         fprintf(line.to, ": failed\n");
     return draft_write(&line, "-");

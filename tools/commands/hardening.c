@@ -4,11 +4,13 @@
 #include "files/interrupts.h"
 #include "records/table.h"
 
-static unsigned nodes_of(const struct buffer *accepted)
+/* What an accepted table's header says. */
+static void take_header(const struct buffer *accepted, unsigned *nodes, unsigned *version)
 {
     struct table table;
     table_open(&table, accepted);
-    return table.nodes;
+    *nodes = table.nodes;
+    *version = table.version;
 }
 
 /* Does the library read this table, though it may not harden it? */
@@ -44,9 +46,9 @@ void harden_file(struct hardening *hardening, const char *name, const char *out)
     hardening->answer = harden_table(&hardening->table, &hardening->hardened);
     bool refused = hardening->answer.refusal != FLOW_ACCEPTED;
     if (!refused)
-        hardening->nodes_out = nodes_of(&hardening->hardened);
+        take_header(&hardening->hardened, &hardening->nodes_out, &hardening->version_out);
     if (!refused || is_readable(&hardening->table))
-        hardening->nodes_in = nodes_of(&hardening->table);
+        take_header(&hardening->table, &hardening->nodes_in, &hardening->version_in);
     hardening->ending = refused ? ENDED_REFUSED : write_hardened(hardening, out);
 }
 

@@ -22,6 +22,7 @@ struct hardening {
     struct answer answer;
     struct buffer table, hardened;
     unsigned nodes_in, nodes_out; /* 0: not known, as every table that reads has a node */
+    unsigned version_in, version_out; /* likewise */
 };
 
 /* From one file to another.  One that cannot be read or written gives a message.  The caller frees, whatever came of it. */

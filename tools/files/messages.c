@@ -43,7 +43,7 @@ const char *output_name(const char *path)
 
 void print_message(FILE *to, const char *format, va_list arguments)
 {
-    char message[2000];
+    char message[6000]; /* all names of a table fit in */
     vsnprintf(message, sizeof message, format, arguments);
     print_escaped(to, message);
 }

@@ -1,5 +1,6 @@
 #include "records/assemble.h"
 
+#include "flow.h"
 #include "records/kinds.h"
 #include "records/little_endian.h"
 
@@ -9,20 +10,38 @@ static void append_head(struct buffer *b, uint32_t length, uint32_t kind)
     buffer_append16(b, kind);
 }
 
-void assemble_table(struct buffer *table, unsigned variables, unsigned arrays, const uint16_t *counts,
-                    uint32_t secret_variables, uint32_t secret_arrays)
+unsigned lowest_version(unsigned variables)
+{
+    return variables <= flow_max_variables(FLOW_VERSION) ? FLOW_VERSION : FLOW_VERSION_2;
+}
+
+static void append_mask(struct buffer *b, unsigned version, uint64_t mask)
+{
+    buffer_append32(b, (uint32_t)mask);
+    if (flow_mask_bytes(version) == 8)
+        buffer_append32(b, (uint32_t)(mask >> 32));
+}
+
+void assemble_version(struct buffer *table, unsigned version, unsigned variables, unsigned arrays, const uint16_t *counts,
+                      uint64_t secret_variables, uint32_t secret_arrays)
 {
     append_head(table, 10, FLOW_HEADER);
-    buffer_append16(table, FLOW_VERSION);
+    buffer_append16(table, version);
     buffer_append16(table, variables | arrays << 8);
     buffer_append16(table, 0);
-    append_head(table, 10, FLOW_LABELS);
-    buffer_append32(table, secret_variables);
+    append_head(table, 6 + (uint32_t)flow_mask_bytes(version), FLOW_LABELS);
+    append_mask(table, version, secret_variables);
     buffer_append16(table, secret_arrays);
     for (unsigned array = 0; array < arrays; array++) {
         append_head(table, 6, FLOW_ARRAY);
         buffer_append16(table, counts[array]);
     }
+}
+
+void assemble_table(struct buffer *table, unsigned variables, unsigned arrays, const uint16_t *counts,
+                    uint64_t secret_variables, uint32_t secret_arrays)
+{
+    assemble_version(table, lowest_version(variables), variables, arrays, counts, secret_variables, secret_arrays);
 }
 
 unsigned assemble_node(struct buffer *table, unsigned kind, const uint32_t *fields)

@@ -4,9 +4,19 @@
 
 #include "records/buffer.h"
 
-/* Starts a table: header, labels and an array record for each count.  Each node put after it is counted in the header. */
+/* The lowest version whose tables declare so many variables. */
+unsigned lowest_version(unsigned variables);
+
+/*
+ * Starts a table of a version: header, labels and an array record for each count.  Each node put after it is counted in the
+ * header.
+ */
+void assemble_version(struct buffer *table, unsigned version, unsigned variables, unsigned arrays, const uint16_t *counts,
+                      uint64_t secret_variables, uint32_t secret_arrays);
+
+/* The same, of the lowest version. */
 void assemble_table(struct buffer *table, unsigned variables, unsigned arrays, const uint16_t *counts,
-                    uint32_t secret_variables, uint32_t secret_arrays);
+                    uint64_t secret_variables, uint32_t secret_arrays);
 
 /* Puts a node of this kind and returns its number.  `fields` holds as many as the kind has. */
 unsigned assemble_node(struct buffer *table, unsigned kind, const uint32_t *fields);

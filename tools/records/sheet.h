@@ -12,7 +12,10 @@ struct sheet_row {
     struct labelling labelling;          /* at the end, after the first part of a sequence, or settled */
 };
 
-/* `record` must be of a sheet that the library has written. */
-struct sheet_row get_sheet_row(const uint8_t *record);
+/* The version of a sheet that the library has written, which is its table's. */
+unsigned sheet_version(const uint8_t *sheet);
+
+/* `record` must be of such a sheet, and the version the sheet's. */
+struct sheet_row get_sheet_row(const uint8_t *record, unsigned version);
 
 #endif

@@ -4,6 +4,7 @@
 
 #include "records/kinds.h"
 #include "records/little_endian.h"
+#include "records/versions.h"
 
 void walk_open(struct walk *walk, const struct buffer *bytes)
 {
@@ -27,36 +28,38 @@ unsigned walk_kind(const struct walk *walk)
 
 /* ---- What belongs where ---- */
 
+/* Without the mask of variables, which is 4 or 8 bytes of a labels record. */
 static const struct {
     unsigned kind;
     size_t length;
-} layouts[] = {[SECTION_HEADER] = {FLOW_HEADER, 10}, [SECTION_LABELS] = {FLOW_LABELS, 10}, [SECTION_ARRAYS] = {FLOW_ARRAY, 6}};
+} layouts[] = {[SECTION_HEADER] = {FLOW_HEADER, 10}, [SECTION_LABELS] = {FLOW_LABELS, 6}, [SECTION_ARRAYS] = {FLOW_ARRAY, 6}};
 
 unsigned kind_of_section(enum section section)
 {
     return layouts[section].kind;
 }
 
-size_t length_of_section(enum section section)
+size_t length_of_section(enum section section, unsigned version)
 {
-    return layouts[section].length;
+    return layouts[section].length + (section == SECTION_LABELS ? flow_mask_bytes(version) : 0);
 }
 
-/* How long a record of this kind is in this section; 0: there is none of this kind. */
-static size_t length_wanted(enum section section, unsigned kind)
+/* How long the next record is if it has this kind; 0: none that may stand here has it. */
+static size_t length_wanted(const struct walk *walk, unsigned kind)
 {
+    enum section section = walk->section;
     if (section == SECTION_END)
         return 0;
     if (section == SECTION_NODES)
         return fields_of(kind) == NULL ? 0 : record_length(fields_of(kind));
-    return kind == kind_of_section(section) ? length_of_section(section) : 0;
+    return kind == kind_of_section(section) ? length_of_section(section, walk->table.version) : 0;
 }
 
 bool walk_fits(const struct walk *walk)
 {
     if (walk_left(walk) < RECORD_HEAD)
         return false;
-    size_t wanted = length_wanted(walk->section, walk_kind(walk));
+    size_t wanted = length_wanted(walk, walk_kind(walk));
     return wanted != 0 && walk_length(walk) == wanted && walk_left(walk) >= wanted;
 }
 
@@ -65,10 +68,11 @@ bool walk_fits(const struct walk *walk)
 /* What a header says.  False: beyond the limits, so that nothing can be told of what stands behind it. */
 static bool take_header(struct table *table, const uint8_t *fields)
 {
-    unsigned variables = fields[2], arrays = fields[3], nodes = get16(fields + 4);
-    if (variables > FLOW_MAX_VARIABLES || arrays > FLOW_MAX_ARRAYS || nodes > FLOW_MAX_NODES)
+    unsigned version = get16(fields), variables = fields[2], arrays = fields[3], nodes = get16(fields + 4);
+    if (!is_known_version(version) || variables > flow_max_variables(version) || arrays > FLOW_MAX_ARRAYS ||
+        nodes > FLOW_MAX_NODES)
         return false;
-    table->version = get16(fields);
+    table->version = version;
     table->variables = variables;
     table->arrays = arrays;
     table->nodes = nodes;
@@ -84,7 +88,7 @@ static bool take_record(struct walk *walk)
     case SECTION_HEADER:
         return take_header(table, fields);
     case SECTION_LABELS:
-        table->secret = get_labelling(fields);
+        table->secret = get_labelling(fields, table->version);
         return true;
     case SECTION_ARRAYS:
         table->counts[walk->number] = get16(fields);

@@ -1,6 +1,7 @@
 /*
  * A walk over any bytes, record by record, as far as they are a table: each record must be whole, and of a kind and length that
- * belong where it stands.  What the fields hold is not asked, except that the header's counts must be within the limits.
+ * belong where it stands.  What the fields hold is not asked, except that the header's version must be known, and its counts be
+ * within the limits of this version.
  */
 #ifndef WALK_H
 #define WALK_H
@@ -33,14 +34,14 @@ size_t walk_left(const struct walk *walk);
 size_t walk_length(const struct walk *walk);
 unsigned walk_kind(const struct walk *walk);
 
-/* The one kind and length that a header, labels or array record has. */
+/* The one kind that a header, labels or array record has, and the one length in tables of a version. */
 unsigned kind_of_section(enum section section);
-size_t length_of_section(enum section section);
+size_t length_of_section(enum section section, unsigned version);
 
 /* Is the next record whole, and of a kind and length that belong here? */
 bool walk_fits(const struct walk *walk);
 
-/* Goes on behind the next record.  False, and the walk stays: it does not fit, or is a header with counts beyond the limits. */
+/* Goes on behind the next record.  False, and the walk stays: it does not fit, or is a header that is beyond the limits. */
 bool walk_on(struct walk *walk);
 
 /* Goes on until the next record begins at this byte.  False: none does, as far as the walk goes. */

@@ -1,8 +1,8 @@
 """Decides by brute force whether what `explain_words` printed is true and complete.
 
-Written from document 01.  Every line that stands for a fault is parsed and its claim looked up in the bytes; the refusal is found
-by a reader of our own; the faults of the refusal are counted out and must be the ones claimed, in their order.  Where a wrong
-number or place was handed in, nothing untrue may be claimed.  A wording that is never met is a failure too.
+Written from documents 01 and 02.  Every line that stands for a fault is parsed and its claim looked up in the bytes; the refusal
+is found by a reader of our own; the faults of the refusal are counted out and must be the ones claimed, in their order.  Where a
+wrong number or place was handed in, nothing untrue may be claimed.  A wording that is never met is a failure too.
 """
 import re
 import sys
@@ -16,8 +16,14 @@ KINDS = {16: ("number", "n"), 17: ("variable", "x"), 18: ("add", "NN"), 19: ("su
 LENGTHS = {kind: 4 + sum(4 if field == "n" else 2 for field in fields) for kind, (_, fields) in KINDS.items()}
 SORTS = {kind: "N" if kind < 32 else "T" if kind < 48 else "C" for kind in KINDS}
 WANTED = {"N": "number", "T": "truth", "C": "command"}
-DECLARATIONS = {"header": (1, 10), "labels": (3, 10), "array": (2, 6)}
+MASK_BYTES = {1: 4, 2: 8}  # of variables, by the version that the header says
+MOST_VARIABLES = {1: 32, 2: 64}
 MOST_NAMED = 8
+
+
+def declaration(role, version):
+    """Kind and length of a record that declares; of a version that is not known, nothing follows the header."""
+    return {"header": (1, 10), "labels": (3, 6 + MASK_BYTES.get(version, 8)), "array": (2, 6)}[role]
 
 
 class Table:
@@ -26,6 +32,7 @@ class Table:
     def __init__(self, data):
         self.data = data
         self.variables, self.arrays, self.nodes = (data[6], data[7], self.u16(8)) if len(data) >= 10 else (0, 0, 0)
+        self.version = self.u16(4) if len(data) >= 10 else 0
         self.places = [0]
         at = 0
         while len(data) - at >= 4 and 4 <= self.u16(at) <= len(data) - at:
@@ -82,7 +89,8 @@ class Table:
 
     def mask(self, what):
         """The marked numbers that are not declared."""
-        at, width, count = (14, 4, self.variables) if what == "variable" else (18, 2, self.arrays)
+        variables = MASK_BYTES.get(self.version, 8)
+        at, width, count = (14, variables, self.variables) if what == "variable" else (14 + variables, 2, self.arrays)
         mask = int.from_bytes(self.data[at:at + width], "little")
         return [bit for bit in range(count, 8 * width) if mask >> bit & 1]
 
@@ -92,10 +100,15 @@ class Table:
 
 # ---- The reader: which refusal, and where ----
 
+def most_variables(table):
+    """Of a version that is not known, as many as of any."""
+    return MOST_VARIABLES.get(table.version, 64)
+
+
 def header_faults(table):
-    version, variables, arrays, nodes = table.u16(4), table.variables, table.arrays, table.nodes
-    return [fault for fault, holds in (("version", version != 1), ("variables", variables > 32), ("arrays", arrays > 16),
-                                       ("no nodes", nodes < 1), ("nodes", nodes > 4096)) if holds]
+    faults = (("version", table.version not in (1, 2)), ("variables", table.variables > most_variables(table)),
+              ("arrays", table.arrays > 16), ("no nodes", table.nodes < 1), ("nodes", table.nodes > 4096))
+    return [fault for fault, holds in faults if holds]
 
 
 def array_faults(table, array):
@@ -143,7 +156,7 @@ def record_refusal(table, place, role, number):
     if role == "node":
         fits = kind in KINDS and length == LENGTHS[kind]
     else:
-        fits = (kind, length) == DECLARATIONS[role]
+        fits = (kind, length) == declaration(role, table.version)
     if not fits:
         return 2
     if left < length:
@@ -169,7 +182,7 @@ def judge(table):
         return 6, table.place("node", broken[0][1])
     if at < len(table.data):
         return 7, at
-    return (8, 0) if table.nodes > 512 else (9, 0) if table.variables == 32 else (0, None)
+    return (8, 0) if table.nodes > 512 else (9, 0) if table.variables == 64 else (0, None)
 
 
 def record_faults(table, refusal, place, role):
@@ -182,7 +195,7 @@ def record_faults(table, refusal, place, role):
         return [("body", place)] * (left < length)
     if role == "node":
         return [("kind", place)] if kind not in KINDS else [("length", place)] * (length != LENGTHS[kind])
-    wanted = DECLARATIONS[role]
+    wanted = declaration(role, table.version)
     return [("kind", place)] * (kind != wanted[0]) + [("length", place)] * (length != wanted[1])
 
 
@@ -204,7 +217,7 @@ def all_faults(table, refusal, place):
         return ["extra"] * (table.indices.get(place) == 2 + table.arrays + table.nodes and place < len(table.data))
     if refusal == 8 and table.nodes <= 512:
         return []
-    return ["too many nodes"] * (refusal == 8) + ["no free variable"] * (table.variables == 32)
+    return ["too many nodes"] * (refusal == 8) + ["no free variable"] * (table.variables == 64)
 
 
 # ---- The wordings: each claim is looked up in the bytes, and gives the fault that it names; None: it is not true ----
@@ -297,17 +310,30 @@ def cut_body(table, match):
 def wrong_kind(table, match):
     place, kind, role = int(match["place"]), int(match["kind"]), named(match["record"])[0]
     met["kind named" if match["name"] else "kind not named"] += 1
-    true = (is_there(table, match) and table.u16(place + 2) == kind != int(match["wanted"]) == DECLARATIONS[role][0]
+    true = (is_there(table, match) and table.u16(place + 2) == kind != int(match["wanted"])
+            and int(match["wanted"]) == declaration(role, table.version)[0]
             and match["name"] == KINDS.get(kind, (None,))[0])
     return ("kind", place) if true else None
 
 
-@wording(RECORD + r" \(byte (?P<place>\d+)\) is (?P<length>\d+) (?P<noun>bytes?) long, and takes (?P<wanted>\d+)")
+def other_version(table, place, role, length):
+    """What is said of a labels record that is as long as those of the other version."""
+    others = [version for version in MASK_BYTES if version != table.version and table.u16(place + 2) == 3
+              and role == "labels" and length == declaration(role, version)[1]]
+    if not others:
+        return None
+    met["labels of version %d in version %d" % (others[0], table.version)] += 1
+    return "%d belongs to version %d, and the header says %d" % (length, others[0], table.version)
+
+
+@wording(RECORD + r" \(byte (?P<place>\d+)\) is (?P<length>\d+) (?P<noun>bytes?) long, and takes (?P<wanted>\d+)"
+         r"(?:: (?P<other>.+))?")
 def wrong_length(table, match):
-    place, length = int(match["place"]), int(match["length"])
+    place, length, role = int(match["place"]), int(match["length"]), named(match["record"])[0]
     met["length %s" % min(length, 2)] += 1
     true = (is_there(table, match) and table.u16(place) == length != int(match["wanted"])
-            and int(match["wanted"]) == DECLARATIONS[named(match["record"])[0]][1] and match["noun"] == counted(length, "byte"))
+            and int(match["wanted"]) == declaration(role, table.version)[1] and match["noun"] == counted(length, "byte")
+            and match["other"] == other_version(table, place, role, length))
     return ("length", place) if true else None
 
 
@@ -326,16 +352,28 @@ def wrong_node_length(table, match):
     return ("length", place) if true else None
 
 
-@wording(r"version (?P<version>\d+), only 1 is known")
+@wording(r"version (?P<version>\d+), only 1 and 2 are known")
 def version(table, match):
-    return "version" if table.u16(4) == int(match["version"]) != 1 else None
+    met["version %s" % min(table.version, 3)] += 1
+    return "version" if table.version == int(match["version"]) and table.version not in (1, 2) else None
 
 
-@wording(r"(?P<count>\d+) (?P<what>variables|arrays|nodes), at most (?P<most>\d+)")
+@wording(r"(?P<count>\d+) (?P<what>arrays|nodes), at most (?P<most>\d+)")
 def too_many(table, match):
-    count, most = {"variables": (table.variables, 32), "arrays": (table.arrays, 16), "nodes": (table.nodes, 4096)}[match["what"]]
+    count, most = {"arrays": (table.arrays, 16), "nodes": (table.nodes, 4096)}[match["what"]]
     met["too many " + match["what"]] += 1
     return match["what"] if (int(match["count"]), int(match["most"])) == (count, most) and count > most else None
+
+
+@wording(r"(?P<count>\d+) variables, at most (?P<most>32 in version 1(?:; version 2 declares up to 64)?|64(?: in version 2)?)")
+def too_many_variables(table, match):
+    if table.version != 1:
+        most = "64 in version 2" if table.version == 2 else "64"
+    else:
+        most = "32 in version 1; version 2 declares up to 64" if table.variables <= 64 else "32 in version 1"
+    met["too many variables: %s, version %d" % (most, min(table.version, 3))] += 1
+    true = int(match["count"]) == table.variables > most_variables(table) and match["most"] == most
+    return "variables" if true else None
 
 
 @wording(r"0 nodes, at least 1")
@@ -347,6 +385,7 @@ def no_nodes(table, match):
 def marked(table, match):
     bits, count = table.mask(match["what"]), table.variables if match["what"] == "variable" else table.arrays
     met["marked %s%s" % (match["what"], " and more" if match["more"] else "")] += 1
+    met["marked from 32 up"] += match["what"] == "variable" and int(match["bit"]) >= 32
     true = bits and bits[0] == int(match["bit"]) and int(match["more"] or 0) == len(bits) - 1 and (match["more"] or "1") != "0"
     return ("mask", match["what"]) if true and match["declared"] == declared(count) else None
 
@@ -449,22 +488,26 @@ def too_many_to_harden(table, match):
     return "too many nodes" if table.nodes == int(match["count"]) > 512 else None
 
 
-@wording(r"32 variables, at most 31 can be hardened: none is left for the flag")
+@wording(r"64 variables, at most 63 can be hardened: none is left for the flag")
 def no_free_variable(table, match):
-    return "no free variable" if table.variables == 32 else None
+    return "no free variable" if table.variables == 64 else None
 
 
 # What is counted besides the wordings: their forms.
 FORMS = (["of header", "of labels", "of array", "of node"] + ["left %d" % left for left in range(4)] +
          ["due: %d %s" % (count, role) for count in (1, 2) for role in ("node", "array")] +
          ["declared: %d" % count for count in range(3)] + ["article a", "article an", "kind named", "kind not named"] +
-         ["length %d" % length for length in range(3)] + ["too many variables", "too many arrays", "too many nodes"] +
+         ["length %d" % length for length in range(3)] + ["too many arrays", "too many nodes", "version 0", "version 3"] +
+         ["too many variables: 32 in version 1" + more + ", version 1" for more in ("", "; version 2 declares up to 64")] +
+         ["too many variables: 64 in version 2, version 2"] + ["too many variables: 64, version %d" % version for version in (0, 3)] +
+         ["labels of version 1 in version 2", "labels of version 2 in version 1", "marked from 32 up"] +
          ["marked variable", "marked variable and more", "marked array", "marked array and more"] +
          ["not declared: variable", "not declared: array", "wanted number", "wanted truth", "wanted command"] +
          ["parents 2", "parents 3", "parents beyond eight", "extra 1", "extra 2"] +
          [form + times for form in ("one parent ", "one of several ") for times in TIMES.values()] +
          ["refusal %d, several faults" % refusal for refusal in (2, 3, 4, 5, 6, 8)] +
-         ["wrong: nothing found", "wrong: another first node", "wrong: true all the same", "wrong: from 10 up", "accepted"])
+         ["wrong: nothing found", "wrong: another first node", "wrong: true all the same", "wrong: from 10 up"] +
+         ["accepted, version 1", "accepted, version 2", "accepted, version 1 with 32 variables"])
 
 # ---- Lines ----
 
@@ -504,7 +547,8 @@ def check_refusal_line(line, refusal, place, faults):
 def check_library(table, refusal, place, faults):
     """The library's answer must be the reader's, and all its faults be told."""
     if refusal == 0:
-        met["accepted"] += 1
+        met["accepted, version %d" % table.version] += 1
+        met["accepted, version 1 with 32 variables"] += (table.version, table.variables) == (1, 32)
         require(faults == [""], "words for a table that is accepted")
         return
     claimed = [fault_claimed(table, line) for line in faults]
@@ -536,6 +580,8 @@ def check_wrong(table, refusal, place, faults, right):
         return
     met["wrong: nothing found" if nothing else "wrong: true all the same"] += 1
     require(not nothing or len(faults) == 1 and nothing[1] == (str(place) if refusal <= 7 else None), "not said at which byte")
+    beyond = right == (3, 0) and header_faults(table) != ["no nodes"]
+    require(nothing or not beyond or refusal <= 5 and place == 0, "said of what stands behind a header that is beyond the limits")
     in_order = right[0] in (0, 6, 7, 8, 9) or refusal <= 5 and place <= right[1]
     require(nothing and not in_order or claimed == all_faults(table, refusal, place), "not the faults there: %s" % claimed)
     require(refusal != 6 or nothing or table.place("node", claimed[0][1]) == place, "another place for 6, and it is not said")

@@ -15,6 +15,7 @@
 #include "records/little_endian.h"
 #include "records/table.h"
 #include "text/faults.h"
+#include "widen.h"
 
 /* ---- Damage of one record or a whole tree, on top of the bench's ---- */
 
@@ -85,26 +86,55 @@ static void end_in_expression(struct random *r, struct buffer *table, const stru
         assemble_node2(table, FLOW_ADD, number, number);
 }
 
+/* One at a limit of one of the versions, or any. */
+static uint32_t near_limit(struct random *r, uint32_t any_below)
+{
+    static const uint32_t limits[] = {32, 33, 34, 63, 64, 65};
+    return random_percent(r, 70) ? limits[random_below(r, sizeof limits / sizeof *limits)] : random_below(r, any_below);
+}
+
 static void spoil_header(struct random *r, struct buffer *table, const struct table *opened)
 {
     (void)opened;
     if (random_percent(r, 50))
-        put16(table->bytes + 4, random_percent(r, 50) ? 2 : random_below(r, 65536));
+        put16(table->bytes + 4, random_percent(r, 70) ? random_below(r, 4) : random_below(r, 65536));
     if (random_percent(r, 50))
-        table->bytes[6] = (uint8_t)(33 + random_below(r, random_percent(r, 50) ? 1 : 223));
+        table->bytes[6] = (uint8_t)near_limit(r, 256);
     if (random_percent(r, 50))
         table->bytes[7] = (uint8_t)(17 + random_below(r, random_percent(r, 50) ? 1 : 239));
     if (random_percent(r, 50))
         put16(table->bytes + 8, random_percent(r, 50) ? 0 : 4097 + random_below(r, 61439));
 }
 
+/* The length of the labels record: its mask of variables has 4 bytes in version 1, and 8 in version 2. */
+static size_t labels_length(unsigned version)
+{
+    return version == 1 ? 10 : 14;
+}
+
+static uint8_t *array_record(struct buffer *table, const struct table *opened, unsigned array)
+{
+    return table->bytes + 10 + labels_length(opened->version) + 6 * array;
+}
+
+static void mark_any(struct random *r, uint8_t *mask, size_t length)
+{
+    unsigned bit = random_below(r, (uint32_t)(8 * length));
+    mask[bit / 8] |= (uint8_t)(1u << bit % 8);
+}
+
 static void spoil_masks(struct random *r, struct buffer *table, const struct table *opened)
 {
-    (void)opened;
+    size_t length = labels_length(opened->version) - 6;
+    uint8_t *masks = table->bytes + 14;
     if (random_percent(r, 70))
-        put32(table->bytes + 14, (uint32_t)1 << random_below(r, 32) | (uint32_t)1 << random_below(r, 32));
-    if (random_percent(r, 70))
-        put16(table->bytes + 18, (uint32_t)1 << random_below(r, 16) | (uint32_t)1 << random_below(r, 16));
+        memset(masks, 0, length + 2);
+    for (unsigned times = random_below(r, 3); times > 0; times--) {
+        mark_any(r, masks, length);
+        mark_any(r, masks + length, 2);
+    }
+    if (random_percent(r, 50))
+        mark_any(r, random_percent(r, 50) ? masks : masks + length, 2);
 }
 
 static void spoil_counts(struct random *r, struct buffer *table, const struct table *opened)
@@ -112,7 +142,26 @@ static void spoil_counts(struct random *r, struct buffer *table, const struct ta
     static const uint32_t counts[] = {0, 1, 8192, 8193, 16384, 16385, 65535};
     for (unsigned array = 0; array < opened->arrays; array++)
         if (random_percent(r, 60))
-            put16(table->bytes + 20 + 6 * array + RECORD_HEAD, counts[random_below(r, sizeof counts / sizeof *counts)]);
+            put16(array_record(table, opened, array) + RECORD_HEAD, counts[random_below(r, sizeof counts / sizeof *counts)]);
+}
+
+/* The header says the other version, and the labels record stays; or it becomes the other's, and the header stays; or both. */
+static void exchange_version(struct random *r, struct buffer *table, const struct table *opened)
+{
+    unsigned other = 3 - opened->version, which = 1 + random_below(r, 3);
+    struct buffer exchanged = {0};
+    size_t behind = 10 + labels_length(opened->version);
+    buffer_append(&exchanged, table->bytes, 10);
+    if (which & 1)
+        put16(exchanged.bytes + 4, other);
+    if (which & 2) {
+        buffer_append16(&exchanged, (uint32_t)labels_length(other));
+        buffer_append(&exchanged, table->bytes + 12, labels_length(other) - 2);
+        buffer_append(&exchanged, table->bytes + behind, table->length - behind);
+    } else
+        buffer_append(&exchanged, table->bytes + 10, table->length - 10);
+    buffer_free(table);
+    *table = exchanged;
 }
 
 /* Kind or length of a record, or both. */
@@ -129,7 +178,7 @@ static void spoil_head(struct random *r, uint8_t *record)
 static void spoil_declaration(struct random *r, struct buffer *table, const struct table *opened)
 {
     unsigned record = random_below(r, 2 + opened->arrays);
-    spoil_head(r, table->bytes + (record < 2 ? 10 * record : 20 + 6 * (record - 2)));
+    spoil_head(r, record < 2 ? table->bytes + 10 * record : array_record(table, opened, record - 2));
 }
 
 static void spoil_node(struct random *r, struct buffer *table, const struct table *opened)
@@ -154,9 +203,9 @@ static void add_bytes(struct random *r, struct buffer *table, const struct table
 typedef void damage(struct random *r, struct buffer *table, const struct table *opened);
 
 /* Those that have many ways to go stand here twice. */
-static damage *const damages[] = {spoil_fields, spoil_fields,   spoil_sorts,    spoil_sorts,       spoil_counts,
-                                  spoil_counts, share_children, share_children, end_in_expression, spoil_header,
-                                  spoil_masks,  spoil_node,     cut,            spoil_declaration, add_bytes};
+static damage *const damages[] = {spoil_fields, spoil_fields,   spoil_sorts,    spoil_sorts,       spoil_counts,     spoil_counts,
+                                  spoil_masks,  share_children, share_children, end_in_expression, spoil_header,     spoil_header,
+                                  spoil_masks,  spoil_node,     cut,            spoil_declaration, exchange_version, add_bytes};
 
 /* ---- Tables ---- */
 
@@ -165,6 +214,8 @@ static void generate_damaged(struct random *r, struct buffer *table)
     struct plan plan = random_percent(r, 85) ? plan_small(r, 40) : plan_any(r);
     struct table opened;
     generate_table(r, &plan, table);
+    if (random_percent(r, 60))
+        widen_by_chance(r, table);
     if (random_percent(r, 40)) {
         damage_table(r, table);
         return;
@@ -173,13 +224,17 @@ static void generate_damaged(struct random *r, struct buffer *table)
     damages[random_below(r, sizeof damages / sizeof *damages)](r, table, &opened);
 }
 
-/* At and beyond what can be hardened: 512 nodes, 31 variables. */
+/* At and beyond what can be hardened: 512 nodes, 63 variables. */
 static void generate_large(struct random *r, struct buffer *table)
 {
     struct plan plan = plan_small(r, 1);
+    struct buffer generated = {0};
+    struct table opened;
     plan.nodes = random_percent(r, 50) ? 511 + random_below(r, 3) : 500 + random_below(r, 600);
-    plan.variables = 30 + random_below(r, 3);
-    generate_table(r, &plan, table);
+    generate_table(r, &plan, &generated);
+    table_open(&opened, &generated);
+    widen_table(&opened, (struct front){.version = FLOW_VERSION_2, .variables = 62 + random_below(r, 3)}, table);
+    buffer_free(&generated);
 }
 
 static void generate(struct random *r, struct buffer *table)
@@ -282,11 +337,11 @@ static void print_lines(struct random *r, struct buffer *table, unsigned percent
 }
 
 /* A small table that has records of all parts, whole and then cut at every byte. */
-static void print_cuts(struct random *r)
+static void print_cuts(struct random *r, unsigned version)
 {
     static const uint16_t counts[] = {4, 256};
     struct buffer table = {0};
-    assemble_table(&table, 2, 2, counts, 1, 2);
+    assemble_version(&table, version, 2, 2, counts, 1, 2);
     unsigned index = assemble_node1(&table, FLOW_VARIABLE, 0);
     unsigned read = assemble_node3(&table, FLOW_READ, 1, 0, index);
     unsigned skip = assemble_node0(&table, FLOW_SKIP);
@@ -311,6 +366,21 @@ static void print_three_times(bool another_parent)
     buffer_free(&table);
 }
 
+/*
+ * Behind a header that is beyond the limits nothing is said of a labels record as of version 2, nor that all 64 variables are
+ * taken: such answers are handed in, on purpose.
+ */
+static void print_behind_header(unsigned version)
+{
+    struct buffer table = {0};
+    assemble_version(&table, FLOW_VERSION_2, 64, 0, NULL, 0, 0);
+    assemble_node0(&table, FLOW_SKIP);
+    put16(table.bytes + 4, version);
+    print_line(&table, (struct answer){FLOW_WRONG_RECORD, 10}, "wrong");
+    print_line(&table, (struct answer){FLOW_NO_FREE_VARIABLE, 0}, "wrong");
+    buffer_free(&table);
+}
+
 static uint64_t number_from(const char *argument)
 {
     char *end;
@@ -326,10 +396,12 @@ int main(int argc, char **argv)
 {
     uint64_t seed = argc > 1 ? number_from(argv[1]) : 1, count = argc > 2 ? number_from(argv[2]) : 20000;
     struct random cuts = random_from(seed, count);
-    for (unsigned times = 0; times < 20; times++) /* each time with other wrong answers */
-        print_cuts(&cuts);
+    for (unsigned times = 0; times < 40; times++) /* each time with other wrong answers */
+        print_cuts(&cuts, 1 + times % 2);
     print_three_times(false);
     print_three_times(true);
+    print_behind_header(1);
+    print_behind_header(3);
     for (uint64_t number = 0; number < count; number++) {
         struct random r = random_from(seed, number);
         struct buffer table = {0};

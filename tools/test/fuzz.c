@@ -23,6 +23,7 @@
 #include "text/source.h"
 #include "text/state.h"
 #include "text/text.h"
+#include "widen.h"
 
 enum { INPUTS = 125000, SORTS = 5 };
 
@@ -50,7 +51,7 @@ static const char *const words[] = {
     ";",    ":=",     "=",     "<",     "+",  "-",    "*",    "?",     ":",    "and",  "not",  "true",     "false",      "if",
     "then", "else",   "while", "do",    "or", "skip", "0",    "1",     "7",    "65536", "--",  "4294967295", "4294967296", "\n",
     " ",    ",",      "'",     "step",  "<=", "force", "load", "store", "@",   "rollback", "\t", ".",        "\303\244",
-    ">",    ">=",     "!=",    "==",    "0x", "ff",   "\357\273\277"};
+    ">",    ">=",     "!=",    "==",    "0x", "ff",   "2",    "version", "version 2 ", "version 1\n", "\357\273\277"};
 
 enum { WORDS = sizeof words / sizeof words[0] };
 
@@ -119,6 +120,8 @@ static void make_table(struct random *r, struct buffer *table)
 {
     struct plan plan = random_percent(r, 5) ? plan_any(r) : plan_small(r, 30);
     generate_table(r, &plan, table);
+    if (random_percent(r, 50))
+        widen_by_chance(r, table);
 }
 
 /* ---- Listings ---- */

@@ -90,6 +90,8 @@ static void harden(size_t length)
 int main(void)
 {
     printf("%s\n", FLOW_RELEASE);
+    printf("%u variables in %u bytes, %u in %u\n", flow_max_variables(FLOW_VERSION), (unsigned)flow_mask_bytes(FLOW_VERSION),
+           flow_max_variables(FLOW_VERSION_2), (unsigned)flow_mask_bytes(FLOW_VERSION_2));
     harden(sizeof table);
     harden(sizeof table - 1);
     print_number(1);
@@ -100,6 +102,7 @@ int main(void)
 END
 
 expected="$release
+32 variables in 4 bytes, 64 in 8
 accepted, 24: 10 0 1 0 1 0 1 0 1 0 10 0 3 0 0 0 0 0 0 0 4 0 48 0
 the table is cut: fewer bytes remain than the record needs, 20:
 number 100f0e0d0c0b0a09

@@ -3,7 +3,8 @@
  * round_trips [SEED [COUNT]]
  *   a table in post-order:  the table assembled from its listing is the table, byte for byte;
  *   any other:              the listing of the table assembled from its listing is its listing.
- * Generated tables come in three orders of nodes; hardened and assembled ones are in post-order.
+ * Generated tables come in three orders of nodes; hardened and assembled ones are in post-order.  Tables are of both versions, and
+ * a listing begins with `version 2` just where version 1 declares as many variables.
  */
 #include <stdbool.h>
 #include <stdlib.h>
@@ -14,11 +15,13 @@
 #include "memory.h"
 #include "records/kinds.h"
 #include "text/source.h"
+#include "widen.h"
 
 enum { TABLES = 10000 };
 
 struct counts {
     unsigned post_order, other, hardened; /* tables listed and assembled, those assembled from others among the first */
+    unsigned version_told, version_2;     /* of version 2: with a listing that says so, and with more variables */
 };
 
 static void die(const char *what, const struct buffer *table)
@@ -55,12 +58,24 @@ static bool in_post_order(const struct table *table)
     return true;
 }
 
+static void check_version(const struct buffer *bytes, const struct buffer *text, struct counts *counts)
+{
+    static const char told[] = "version 2\n";
+    unsigned version = bytes->bytes[4], variables = bytes->bytes[6]; /* of the header */
+    bool tells = text->length >= strlen(told) && memcmp(text->bytes, told, strlen(told)) == 0;
+    if (tells != (version == 2 && variables <= 32))
+        die("the listing of this table says a version that it need not, or does not say one that it must", bytes);
+    counts->version_told += tells;
+    counts->version_2 += version == 2 && !tells;
+}
+
 static void there_and_back(const struct buffer *bytes, bool hardened, struct counts *counts)
 {
     struct buffer text = {0}, again = {0};
     struct source source;
     struct table table;
     list(bytes, hardened, &text);
+    check_version(bytes, &text, counts);
     if (!assemble_source(&source, "listing", &text, stderr))
         die("the listing of this table does not read", bytes);
     table_open(&table, bytes);
@@ -88,6 +103,8 @@ static void generated(uint64_t seed, unsigned number, struct counts *counts)
     struct plan plan = number % 50 == 0 ? plan_boundary(&random) : number % 3 == 0 ? plan_any(&random) : plan_small(&random, 40);
     struct buffer table = {0}, hardened = {0};
     generate_table(&random, &plan, &table);
+    if (random_percent(&random, 60))
+        widen_by_chance(&random, &table);
     there_and_back(&table, false, counts);
     if (harden_table(&table, &hardened).refusal == FLOW_ACCEPTED)
         there_and_back(&hardened, true, counts);
@@ -104,11 +121,11 @@ static unsigned put_leaf(struct buffer *table, char sort)
 }
 
 /* Nodes of one kind, each inside the next as this field of it, as many as a table takes; then a command around an expression. */
-static void deepest(unsigned kind, unsigned side, struct counts *counts)
+static void deepest(unsigned version, unsigned kind, unsigned side, struct counts *counts)
 {
     struct buffer table = {0};
     const char *letters = fields_of(kind);
-    assemble_table(&table, 1, 0, NULL, 0, 0);
+    assemble_version(&table, version, 1, 0, NULL, 0, 0);
     unsigned inner = put_leaf(&table, letters[side]);
     while (inner + strlen(letters) + 2 < FLOW_MAX_NODES) {
         uint32_t fields[3];
@@ -124,12 +141,12 @@ static void deepest(unsigned kind, unsigned side, struct counts *counts)
     buffer_free(&table);
 }
 
-static void all_deepest(struct counts *counts)
+static void all_deepest(unsigned version, struct counts *counts)
 {
     for (unsigned kind = FLOW_NUMBER; kind <= FLOW_WRITE; kind++)
         for (unsigned side = 0; fields_of(kind) != NULL && side < strlen(fields_of(kind)); side++)
             if (fields_of(kind)[side] == sort_of(kind))
-                deepest(kind, side, counts);
+                deepest(version, kind, side, counts);
 }
 
 int main(int argc, char **argv)
@@ -137,10 +154,13 @@ int main(int argc, char **argv)
     uint64_t seed = argc > 1 ? strtoull(argv[1], NULL, 10) : 1;
     unsigned count = argc > 2 ? (unsigned)strtoul(argv[2], NULL, 10) : TABLES;
     struct counts counts = {0};
-    all_deepest(&counts);
+    all_deepest(FLOW_VERSION, &counts);
+    all_deepest(FLOW_VERSION_2, &counts);
     for (unsigned number = 0; number < count; number++)
         generated(seed, number, &counts);
-    printf("round trips: %u tables in post-order, %u in other orders, %u hardened ones\n", counts.post_order, counts.other,
-           counts.hardened);
-    return counts.post_order > 0 && counts.other > 0 && counts.hardened > 0 ? 0 : 1;
+    printf("round trips: %u tables in post-order, %u in other orders, %u hardened ones; of version 2 %u with up to 32 variables "
+           "and %u with more\n",
+           counts.post_order, counts.other, counts.hardened, counts.version_told, counts.version_2);
+    bool met = counts.post_order > 0 && counts.other > 0 && counts.hardened > 0 && counts.version_told > 0 && counts.version_2 > 0;
+    return met ? 0 : 1;
 }

@@ -6,12 +6,14 @@
 #include <inttypes.h>
 #include <stdbool.h>
 #include <stdlib.h>
+#include <string.h>
 
 #include "../../bench/generate.h"
 #include "library/stuck.h"
 #include "records/directives.h"
 #include "records/kinds.h"
 #include "records/little_endian.h"
+#include "widen.h"
 
 enum { CALLS = 150000, LONGEST_RUN = 300, REASONS = STUCK_NO_SAVE + 1 };
 
@@ -195,6 +197,33 @@ static void take_slice(struct buffer *buffer, const struct call *call, enum slic
     buffer_append(buffer, call->slices[name].bytes, call->slices[name].length);
 }
 
+/* The same run of the same program behind any front: of either version, and with other variables beside its own. */
+static void widen_played(struct random *r, struct played *played)
+{
+    struct front front = random_front(r, &played->table);
+    struct buffer wide = {0}, words = {0}, *own = &played->state.words;
+    size_t own_variables = 4 * (size_t)played->table.variables;
+    widen_table(&played->table, front, &wide);
+    buffer_reserve(&words, 4 * (size_t)front.variables + 1);
+    generate_words(r, words.bytes, front.variables);
+    words.length = 4 * (size_t)front.variables;
+    if (own_variables > 0)
+        memcpy(words.bytes + 4 * front.shift, own->bytes, own_variables);
+    if (own->length > own_variables)
+        buffer_append(&words, own->bytes + own_variables, own->length - own_variables);
+    buffer_free(&played->bytes);
+    buffer_free(own);
+    played->bytes = wide;
+    played->state = (struct state){words, front.variables};
+    table_open(&played->table, &played->bytes);
+}
+
+static bool is_state_whole(const struct played *played)
+{
+    const struct table *table = &played->table;
+    return played->state.variables == table->variables && played->state.words.length == 4 * (table->variables + table->cells);
+}
+
 /* A call by chance as a run.  False: it is none, or the library refuses it. */
 static bool make_run(struct random *r, struct played *played, struct run *run)
 {
@@ -216,9 +245,12 @@ static bool make_run(struct random *r, struct played *played, struct run *run)
     if (!runs)
         return false;
     table_open(&played->table, &played->bytes);
-    const struct table *table = &played->table;
-    return played->state.variables == table->variables && played->state.words.length == 4 * (table->variables + table->cells) &&
-           run_table(table, played->machine, &played->script, &played->state, played->budget, run).refusal == FLOW_ACCEPTED;
+    if (!is_state_whole(played))
+        return false;
+    if (random_percent(r, 50))
+        widen_played(r, played);
+    return run_table(&played->table, played->machine, &played->script, &played->state, played->budget, run).refusal ==
+           FLOW_ACCEPTED;
 }
 
 static void check_run(struct random *r, unsigned counts[REASONS])

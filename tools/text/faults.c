@@ -11,6 +11,7 @@
 #include "records/kinds.h"
 #include "records/little_endian.h"
 #include "records/parents.h"
+#include "records/versions.h"
 #include "records/walk.h"
 #include "text/words.h"
 
@@ -136,9 +137,20 @@ static void say_wrong_node(struct lines *lines, const struct walk *walk)
             article(name), name, record_length(fields));
 }
 
+/* For the end of a line: that a labels record is as long as those of the other version. */
+static struct phrase other_version_in_words(const struct walk *walk)
+{
+    struct phrase words = {""};
+    unsigned version = walk->table.version, other = version == FLOW_VERSION ? FLOW_VERSION_2 : FLOW_VERSION;
+    size_t length = length_of_section(SECTION_LABELS, other);
+    if (walk->section == SECTION_LABELS && walk_kind(walk) == FLOW_LABELS && walk_length(walk) == length)
+        snprintf(words.words, sizeof words.words, ": %zu belongs to version %u, and the header says %u", length, other, version);
+    return words;
+}
+
 static void say_wrong_declaration(struct lines *lines, const struct walk *walk)
 {
-    size_t length = walk_length(walk), wanted = length_of_section(walk->section);
+    size_t length = walk_length(walk), wanted = length_of_section(walk->section, walk->table.version);
     unsigned kind = walk_kind(walk);
     struct phrase record = record_in_words(walk), name = {""};
     if (fields_of(kind) != NULL)
@@ -147,7 +159,8 @@ static void say_wrong_declaration(struct lines *lines, const struct walk *walk)
         say(lines, "%s has kind %u%s, and kind %u is wanted here", record.words, kind, name.words,
             kind_of_section(walk->section));
     if (length != wanted)
-        say(lines, "%s is %zu byte%s long, and takes %zu", record.words, length, plural(length), wanted);
+        say(lines, "%s is %zu byte%s long, and takes %zu%s", record.words, length, plural(length), wanted,
+            other_version_in_words(walk).words);
 }
 
 static void say_wrong_record(struct lines *lines, struct walk *walk)
@@ -162,13 +175,25 @@ static void say_wrong_record(struct lines *lines, struct walk *walk)
 
 /* ---- Refusal 3: what the header, the labels and the arrays declare ---- */
 
+/* A version that is not known has the most variables that any has. */
+static void say_variable_limit(struct lines *lines, unsigned version, unsigned variables)
+{
+    unsigned most = flow_max_variables(version);
+    struct phrase here = {""}, more = {""};
+    if (is_known_version(version))
+        snprintf(here.words, sizeof here.words, " in version %u", version);
+    if (variables <= FLOW_MAX_VARIABLES)
+        snprintf(more.words, sizeof more.words, "; version %d declares up to %d", FLOW_VERSION_2, FLOW_MAX_VARIABLES);
+    if (variables > most)
+        say(lines, "%u variables, at most %u%s%s", variables, most, here.words, more.words);
+}
+
 static void say_header_limits(struct lines *lines, const uint8_t *fields)
 {
-    unsigned version = get16(fields), variables = fields[2], arrays = fields[3], nodes = get16(fields + 4);
-    if (version != FLOW_VERSION)
-        say(lines, "version %u, only %d is known", version, FLOW_VERSION);
-    if (variables > FLOW_MAX_VARIABLES)
-        say(lines, "%u variables, at most %d", variables, FLOW_MAX_VARIABLES);
+    unsigned version = get16(fields), arrays = fields[3], nodes = get16(fields + 4);
+    if (!is_known_version(version))
+        say(lines, "version %u, only %d and %d are known", version, FLOW_VERSION, FLOW_VERSION_2);
+    say_variable_limit(lines, version, fields[2]);
     if (arrays > FLOW_MAX_ARRAYS)
         say(lines, "%u arrays, at most %d", arrays, FLOW_MAX_ARRAYS);
     if (nodes < 1)

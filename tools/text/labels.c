@@ -81,8 +81,9 @@ static void print_row(FILE *to, const struct names *names, const struct sheet_ro
 
 void print_sheet(FILE *to, const struct names *names, const struct buffer *sheet)
 {
+    unsigned version = sheet_version(sheet->bytes);
     for (size_t at = 0; at < sheet->length; at += get16(sheet->bytes + at)) {
-        struct sheet_row row = get_sheet_row(sheet->bytes + at);
+        struct sheet_row row = get_sheet_row(sheet->bytes + at, version);
         print_row(to, names, &row);
     }
 }

@@ -38,7 +38,9 @@ void number_names(struct names *names, const struct table *table, bool flag)
         name_flag(names);
 }
 
-/* There are fewer names than a name has bytes. */
+/* With primes a letter makes NAME_BYTES - 1 names that fit: the others' names may be all those of one letter, but not of two. */
+_Static_assert(FLOW_MAX_VARIABLES - 1 + FLOW_MAX_ARRAYS < 2 * (NAME_BYTES - 1), "a name must be left for the flag");
+
 void name_flag(struct names *names)
 {
     if (names->variables == 0)
@@ -48,5 +50,8 @@ void name_flag(struct names *names)
     strcpy(name, "f");
     while (find((const char(*)[NAME_BYTES])names->variable, last, name, strlen(name)) >= 0 ||
            array_named(names, name, strlen(name)) >= 0)
-        strcat(name, "'");
+        if (strlen(name) < NAME_BYTES - 1)
+            strcat(name, "'");
+        else
+            strcpy(name, "g");
 }

@@ -18,7 +18,7 @@ struct names {
 /* v0, v1, .. and a0, a1, .. for a table; with `flag` its last variable is named by name_flag. */
 void number_names(struct names *names, const struct table *table, bool flag);
 
-/* Calls the last variable, if there is one, f, or where another name is this f', f'' and so on. */
+/* Calls the last variable, if there is one, f, or where another name is this f', f'' and so on; behind the longest comes g. */
 void name_flag(struct names *names);
 
 /* The number of a variable or array; -1: none has this name. */

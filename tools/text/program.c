@@ -3,6 +3,7 @@
 #include <inttypes.h>
 #include <string.h>
 
+#include "records/assemble.h"
 #include "records/little_endian.h"
 #include "text/labels.h"
 #include "text/operators.h"
@@ -46,7 +47,7 @@ static void end_line(struct printer *p, const char *after)
 /* The same, with a command's labels at the right. */
 static void end_labelled(struct printer *p, unsigned node, const char *after)
 {
-    struct sheet_row row = get_sheet_row(p->labels[node]);
+    struct sheet_row row = get_sheet_row(p->labels[node], p->table->version);
     add(p, after);
     add(p, p->line.length + 2 < LABEL_COLUMN ? "" : "  ");
     while (p->line.length < LABEL_COLUMN)
@@ -232,16 +233,25 @@ static void print_declarations(FILE *to, const char *what, unsigned count, uint6
         fputc('\n', to);
 }
 
+/* All that stands before the command: also the version, where it is another than the declarations alone would give. */
+static void print_front(FILE *to, const struct table *table, const struct names *names)
+{
+    bool version_told = table->version != lowest_version(table->variables);
+    if (version_told)
+        fprintf(to, "version %u\n", table->version);
+    print_declarations(to, "var", table->variables, table->secret.variables, names->variable, NULL);
+    print_declarations(to, "array", table->arrays, table->secret.arrays, names->array, table->counts);
+    if (version_told || table->variables + table->arrays > 0)
+        fputc('\n', to);
+}
+
 void print_program(FILE *to, const struct table *table, const struct names *names, const struct buffer *sheet)
 {
     struct printer p = {.to = to, .table = table, .names = names};
-    struct sheet_row whole = get_sheet_row(sheet->bytes);
+    struct sheet_row whole = get_sheet_row(sheet->bytes, table->version);
     for (size_t at = get16(sheet->bytes); at < sheet->length; at += get16(sheet->bytes + at))
-        p.labels[get_sheet_row(sheet->bytes + at).node] = sheet->bytes + at;
-    print_declarations(to, "var", table->variables, table->secret.variables, names->variable, NULL);
-    print_declarations(to, "array", table->arrays, table->secret.arrays, names->array, table->counts);
-    if (table->variables + table->arrays > 0)
-        fputc('\n', to);
+        p.labels[get_sheet_row(sheet->bytes + at, table->version).node] = sheet->bytes + at;
+    print_front(to, table, names);
     print_command(&p, table->nodes - 1, 0, "", "");
     fprintf(to, "-- at the end ");
     print_labelling(to, names, whole.labelling);

@@ -6,6 +6,7 @@
 #include "records/assemble.h"
 #include "records/kinds.h"
 #include "records/little_endian.h"
+#include "records/versions.h"
 #include "text/operators.h"
 #include "text/text.h"
 
@@ -19,6 +20,7 @@ _Static_assert(MOST_NESTED >= FLOW_MAX_NODES + 2, "every listing must read");
 struct parser {
     struct text text;
     struct source *source;
+    unsigned version; /* as given; 0: the lowest that declares all variables */
     uint64_t secret_variables;
     uint32_t secret_arrays, cells;
     uint16_t counts[FLOW_MAX_ARRAYS];
@@ -110,11 +112,21 @@ static void declare_name(struct parser *p, char *name)
 
 /* ---- Declarations ---- */
 
+/* Fails at a variable that is one too many. */
+static void fail_variables(struct parser *p)
+{
+    if (p->version == FLOW_VERSION)
+        text_fail(&p->text, &p->text.next, "more than %d variables in version %d: version %d declares up to %d",
+                  FLOW_MAX_VARIABLES_1, FLOW_VERSION, FLOW_VERSION_2, FLOW_MAX_VARIABLES);
+    else
+        text_fail(&p->text, &p->text.next, "more than %d variables", FLOW_MAX_VARIABLES);
+}
+
 static void declare_variable(struct parser *p, bool secret)
 {
     struct names *names = &p->source->names;
-    if (names->variables == FLOW_MAX_VARIABLES) {
-        text_fail(&p->text, &p->text.next, "more than %d variables", FLOW_MAX_VARIABLES);
+    if (names->variables == flow_max_variables(p->version)) {
+        fail_variables(p);
         return;
     }
     declare_name(p, names->variable[names->variables]);
@@ -151,17 +163,41 @@ static void declare_array(struct parser *p, bool secret)
     names->arrays++;
 }
 
+static void refuse_semicolon(struct parser *p)
+{
+    if (text_is(&p->text, ";"))
+        text_fail(&p->text, &p->text.next, "no ';' stands behind a declaration");
+}
+
+/* `version 2`, before all declarations.  It is no word of the language, but a command cannot begin so: no name is declared yet. */
+static void read_version(struct parser *p)
+{
+    struct text *text = &p->text;
+    if (!text_accept(text, "version"))
+        return;
+    struct token word = text->last, number = text->next;
+    if (text_is(text, ":=") || text_is(text, "["))
+        text_fail(text, &word, "%s is not declared", token_in_words(&word).words);
+    else if (number.kind != TOKEN_NUMBER)
+        text_miss(text, &number, "the number of a version");
+    else if (!is_known_version(number.number))
+        text_fail(text, &number, "version %" PRIu32 ", only %d and %d are known", number.number, FLOW_VERSION, FLOW_VERSION_2);
+    else
+        p->version = number.number;
+    text_take(text);
+    refuse_semicolon(p);
+}
+
 /* What is often written behind a declaration and does not belong there. */
 static void end_declaration(struct parser *p, bool array)
 {
     const struct token *next = &p->text.next;
     if (!array && text_is(&p->text, "["))
         text_fail(&p->text, next, "a variable has no cells: arrays are declared by 'array'");
-    else if (text_is(&p->text, ";"))
-        text_fail(&p->text, next, "no ';' stands behind a declaration");
     else if (next->kind == TOKEN_NAME && !is_reserved(next) && find_variable(p, next) < 0 && find_array(p, next) < 0)
-        text_fail(&p->text, next, "%s is not declared: a comma is missing before it, or it is misspelt",
-                  token_in_words(next).words);
+        text_fail(&p->text, next, "%s is not declared: a comma is missing before it, or it is misspelt%s",
+                  token_in_words(next).words, text_is(&p->text, "version") ? " (a version stands before all declarations)" : "");
+    refuse_semicolon(p);
 }
 
 static void read_declarations(struct parser *p)
@@ -439,9 +475,12 @@ bool assemble_source(struct source *source, const char *name, const struct buffe
     struct parser p = {.source = source};
     *source = (struct source){0};
     text_open(&p.text, name, text->bytes, text->length, errors);
+    read_version(&p);
     read_declarations(&p);
-    assemble_table(&source->table, source->names.variables, source->names.arrays, p.counts, (uint32_t)p.secret_variables,
-                   p.secret_arrays);
+    if (p.version == 0)
+        p.version = lowest_version(source->names.variables);
+    assemble_version(&source->table, p.version, source->names.variables, source->names.arrays, p.counts, p.secret_variables,
+                     p.secret_arrays);
     read_command(&p);
     read_end(&p);
     return !p.text.failed;

@@ -14,7 +14,8 @@ struct source {
 
 /*
  * `name` is the source's, for messages: NAME:LINE:COLUMN: message on `errors`, the first error alone.  False: there was one, and
- * the table is not whole.  The table keeps to the limits; whether it is in order is the library's to judge.
+ * the table is not whole.  The table has the version that stands first in the text, or the lowest that declares its variables.  It
+ * keeps to the limits; whether it is in order is the library's to judge.
  */
 bool assemble_source(struct source *source, const char *name, const struct buffer *text, FILE *errors);
 void source_free(struct source *source);

@@ -8,6 +8,7 @@ use denote.Enum.Declared.{tagOf}
 use types.Run.{OneOf, miss}
 use lib.Dec.{eqb}
 use lib.ListN.{length, set}
+use Rattle.awhile.proofs.Versions.{declared-variables}
 use Rattle.bytes_le.proofs.Numbers.{Below}
 use Rattle.reader.specs.Index.{tableOf, nodeIn, numericIn, truthIn, commandIn}
 use Rattle.awhile.specs.Language.{skip, assign, sequence, if, while, read, write}
@@ -62,7 +63,7 @@ module _ {table index named ns : List ℕ} {n : ℕ} {x : Bool} {l : Labelling} 
     truth-is c = truth-label bytes (pre .names) (pre .node) k (rw is held) (child-of-sort (pre .node .indexed) c)
 
   -- ---- without parts
-  declared : Declared (tableOf table .variables) (tableOf table .labels) (tableOf table .counts)
+  declared : Declared (tableOf table .version) (tableOf table .variables) (tableOf table .labels) (tableOf table .counts)
   declared = indexed-well-formed table index bytes (pre .node .indexed) .declared
 
   child-named : {s : _} {k : ℕ} → Child table s n k → k < length named
@@ -71,8 +72,8 @@ module _ {table index named ns : List ℕ} {n : ℕ} {x : Bool} {l : Labelling} 
   pub single-fits : (m : Node) → m ≡ nodeIn table n → SingleFits (length named) m
   single-fits m e =
       record {
-        assign = λ v i is. let p = parts-of (Assign v i) (sym e ∙ is) in (omega (arith, p .0, declared .variablesFit), child-named (p .1));
-        read = λ v a i is. let p = parts-of (Read v a i) (sym e ∙ is) in (omega (arith, p .0, declared .variablesFit), child-named (p .2));
+        assign = λ v i is. let p = parts-of (Assign v i) (sym e ∙ is) in (omega (arith, p .0, declared-variables declared), child-named (p .1));
+        read = λ v a i is. let p = parts-of (Read v a i) (sym e ∙ is) in (omega (arith, p .0, declared-variables declared), child-named (p .2));
         write = λ a i v is. let p = parts-of (Write a i v) (sym e ∙ is) in (omega (arith, p .0, declared .arraysFit), child-named (p .1), child-named (p .2));
       }
 

@@ -13,7 +13,7 @@ use Rattle.bytes_le.proofs.Numbers.{Below, leAt-lt}
 use Rattle.awhile.specs.Lists.{sum, all}
 use Rattle.awhile.specs.Refusals.{Answer, refused, got, check, andThen}
 use Rattle.awhile.specs.Nodes.{form, sizeOf, nodeOf, decodeAt, inRange, sorted}
-use Rattle.awhile.specs.Tables.{Table, headerOf, maxVariables, maxArrays, maxNodes, maxCells, headerSize, labelsSize, arraySize, labelsStart, countsStart, nodesStart, offsetOf}
+use Rattle.awhile.specs.Tables.{Table, headerOf, knownVersion, maskBytes, mostVariables, maxArrays, maxNodes, maxCells, headerSize, labelsSize, arraySize, labelsStart, countsStart, nodesStart, offsetOf}
 use Rattle.awhile.specs.Tables.{framed, lengthOfKind, readHeader, readLabels, readCount, readCounts, readNode, readNodes, readRecords}
 use Rattle.awhile.specs.Tables.{allInOrder, checkWhole, readTable}
 use Rattle.awhile.specs.WellFormed.{WellFormed, Declared, NodeFits, wordFits}
@@ -111,20 +111,21 @@ decoded-words kind f g h w fits =
 module _ (s : List ℕ) where
   -- ---- the header
   pub record HeaderFits (h : Header) : Type 0 where
-    pub variablesFit : h .variables ≤ maxVariables
+    pub versionKnown : knownVersion (h .version) ≡ true
+    pub variablesFit : h .variables ≤ mostVariables (h .version)
     pub arraysFit : h .arrays ≤ maxArrays
     pub hasNodes : 0 < h .nodes
     pub nodesFit : h .nodes ≤ maxNodes
 
   header-test : (h : Header) (version variables arrays nodes : ℕ)
       → check
-      (eqb version 1 && leb variables maxVariables && leb arrays maxArrays && ltb 0 nodes && leb nodes maxNodes)
+      (knownVersion version && leb variables (mostVariables version) && leb arrays maxArrays && ltb 0 nodes && leb nodes maxNodes)
       (BeyondLimit 0)
-      (got (record { variables = variables; arrays = arrays; nodes = nodes }))
+      (got (record { version = version; variables = variables; arrays = arrays; nodes = nodes }))
       ≡ got h → HeaderFits h
   header-test h version variables arrays nodes e =
-      let read : Header = record { variables = variables; arrays = arrays; nodes = nodes } in
-      let two : Bool = eqb version 1 && leb variables maxVariables in
+      let read : Header = record { version = version; variables = variables; arrays = arrays; nodes = nodes } in
+      let two : Bool = knownVersion version && leb variables (mostVariables version) in
       let three : Bool = two && leb arrays maxArrays in
       let four : Bool = three && ltb 0 nodes in
       let all : Bool = four && leb nodes maxNodes in
@@ -136,7 +137,8 @@ module _ (s : List ℕ) where
       let toTwo : two ≡ true = and-first two (leb arrays maxArrays) toThree in
       rw (← same)
       (record {
-        variablesFit = leb-true variables maxVariables (and-second (eqb version 1) (leb variables maxVariables) toTwo);
+        versionKnown = and-first (knownVersion version) (leb variables (mostVariables version)) toTwo;
+        variablesFit = leb-true variables (mostVariables version) (and-second (knownVersion version) (leb variables (mostVariables version)) toTwo);
         arraysFit = leb-true arrays maxArrays (and-second two (leb arrays maxArrays) toThree);
         hasNodes = ltb-true 0 nodes (and-second three (ltb 0 nodes) toFour);
         nodesFit = leb-true nodes maxNodes (and-second four (leb nodes maxNodes) test);
@@ -155,10 +157,11 @@ module _ (s : List ℕ) where
   labels-fit : (h : Header) (at : ℕ) (l : Labelling) → readLabels s h at ≡ got l → LabelsFit h l
   unfolding readLabels
   labels-fit h at l e =
-      let read : Labelling = record { variables = leAt 4 s (at + 4); arrays = leAt 2 s (at + 8) } in
+      let w = maskBytes (h .version) in
+      let read : Labelling = record { variables = leAt w s (at + 4); arrays = leAt 2 s (at + 4 + w) } in
       let first : Bool = ltb (read .variables) (2 ^ h .variables) in
       let second : Bool = ltb (read .arrays) (2 ^ h .arrays) in
-      let rest = framed-rest s at (lengthOfKind 3 labelsSize s at) (check (first && second) (BeyondLimit at) (got read)) l e in
+      let rest = framed-rest s at (lengthOfKind 3 (labelsSize (h .version)) s at) (check (first && second) (BeyondLimit at) (got read)) l e in
       let passed = check-got (first && second) (BeyondLimit at) (got read) l rest in
       let same : read ≡ l = got-same read l (passed .1) in
       rw (← same)
@@ -307,7 +310,7 @@ module _ (s : List ℕ) where
 -- ---- the whole table
 -- what is known of a table whose records were read: all but that they are one tree
 pub record RecordsRead (s : List ℕ) (t : Table) : Type 0 where
-  pub declared : Declared (t .variables) (t .labels) (t .counts)
+  pub declared : Declared (t .version) (t .variables) (t .labels) (t .counts)
   pub hasNodes : 0 < length (t .nodes)
   pub nodesFit : length (t .nodes) ≤ maxNodes
   pub fits : FitAfter (t .variables) (length (t .counts)) [] (t .nodes)
@@ -316,7 +319,7 @@ pub record RecordsRead (s : List ℕ) (t : Table) : Type 0 where
 module _ (s : List ℕ) (bytes : Below 256 s) where
   records-put : (h : Header) (l : Labelling) (cs : List ℕ) (ns : List Node)
       → HeaderFits s h → LabelsFit s h l → CountsFit s (h .arrays) [] cs → NodesRead s bytes h (h .nodes) (nodesStart h) [] ns
-      → RecordsRead s (record { variables = h .variables; labels = l; counts = cs; nodes = ns })
+      → RecordsRead s (record { version = h .version; variables = h .variables; labels = l; counts = cs; nodes = ns })
   unfolding sum
   records-put h l cs ns header labels counts nodes =
       let arrays : h .arrays ≡ length cs = sym (ap length (counts .whole) ∙ counts .counted) in
@@ -324,6 +327,7 @@ module _ (s : List ℕ) (bytes : Below 256 s) where
       record {
         declared =
             record {
+              versionKnown = header .versionKnown;
               variablesFit = header .variablesFit;
               arraysFit = rw arrays at (header .arraysFit);
               variableMaskFits = labels .variableMaskFits;
@@ -344,14 +348,14 @@ module _ (s : List ℕ) (bytes : Below 256 s) where
       let Q : Type 0 = RecordsRead s t in
       then-got Q (readHeader s) _ t e
       (λ h eh e₁.
-      then-got Q (readLabels s h labelsStart) _ t e₁
+      then-got Q (readLabels s h (labelsStart h)) _ t e₁
       (λ l el e₂.
       then-got Q (readCounts (h .arrays) s (countsStart h) []) _ t e₂
       (λ cs ec e₃.
       then-got Q (readNodes (h .nodes) h s (nodesStart h) []) _ t e₃
       (λ ns en e₄.
       rw (← got-same _ t e₄)
-      (records-put h l cs ns (header-fits s h eh) (labels-fit s h labelsStart l el)
+      (records-put h l cs ns (header-fits s h eh) (labels-fit s h (labelsStart h) l el)
       (counts-fit s (h .arrays) (countsStart h) [] cs (omega arith) ec)
       (nodes-fit s bytes h (h .nodes) (nodesStart h) [] ns en))))))
 

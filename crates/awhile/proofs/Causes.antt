@@ -1,14 +1,14 @@
--- A record that is refused is refused by one of 1 to 5.
+-- A record that is refused is refused by one of 1 to 5, and a table by one of 1 to 7.
 use Prim.Native.Nat.{ℕ, zero, suc, _+_, _≤_}
 use native.Mathlib.Omega.{arith}
 use mathlib.Core.Bool.{Bool, true, false}
-use mathlib.Core.Path.{_≡_, refl, subst, sym}
+use mathlib.Core.Path.{_≡_, refl, sym, ap, subst, _∙_}
 use mathlib.Core.List.{List, [], _∷_, _++_}
 use Rattle.awhile.specs.Lists.{sum}
 use Rattle.awhile.specs.Refusals.{Answer, refused, got, check, andThen, refusalNumber}
 use Rattle.awhile.specs.Nodes.{sizeOf, decodeAt}
 use Rattle.awhile.specs.Tables.{arraySize, labelsStart, countsStart, nodesStart}
-use Rattle.awhile.specs.Tables.{framed, readHeader, readLabels, readCount, readCounts, readNode, readNodes, readRecords}
+use Rattle.awhile.specs.Tables.{Table, framed, readHeader, readLabels, readCount, readCounts, readNode, readNodes, readRecords, checkWhole, readTable}
 use Rattle.awhile.proofs.Accepted.{refused-got}
 use Rattle.awhile.proofs.Cases.{counts-next, counts-refused, node-known, node-unknown, nodes-next, nodes-refused}
 use Rattle.awhile.specs.declared.Header.{Header}
@@ -16,6 +16,7 @@ use Rattle.awhile.specs.declared.Node.{Node}
 use Rattle.awhile.specs.declared.Decoded.{Decoded}
 use Rattle.awhile.specs.declared.Decoded.the-variants.{Known, Unknown}
 use Rattle.awhile.specs.declared.Refusal.{Refusal}
+use Rattle.awhile.specs.declared.Refusal.the-variants.{NotATree, ExtraBytes}
 
 -- an answer whose refusal, if it is one, is by one of 1 to 5
 record ByRecord {A : Type 0} (a : Answer A) : Type 0 where
@@ -89,7 +90,7 @@ module _ (s : List ℕ) where
   records-cause =
       by-then (readHeader s) _ header-cause
       (λ h.
-      by-then (readLabels s h labelsStart) _ (labels-cause h labelsStart)
+      by-then (readLabels s h (labelsStart h)) _ (labels-cause h (labelsStart h))
       (λ l.
       by-then (readCounts (h .arrays) s (countsStart h) []) _ (counts-cause (h .arrays) (countsStart h) [])
       (λ cs.
@@ -97,3 +98,22 @@ module _ (s : List ℕ) where
       (λ ns.
       by-got _))))
       .cause
+
+  -- the whole table: 6 and 7 besides
+  whole-cause : (t : Table) (a b : Bool) (six seven : ℕ) (r : Refusal)
+      → check a (NotATree six) (check b (ExtraBytes seven) (got t)) ≡ refused r → refusalNumber r ≤ 7
+  unfolding check
+  whole-cause t true true six seven r e = absurd (refused-got r t (sym e))
+  whole-cause t true false six seven r e = let same : ExtraBytes seven ≡ r = cc in subst (λ (x : Refusal). refusalNumber x ≤ 7) same (omega arith)
+  whole-cause t false b six seven r e = let same : NotATree six ≡ r = cc in subst (λ (x : Refusal). refusalNumber x ≤ 7) same (omega arith)
+
+  pub table-cause : (r : Refusal) → readTable s ≡ refused r → refusalNumber r ≤ 7
+  unfolding readTable andThen checkWhole
+  table-cause r e = go (readRecords s) refl e
+    where
+      go : (a : Answer Table) → readRecords s ≡ a → andThen a (checkWhole s) ≡ refused r → refusalNumber r ≤ 7
+      go (refused q) p h =
+          let same : q ≡ r = cc in
+          let low : refusalNumber r ≤ 5 = records-cause r (p ∙ ap refused same) in
+          omega arith
+      go (got t) p h = whole-cause t _ _ _ _ r h

@@ -54,7 +54,7 @@ module _ (s : List ℕ) where
       let Q : Type 0 = CountsThere s (length (t .counts)) (countsStart (headerOf t)) [] (t .counts) in
       then-got Q (readHeader s) _ t e
       (λ h eh e₁.
-      then-got Q (readLabels s h labelsStart) _ t e₁
+      then-got Q (readLabels s h (labelsStart h)) _ t e₁
       (λ l el e₂.
       then-got Q (readCounts (h .arrays) s (countsStart h) []) _ t e₂
       (λ cs ec e₃.

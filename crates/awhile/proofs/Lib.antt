@@ -5,6 +5,7 @@ pub mod Lists
 pub mod Notes
 pub mod Unnamed
 pub mod Records
+pub mod Versions
 pub mod Cases
 pub mod Fitting
 pub mod Reading
@@ -16,6 +17,7 @@ pub mod Orders
 pub mod Writing
 pub mod Accepted
 pub mod Counts
+pub mod VersionOne
 pub mod Causes
 pub mod Lowest
 pub mod Sums

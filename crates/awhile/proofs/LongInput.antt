@@ -14,10 +14,11 @@ use Rattle.bytes_le.proofs.Numbers.{Below, leAt-append-le}
 use Rattle.awhile.specs.Lists.{sum}
 use Rattle.awhile.specs.Refusals.{Answer, refused, got, andThen}
 use Rattle.awhile.specs.Nodes.{sizeOf, decodeAt}
-use Rattle.awhile.specs.Tables.{Table, headerSize, labelsSize, arraySize, labelsStart, countsStart, nodesStart, longestTable, offsetOf}
+use Rattle.awhile.specs.Tables.{Table, maskBytes, headerSize, labelsSize, arraySize, labelsStart, countsStart, nodesStart, longestTable, offsetOf}
 use Rattle.awhile.specs.Tables.{framed, lengthOfKind, readHeader, readLabels, readCount, readCounts, readNode, readNodes, readRecords}
 use Rattle.awhile.specs.Tables.{checkWhole, readTable}
 use Rattle.awhile.proofs.Cases.{counts-next, counts-refused, node-known, node-unknown, nodes-next, nodes-refused, table-read, table-refused}
+use Rattle.awhile.proofs.Versions.{mask-most}
 use Rattle.awhile.proofs.Records.{head-fits, sizes-most}
 use Rattle.awhile.proofs.Accepted.{HeaderFits, header-fits, RecordsRead, records-known}
 use Rattle.awhile.specs.declared.Header.{Header}
@@ -31,7 +32,7 @@ table-ends : {s : List ℕ} {t : Table} → RecordsRead s t → offsetOf t (leng
 unfolding offsetOf
 table-ends {s} {t} r =
     let all : take (length (t .nodes)) (t .nodes) ≡ t .nodes = take-length (t .nodes) in
-    omega (arith, ap (λ (ns : List Node). sum (map sizeOf ns)) all, sizes-most (t .nodes), r .declared .arraysFit, r .nodesFit)
+    omega (arith, ap (λ (ns : List Node). sum (map sizeOf ns)) all, sizes-most (t .nodes), mask-most (t .version), r .declared .arraysFit, r .nodesFit)
 
 module _ (s u : List ℕ) (left : longestTable < length s) (right : longestTable < length u)
     (same : (width at : ℕ) → at + width ≤ longestTable → leAt width s at ≡ leAt width u at) where
@@ -65,9 +66,11 @@ module _ (s u : List ℕ) (left : longestTable < length s) (right : longestTable
       framed-kind-same 1 headerSize 0 _ _ (omega arith) (omega arith)
       (rw (same 2 4 (omega arith), same 1 6 (omega arith), same 1 7 (omega arith), same 2 8 (omega arith)))
 
-  labels-same : (h : Header) (at : ℕ) → at + labelsSize ≤ longestTable → readLabels s h at ≡ readLabels u h at
+  labels-same : (h : Header) (at : ℕ) → at + labelsSize (h .version) ≤ longestTable → readLabels s h at ≡ readLabels u h at
   unfolding readLabels
-  labels-same h at room = framed-kind-same 3 labelsSize at _ _ (omega arith) room (rw (same 4 (at + 4) (omega arith), same 2 (at + 8) (omega arith)))
+  labels-same h at room =
+      let w = maskBytes (h .version) in
+      framed-kind-same 3 (labelsSize (h .version)) at _ _ (omega arith) room (rw (same w (at + 4) (omega arith), same 2 (at + 4 + w) (omega arith)))
 
   count-same : (at before : ℕ) → at + arraySize ≤ longestTable → readCount s at before ≡ readCount u at before
   unfolding readCount
@@ -121,17 +124,17 @@ module _ (s u : List ℕ) (left : longestTable < length s) (right : longestTable
   -- the rest of the reading, behind a header that fits
   abbrev behind : List ℕ → Header → Answer Table
   behind x h =
-      andThen (readLabels x h labelsStart) (λ l.
+      andThen (readLabels x h (labelsStart h)) (λ l.
       andThen (readCounts (h .arrays) x (countsStart h) []) (λ cs.
       andThen (readNodes (h .nodes) h x (nodesStart h) []) (λ ns.
-      got (record { variables = h .variables; labels = l; counts = cs; nodes = ns }))))
+      got (record { version = h .version; variables = h .variables; labels = l; counts = cs; nodes = ns }))))
 
   behind-same : (h : Header) → HeaderFits s h → behind s h ≡ behind u h
   behind-same h fits =
       rw (
-        labels-same h labelsStart (omega arith),
-        counts-same (h .arrays) (countsStart h) [] (omega (arith, fits .arraysFit)),
-        nodes-same h (h .nodes) (nodesStart h) [] (omega (arith, fits .arraysFit, fits .nodesFit)),
+        labels-same h (labelsStart h) (omega (arith, mask-most (h .version))),
+        counts-same (h .arrays) (countsStart h) [] (omega (arith, fits .arraysFit, mask-most (h .version))),
+        nodes-same h (h .nodes) (nodesStart h) [] (omega (arith, fits .arraysFit, fits .nodesFit, mask-most (h .version))),
       )
 
   records-same : readRecords s ≡ readRecords u

@@ -1,7 +1,7 @@
 -- A well-formed table reads back from its bytes.
 use Prim.Native.Nat.{ℕ, suc, _+_, _*_, _^_, _≤_, _<_}
-use native.Mathlib.Nat.{pow-le-pow-right, le-trans}
 use native.Mathlib.Omega.{arith}
+use mathlib.Core.Bool.{true}
 use mathlib.Core.Path.{_≡_, refl, ap, _∙_}
 use mathlib.Core.List.{List, [], _∷_, _++_, append-nil, flatMap}
 use lib.ListN.{length, getD, length-append}
@@ -13,12 +13,13 @@ use Rattle.bytes_le.proofs.Pieces.{Stands, stands-first, stands-second, stands-
 use Rattle.awhile.specs.Lists.{sum}
 use Rattle.awhile.specs.Refusals.{Answer, got, check, andThen}
 use Rattle.awhile.specs.Nodes.{form, sizeOf, nodeBytes, inRange}
-use Rattle.awhile.specs.Tables.{Table, headerOf, maxVariables, maxArrays, maxNodes, maxCells, headerSize, labelsSize, arraySize, labelsStart, countsStart, nodesStart, offsetOf}
+use Rattle.awhile.specs.Tables.{Table, headerOf, knownVersion, maskBytes, mostVariables, maxVariables, maxArrays, maxNodes, maxCells, headerSize, labelsSize, arraySize, labelsStart, countsStart, nodesStart, offsetOf}
 use Rattle.awhile.specs.Tables.{framed, lengthOfKind, readHeader, readLabels, readCount, readCounts, readNode, readNodes, readRecords}
 use Rattle.awhile.specs.Tables.{checkWhole, readTable}
 use Rattle.awhile.specs.Encoding.{headerBytes, labelsBytes, countBytes, tableBytes}
 use Rattle.awhile.specs.WellFormed.{WellFormed, NodeFits}
 use Rattle.awhile.proofs.Lists.{sum-append, length-flatMap}
+use Rattle.awhile.proofs.Versions.{mask-most, variables-most, known-small, mask-in-bytes}
 use Rattle.awhile.proofs.Records.{fields-fit, HeadAt, head-stands, node-stands, length-nodeBytes, size-least}
 use Rattle.awhile.proofs.Cases.{counts-next, node-known, nodes-next, table-read}
 use Rattle.awhile.proofs.Fitting.{FitAfter, fit-in-turn}
@@ -43,10 +44,10 @@ pub length-headerBytes : (h : Header) → length (headerBytes h) ≡ headerSize
 unfolding headerBytes
 length-headerBytes h = simp (length-append, length-le)
 
--- the labels record has 10 bytes
-pub length-labelsBytes : (l : Labelling) → length (labelsBytes l) ≡ labelsSize
+-- the labels record has 6 bytes and those of the variable mask
+pub length-labelsBytes : (v : ℕ) (l : Labelling) → length (labelsBytes v l) ≡ labelsSize v
 unfolding labelsBytes
-length-labelsBytes l = simp (length-append, length-le)
+length-labelsBytes v l = simp (length-append, length-le) (omega arith)
 
 -- ---- one record
 -- a record of the wanted length that is inside passes to its fields
@@ -66,17 +67,18 @@ framed-kind s at kind size body rest least head =
 
 module _ (s : List ℕ) where
   -- the header reads back
-  pub header-reads : (h : Header) → h .variables ≤ maxVariables → h .arrays ≤ maxArrays → 0 < h .nodes → h .nodes ≤ maxNodes
+  pub header-reads : (h : Header) → knownVersion (h .version) ≡ true → h .variables ≤ mostVariables (h .version) → h .arrays ≤ maxArrays → 0 < h .nodes → h .nodes ≤ maxNodes
       → Stands (headerBytes h) 0 s → readHeader s ≡ got h
   unfolding headerBytes readHeader check
-  header-reads h v a some n st =
+  header-reads h known v a some n st =
       let vs = h .variables in
       let arrs = h .arrays in
       let nodes = h .nodes in
-      let body : List ℕ = le 2 1 ++ (le 1 vs ++ (le 1 arrs ++ le 2 nodes)) in
+      let number = h .version in
+      let body : List ℕ = le 2 number ++ (le 1 vs ++ (le 1 arrs ++ le 2 nodes)) in
       let head : HeadAt s 0 headerSize 1 body = head-stands s 0 headerSize 1 body (simp (length-append, length-le) refl) (omega arith) (omega arith) st in
-      let version = stands-number s 2 1 (le 1 vs ++ (le 1 arrs ++ le 2 nodes)) 4 6 (omega arith) refl (head .bodyStands) in
-      let variables = stands-number s 1 vs (le 1 arrs ++ le 2 nodes) 6 7 (omega arith) refl (version .rest) in
+      let version = stands-number s 2 number (le 1 vs ++ (le 1 arrs ++ le 2 nodes)) 4 6 (omega (arith, known-small number known)) refl (head .bodyStands) in
+      let variables = stands-number s 1 vs (le 1 arrs ++ le 2 nodes) 6 7 (omega (arith, variables-most number vs v)) refl (version .rest) in
       let arrays = stands-number s 1 arrs (le 2 nodes) 7 8 (omega arith) refl (variables .rest) in
       framed-kind s 0 1 headerSize body _ (omega arith) head
       ∙ rw (
@@ -84,25 +86,29 @@ module _ (s : List ℕ) where
         variables .isNumber,
         arrays .isNumber,
         stands-le s 2 nodes 8 (omega arith) (arrays .rest),
-        le-leb vs 32 v,
+        known,
+        le-leb vs (mostVariables number) v,
         le-leb arrs 16 a,
         lt-ltb 0 nodes some,
         le-leb nodes 4096 n,
       )
 
   -- the labels record reads back
-  pub labels-read : (l : Labelling) (h : Header) (at : ℕ) → h .variables ≤ maxVariables → h .arrays ≤ maxArrays
+  pub labels-read : (l : Labelling) (h : Header) (at : ℕ) → h .variables ≤ mostVariables (h .version) → h .arrays ≤ maxArrays
       → l .variables < 2 ^ h .variables → l .arrays < 2 ^ h .arrays
-      → Stands (labelsBytes l) at s → readLabels s h at ≡ got l
+      → Stands (labelsBytes (h .version) l) at s → readLabels s h at ≡ got l
   unfolding labelsBytes readLabels check
   labels-read l h at v a vm am st =
-      let body : List ℕ = le 4 (l .variables) ++ le 2 (l .arrays) in
-      let head : HeadAt s at labelsSize 3 body = head-stands s at labelsSize 3 body (simp (length-append, length-le) refl) (omega arith) (omega arith) st in
-      let variables = stands-number s 4 (l .variables) (le 2 (l .arrays)) (at + 4) (at + 8) (le-trans vm (pow-le-pow-right (omega arith) v)) (omega arith) (head .bodyStands) in
-      framed-kind s at 3 labelsSize body _ (omega arith) head
+      let w = maskBytes (h .version) in
+      let size = labelsSize (h .version) in
+      let body : List ℕ = le w (l .variables) ++ le 2 (l .arrays) in
+      let most = mask-most (h .version) in
+      let head : HeadAt s at size 3 body = head-stands s at size 3 body (simp (length-append, length-le) (omega arith)) (omega arith) (omega (arith, most)) st in
+      let variables = stands-number s w (l .variables) (le 2 (l .arrays)) (at + 4) (at + 4 + w) (mask-in-bytes w (h .variables) (l .variables) v vm) (omega arith) (head .bodyStands) in
+      framed-kind s at 3 size body _ (omega arith) head
       ∙ rw (
         variables .isNumber,
-        stands-le s 2 (l .arrays) (at + 8) (le-trans am (pow-le-pow-right (omega arith) a)) (variables .rest),
+        stands-le s 2 (l .arrays) (at + 4 + w) (mask-in-bytes 2 (h .arrays) (l .arrays) a am) (variables .rest),
         lt-ltb (l .variables) (2 ^ h .variables) vm,
         lt-ltb (l .arrays) (2 ^ h .arrays) am,
       )
@@ -160,17 +166,17 @@ records-read t w s st =
     let d = w .declared in
     let h : Header = headerOf t in
     let header : List ℕ = headerBytes h in
-    let labels : List ℕ = labelsBytes (t .labels) in
+    let labels : List ℕ = labelsBytes (t .version) (t .labels) in
     let counts : List ℕ = flatMap countBytes (t .counts) in
     let nodes : List ℕ = flatMap nodeBytes (t .nodes) in
-    let fromLabels = stands-second s header (labels ++ (counts ++ nodes)) 0 labelsStart (omega (arith, length-headerBytes h)) st in
-    let fromCounts = stands-second s labels (counts ++ nodes) labelsStart (countsStart h) (ap (λ k. labelsStart + k) (length-labelsBytes (t .labels))) fromLabels in
+    let fromLabels = stands-second s header (labels ++ (counts ++ nodes)) 0 (labelsStart h) (omega (arith, length-headerBytes h)) st in
+    let fromCounts = stands-second s labels (counts ++ nodes) (labelsStart h) (countsStart h) (ap (λ k. labelsStart h + k) (length-labelsBytes (t .version) (t .labels))) fromLabels in
     let fromNodes = stands-second s counts nodes (countsStart h) (nodesStart h) (ap (λ k. countsStart h + k) (length-countsBytes (t .counts))) fromCounts in
     rw (
-      header-reads s h (d .variablesFit) (d .arraysFit) (w .hasNodes) (w .nodesFit) (stands-first s header (labels ++ (counts ++ nodes)) 0 st),
-      labels-read s (t .labels) h labelsStart (d .variablesFit) (d .arraysFit) (d .variableMaskFits) (d .arrayMaskFits) (stands-first s labels (counts ++ nodes) labelsStart fromLabels),
+      header-reads s h (d .versionKnown) (d .variablesFit) (d .arraysFit) (w .hasNodes) (w .nodesFit) (stands-first s header (labels ++ (counts ++ nodes)) 0 st),
+      labels-read s (t .labels) h (labelsStart h) (d .variablesFit) (d .arraysFit) (d .variableMaskFits) (d .arrayMaskFits) (stands-first s labels (counts ++ nodes) (labelsStart h) fromLabels),
       counts-read s (t .counts) [] (countsStart h) (d .countsPositive) (omega arith) (stands-first s counts nodes (countsStart h) fromCounts),
-      nodes-read s h (d .variablesFit) (d .arraysFit) (t .nodes) [] (nodesStart h) (omega arith) (fit-in-turn (t .variables) (length (t .counts)) (t .nodes) [] (w .eachFits)) fromNodes,
+      nodes-read s h (variables-most (t .version) (t .variables) (d .variablesFit)) (d .arraysFit) (t .nodes) [] (nodesStart h) (omega arith) (fit-in-turn (t .variables) (length (t .counts)) (t .nodes) [] (w .eachFits)) fromNodes,
     )
 
 -- a table's bytes end where its last record ends
@@ -178,7 +184,7 @@ pub length-tableBytes : (t : Table) → length (tableBytes t) ≡ offsetOf t (le
 unfolding tableBytes offsetOf
 length-tableBytes t =
     simp (length-append, take-length)
-    (omega (arith, length-headerBytes (headerOf t), length-labelsBytes (t .labels), length-countsBytes (t .counts), length-flatMap nodeBytes sizeOf length-nodeBytes (t .nodes)))
+    (omega (arith, length-headerBytes (headerOf t), length-labelsBytes (t .version) (t .labels), length-countsBytes (t .counts), length-flatMap nodeBytes sizeOf length-nodeBytes (t .nodes)))
 
 -- a well-formed table reads back from its bytes
 pub read-back : (t : Table) → WellFormed t → readTable (tableBytes t) ≡ got t

@@ -61,7 +61,7 @@ module _ {Note : Type 0} (t : Table) (c : Com Note) (e : t .nodes ≡ writeC 0 c
       let last : length (t .nodes) - 1 + 1 ≡ 0 + nodesOf c = omega (arith, written-length, order-some written-order) in
       ap asCommand (order-tree written-order [] (length (t .nodes) - 1) refl last)
 
-  module _ (declared : Declared (t .variables) (t .labels) (t .counts)) (within : Within (t .variables) (length (t .counts)) c) (few : nodesOf c ≤ maxNodes) where
+  module _ (declared : Declared (t .version) (t .variables) (t .labels) (t .counts)) (within : Within (t .variables) (length (t .counts)) c) (few : nodesOf c ≤ maxNodes) where
     -- the table is well-formed
     pub written-well-formed : WellFormed t
     written-well-formed =

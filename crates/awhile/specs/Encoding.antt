@@ -7,7 +7,7 @@ use Rattle.awhile.specs.Language.{AExp, number, variable, add, subtract,
 use Rattle.awhile.specs.Language.{BExp, constant, equal, less, not, and}
 use Rattle.awhile.specs.Language.{Com, skip, assign, sequence, if, while, read, write, mapNotes}
 use Rattle.awhile.specs.Nodes.{nodeBytes}
-use Rattle.awhile.specs.Tables.{Table, headerOf, headerSize, labelsSize, arraySize}
+use Rattle.awhile.specs.Tables.{Table, headerOf, maskBytes, headerSize, labelsSize, arraySize}
 use Rattle.awhile.specs.declared.Header.{Header}
 use Rattle.awhile.specs.declared.Labelling.{Labelling}
 use Rattle.awhile.specs.declared.Node.{Node}
@@ -110,10 +110,10 @@ module _ {Note : Type 0} where
 
 -- ---- the bytes of a table: header, labels, arrays, nodes
 unfoldable pub headerBytes : Header → List ℕ
-headerBytes h = le 2 headerSize ++ (le 2 1 ++ (le 2 1 ++ (le 1 (h .variables) ++ (le 1 (h .arrays) ++ le 2 (h .nodes)))))
+headerBytes h = le 2 headerSize ++ (le 2 1 ++ (le 2 (h .version) ++ (le 1 (h .variables) ++ (le 1 (h .arrays) ++ le 2 (h .nodes)))))
 
-unfoldable pub labelsBytes : Labelling → List ℕ
-labelsBytes l = le 2 labelsSize ++ (le 2 3 ++ (le 4 (l .variables) ++ le 2 (l .arrays)))
+unfoldable pub labelsBytes : (version : ℕ) → Labelling → List ℕ
+labelsBytes v l = le 2 (labelsSize v) ++ (le 2 3 ++ (le (maskBytes v) (l .variables) ++ le 2 (l .arrays)))
 
 unfoldable pub countBytes : ℕ → List ℕ
 countBytes n = le 2 arraySize ++ (le 2 2 ++ le 2 n)
@@ -121,4 +121,4 @@ countBytes n = le 2 arraySize ++ (le 2 2 ++ le 2 n)
 unfoldable pub tableBytes : Table → List ℕ
 tableBytes t =
     headerBytes (headerOf t)
-    ++ (labelsBytes (t .labels) ++ (flatMap countBytes (t .counts) ++ flatMap nodeBytes (t .nodes)))
+    ++ (labelsBytes (t .version) (t .labels) ++ (flatMap countBytes (t .counts) ++ flatMap nodeBytes (t .nodes)))

@@ -4,6 +4,7 @@ pub mod Lists
 pub mod Refusals
 pub mod Nodes
 pub mod Tables
+pub mod VersionOne
 pub mod Trees
 pub mod Standing
 pub mod Encoding

@@ -1,7 +1,7 @@
 -- Reading a table of bytes: its declarations and nodes, or the refusal of the first record that fails.
--- "The first failing record decides. Within it: 1 (head), 2, 1 (body), 3, 4, 5. Then 6, 7."
+-- "The first failing record decides. Within it: 1 (head), 2, 1 (body), 3, 4, 5. Then 6, 7, .."
 use Prim.Native.Nat.{ℕ, zero, suc, _+_, _*_, _^_, _<_}
-use mathlib.Core.Bool.{Bool, true, false, cond, _&&_}
+use mathlib.Core.Bool.{Bool, true, false, cond, _&&_, _||_}
 use mathlib.Core.Path.{_≡_}
 use mathlib.Core.List.{List, [], _∷_, _++_, map, flatMap}
 use lib.ListN.{length, getD, take}
@@ -19,9 +19,22 @@ use Rattle.awhile.specs.declared.Node.the-variants.{Skip}
 use Rattle.awhile.specs.declared.Decoded.the-variants.{Known, Unknown}
 use Rattle.awhile.specs.declared.Refusal.the-variants.{Cut, WrongRecord, BeyondLimit, OutOfRange, WrongSort, NotATree, ExtraBytes}
 
--- ---- the limits: "V is 0 to 32, A 0 to 16, N 1 to 4,096; a cell count is 1 or more and the counts sum to at most 16,384"
+-- ---- versions: "Version 2 tables and sheets carry 8-byte variable masks and declare up to 64 variables .. Version 1 files still read as
+-- before and keep their limit of 32."
+unfoldable pub knownVersion : ℕ → Bool
+knownVersion v = eqb v 1 || eqb v 2
+
+-- the bytes of a variable mask
+unfoldable pub maskBytes : (version : ℕ) → ℕ
+maskBytes v = cond (eqb v 1) 4 8
+
+-- a table declares no more variables than its mask of them has bits: 32 and 64
+abbrev pub mostVariables : (version : ℕ) → ℕ
+mostVariables v = 8 * maskBytes v
+
+-- ---- the limits: of variables, of any version; "A 0 to 16, N 1 to 4,096; a cell count is 1 or more and the counts sum to at most 16,384"
 abbrev pub maxVariables : ℕ
-maxVariables = 32
+maxVariables = 64
 
 abbrev pub maxArrays : ℕ
 maxArrays = 16
@@ -32,8 +45,9 @@ maxNodes = 4096
 abbrev pub maxCells : ℕ
 maxCells = 16384
 
--- ---- what a table holds: variables declared, the labels record, the arrays' cell counts, the nodes by number
+-- ---- what a table holds: its version, variables declared, the labels record, the arrays' cell counts, the nodes by number
 pub record Table : Type 0 where
+  pub version : ℕ
   pub variables : ℕ
   pub labels : Labelling
   pub counts : List ℕ
@@ -41,7 +55,7 @@ pub record Table : Type 0 where
 
 -- what its header says of it
 abbrev pub headerOf : Table → Header
-headerOf t = record { variables = t .variables; arrays = length (t .counts); nodes = length (t .nodes) }
+headerOf t = record { version = t .version; variables = t .variables; arrays = length (t .counts); nodes = length (t .nodes) }
 
 -- and all that it declares
 abbrev pub declarationsOf : Table → Declarations
@@ -51,18 +65,19 @@ declarationsOf t = record { header = headerOf t; cells = sum (t .counts); labels
 abbrev pub headerSize : ℕ
 headerSize = 10
 
-abbrev pub labelsSize : ℕ
-labelsSize = 10
+-- "record lengths grow by four where such a mask stands"
+abbrev pub labelsSize : (version : ℕ) → ℕ
+labelsSize v = 6 + maskBytes v
 
 abbrev pub arraySize : ℕ
 arraySize = 6
 
-abbrev pub labelsStart : ℕ
-labelsStart = headerSize
+abbrev pub labelsStart : Header → ℕ
+labelsStart h = headerSize
 
--- the first array; every header of version 1 places it alike
+-- the first array, behind the labels
 abbrev pub countsStart : Header → ℕ
-countsStart h = labelsStart + labelsSize
+countsStart h = labelsStart h + labelsSize (h .version)
 
 -- an array by its number
 abbrev pub countStart : Header → (array : ℕ) → ℕ
@@ -72,9 +87,13 @@ countStart h a = countsStart h + arraySize * a
 abbrev pub nodesStart : Header → ℕ
 nodesStart h = countStart h (h .arrays)
 
--- no table has more bytes: a node's record has at most 10
+-- no labels record has more bytes, of any version
+abbrev pub longestLabels : ℕ
+longestLabels = 14
+
+-- no table has more: a node's record has at most 10
 abbrev pub longestTable : ℕ
-longestTable = nodesStart (record { variables = maxVariables; arrays = maxArrays; nodes = maxNodes }) + 10 * maxNodes
+longestTable = headerSize + longestLabels + arraySize * maxArrays + 10 * maxNodes
 
 -- the byte offset of a node's record, and of the first byte after the last one
 unfoldable pub offsetOf : Table → (node : ℕ) → ℕ
@@ -93,19 +112,20 @@ framed s at wanted rest =
 unfoldable pub lengthOfKind : (kind size : ℕ) → List ℕ → (at : ℕ) → ℕ
 lengthOfKind kind size s at = cond (eqb (leAt 2 s (at + 2)) kind) size 0
 
--- kind 1: version (1), variables V (1 byte), arrays A (1 byte), nodes N
+-- kind 1: version, variables V (1 byte), arrays A (1 byte), nodes N
 unfoldable pub readHeader : List ℕ → Answer Header
 readHeader s =
     framed s 0 (lengthOfKind 1 headerSize s 0)
-    (check (eqb (leAt 2 s 4) 1 && leb (leAt 1 s 6) maxVariables && leb (leAt 1 s 7) maxArrays && ltb 0 (leAt 2 s 8) && leb (leAt 2 s 8) maxNodes) (BeyondLimit 0)
-    (got (record { variables = leAt 1 s 6; arrays = leAt 1 s 7; nodes = leAt 2 s 8 })))
+    (check (knownVersion (leAt 2 s 4) && leb (leAt 1 s 6) (mostVariables (leAt 2 s 4)) && leb (leAt 1 s 7) maxArrays && ltb 0 (leAt 2 s 8) && leb (leAt 2 s 8) maxNodes) (BeyondLimit 0)
+    (got (record { version = leAt 2 s 4; variables = leAt 1 s 6; arrays = leAt 1 s 7; nodes = leAt 2 s 8 })))
 
--- kind 3: variable mask (4 bytes), array mask; "bits from V or A up are 0"
+-- kind 3: variable mask (4 or 8 bytes), array mask; "bits from V or A up are 0"
 unfoldable pub readLabels : List ℕ → Header → (at : ℕ) → Answer Labelling
 readLabels s h at =
-    framed s at (lengthOfKind 3 labelsSize s at)
-    (check (ltb (leAt 4 s (at + 4)) (2 ^ h .variables) && ltb (leAt 2 s (at + 8)) (2 ^ h .arrays)) (BeyondLimit at)
-    (got (record { variables = leAt 4 s (at + 4); arrays = leAt 2 s (at + 8) })))
+    let w = maskBytes (h .version) in
+    framed s at (lengthOfKind 3 (labelsSize (h .version)) s at)
+    (check (ltb (leAt w s (at + 4)) (2 ^ h .variables) && ltb (leAt 2 s (at + 4 + w)) (2 ^ h .arrays)) (BeyondLimit at)
+    (got (record { variables = leAt w s (at + 4); arrays = leAt 2 s (at + 4 + w) })))
 
 -- kind 2: cell count, 1 or more; the counts so far, this one included, sum to at most 16,384
 unfoldable pub readCount : List ℕ → (at before : ℕ) → Answer ℕ
@@ -148,10 +168,10 @@ readNodes (suc left) h s at before =
 unfoldable pub readRecords : List ℕ → Answer Table
 readRecords s =
     andThen (readHeader s) (λ h.
-    andThen (readLabels s h labelsStart) (λ l.
+    andThen (readLabels s h (labelsStart h)) (λ l.
     andThen (readCounts (h .arrays) s (countsStart h) []) (λ cs.
     andThen (readNodes (h .nodes) h s (nodesStart h) []) (λ ns.
-    got (record { variables = h .variables; labels = l; counts = cs; nodes = ns })))))
+    got (record { version = h .version; variables = h .variables; labels = l; counts = cs; nodes = ns })))))
 
 -- ---- the nodes as one tree
 -- how often a node is a child

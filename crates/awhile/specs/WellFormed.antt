@@ -11,7 +11,7 @@ use Rattle.awhile.specs.Language.{Com, skip, assign, sequence, if, while
 use Rattle.awhile.specs.Lists.{sum, all}
 use Rattle.awhile.specs.Nodes.{Field, form, inRange, sorted}
 use Rattle.awhile.specs.Nodes.{word as wordField, constant as constantField, variable as variableField, array as arrayField, child as childField}
-use Rattle.awhile.specs.Tables.{Table, maxVariables, maxArrays, maxNodes, maxCells, allInOrder}
+use Rattle.awhile.specs.Tables.{Table, knownVersion, mostVariables, maxArrays, maxNodes, maxCells, allInOrder}
 use Rattle.awhile.specs.declared.Labelling.{Labelling}
 use Rattle.awhile.specs.declared.Node.{Node}
 use Rattle.awhile.specs.declared.Node.the-variants.{Skip}
@@ -31,9 +31,10 @@ pub record NodeFits (variables arrays : ℕ) (before : List Node) (n : Node) : T
   pub wellSorted : sorted before n ≡ true
   pub wordsFit : all wordFits (form n .fields) ≡ true
 
--- ---- declarations: variables, labels and cell counts within the limits
-pub record Declared (variables : ℕ) (labels : Labelling) (counts : List ℕ) : Type 0 where
-  pub variablesFit : variables ≤ maxVariables
+-- ---- declarations: version, variables, labels and cell counts within the limits
+pub record Declared (version variables : ℕ) (labels : Labelling) (counts : List ℕ) : Type 0 where
+  pub versionKnown : knownVersion version ≡ true
+  pub variablesFit : variables ≤ mostVariables version
   pub arraysFit : length counts ≤ maxArrays
   pub variableMaskFits : labels .variables < 2 ^ variables
   pub arrayMaskFits : labels .arrays < 2 ^ length counts
@@ -42,7 +43,7 @@ pub record Declared (variables : ℕ) (labels : Labelling) (counts : List ℕ) :
 
 -- ---- tables
 pub record WellFormed (t : Table) : Type 0 where
-  pub declared : Declared (t .variables) (t .labels) (t .counts)
+  pub declared : Declared (t .version) (t .variables) (t .labels) (t .counts)
   pub hasNodes : 0 < length (t .nodes)
   pub nodesFit : length (t .nodes) ≤ maxNodes
   pub eachFits : (i : ℕ) → i < length (t .nodes) → NodeFits (t .variables) (length (t .counts)) (take i (t .nodes)) (getD (t .nodes) i Skip)

@@ -1,6 +1,6 @@
 // The language AWHILE as a table of records: what a record can be, and why a table is refused.
-// The limits of document 01.
-pub const MAX_VARIABLES: usize = 32;
+// The limits of document 01, and of document 02 on variables: a version 1 table declares fewer.
+pub const MAX_VARIABLES: usize = 64;
 
 pub const MAX_ARRAYS: usize = 16;
 
@@ -100,8 +100,9 @@ pub struct Labelling {
     pub arrays: u16,
 }
 
-// What a table's header says: how many variables, arrays and nodes there are.
+// What a table's header says: its version, and how many variables, arrays and nodes there are.
 pub struct Header {
+    pub version: usize,
     pub variables: usize,
     pub arrays: usize,
     pub nodes: usize,

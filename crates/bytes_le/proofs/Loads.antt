@@ -1,10 +1,10 @@
 -- A number in a list of bytes, byte by byte and in two parts: what code that reads it computes.
-use Prim.Native.Nat.{ℕ, suc, _+_, _*_, _≤_}
+use Prim.Native.Nat.{ℕ, zero, suc, _+_, _*_, _^_, _≤_}
 use native.Mathlib.Numerals.{add-one}
-use native.Mathlib.Nat.{add-assoc}
+use native.Mathlib.Nat.{add-assoc, add-zero, zero-add, suc-add, pow-suc, mul-comm, mul-assoc}
 use native.Mathlib.Omega.{arith}
 use mathlib.Core.Bool.{Bool, true, false}
-use mathlib.Core.Path.{_≡_, refl}
+use mathlib.Core.Path.{_≡_, refl, ap, _∙_}
 use mathlib.Core.List.{List}
 use lib.Dec.{ltb}
 use borrow.Author.Tests.{ltb-true, ltb-false}
@@ -44,3 +44,15 @@ module _ (s : List ℕ) where
       let second : leAt 3 s (at + 1) ≡ getD s (at + 1) 0 + 256 * leAt 2 s (at + 2) = rw (add-assoc at 1 1) at (leAt-next 2 (at + 1)) in
       let third : leAt 2 s (at + 2) ≡ getD s (at + 2) 0 + 256 * getD s (at + 3) 0 = rw (add-assoc at 2 1) at (leAt-two (at + 2)) in
       omega (arith, leAt-next 3 at)
+
+  -- in two parts of any widths
+  pub leAt-parts : (low high at : ℕ) → leAt (low + high) s at ≡ leAt low s at + 256 ^ low * leAt high s (at + low)
+  unfolding leAt fromLe
+  leAt-parts zero high at = rw (zero-add high, add-zero at) (omega arith)
+  leAt-parts (suc low) high at =
+      let rest = leAt-parts low high (at + 1) in
+      let place : at + 1 + low ≡ at + suc low = omega arith in
+      let whole : leAt (suc low + high) s at ≡ getD s at 0 + 256 * leAt (low + high) s (at + 1) = rw (suc-add low high) (leAt-next (low + high) at) in
+      let scaled : 256 ^ suc low * leAt high s (at + suc low) ≡ 256 * (256 ^ low * leAt high s (at + suc low)) =
+      ap (λ k. k * leAt high s (at + suc low)) (pow-suc 256 low ∙ mul-comm (256 ^ low) 256) ∙ mul-assoc 256 (256 ^ low) (leAt high s (at + suc low)) in
+      omega (arith, whole, leAt-next low at, rw place at rest, scaled)

@@ -2,7 +2,7 @@
 use Prim.Native.Nat.{ℕ, zero, suc, _+_, _*_, _/_, _%_, _^_, _<_}
 use native.Mathlib.Nat.{pow-suc, one-le-pow, add-zero, zero-add, suc-add, mul-comm, mul-assoc, mod-lt, mod-add-div}
 use native.Mathlib.Omega.{arith}
-use mathlib.Core.Path.{_≡_, sym, ap, _∙_}
+use mathlib.Core.Path.{_≡_, refl, sym, ap, _∙_}
 use mathlib.Core.List.{List, [], _∷_, _++_}
 use lib.ListN.{length, set}
 use lib.Seq.{sets}
@@ -39,3 +39,18 @@ store-parts low high n l at =
     ∙ ap (sets l at) (le-parts low high (n % 256 ^ low) (n / 256 ^ low) (mod-lt n (one-le-pow low 256 (omega arith))))
     ∙ sets-append (le low (n % 256 ^ low)) (le high (n / 256 ^ low)) l at
     ∙ ap (λ k. sets (sets l at (le low (n % 256 ^ low))) (at + k) (le high (n / 256 ^ low))) (length-le low (n % 256 ^ low)))
+
+-- bytes do not see what lies above them
+le-above : (width a b : ℕ) → le width (a + 256 ^ width * b) ≡ le width a
+unfolding le
+le-above zero a b = refl
+le-above (suc width) a b =
+    let upper : ℕ = 256 ^ width * b in
+    let whole : a + 256 ^ suc width * b ≡ a + 256 * upper = rw (pow-suc, mul-comm (256 ^ width) 256, mul-assoc) in
+    let first : (a + 256 * upper) % 256 ≡ a % 256 = omega arith in
+    let rest : (a + 256 * upper) / 256 ≡ a / 256 + upper = omega arith in
+    rw (whole, first, rest, le-above width (a / 256) b)
+
+-- the four lowest bytes of a number are those of its remainder
+pub le-four : (n : ℕ) → le 4 (n % 4294967296) ≡ le 4 n
+le-four n = sym (le-above 4 (n % 4294967296) (n / 4294967296)) ∙ ap (le 4) (mod-add-div n 4294967296)

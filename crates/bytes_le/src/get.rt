@@ -1,6 +1,6 @@
-// Numbers read from bytes. `byte_at`, `u16_at` and `u32_at` are total: bytes past the end count as 0. `whole_u16` and `whole_u32` test nothing,
-// for callers that know that the number is there.
-ghost use Prim.Native.Nat.{_+_, _-_, _*_, _<_, _≤_};
+// Numbers read from bytes. `byte_at`, `u16_at`, `u32_at` and `u64_at` are total: bytes past the end count as 0. `whole_u16` and `whole_u32` test
+// nothing, for callers that know that the number is there.
+ghost use Prim.Native.Nat.{_+_, _-_, _*_, _^_, _<_, _≤_};
 ghost use mathlib.Core.Path.{_≡_};
 ghost use lib.ListN.{length};
 ghost use Rattle.bytes_le.specs.Numbers.{leAt};
@@ -74,4 +74,14 @@ pub fn u32_at(s: &[u8], at: usize) -> u32
     }
     // at most the lower half is there
     u16_at(s, at) as u32
+}
+
+// The 8-byte number at an offset: its lower and its upper half.
+pub fn u64_at(s: &[u8], at: usize) -> u64
+    requires { ⌜ at + 8 < 2 ^ 64 ⌝ }
+    ensures { λ r. ⌜ r ≡ leAt 8 (now (s .entry)) at ⌝ }
+{
+    let low = u32_at(s, at);
+    let high = u32_at(s, at + 4);
+    (low as u64) + 4294967296 * (high as u64)
 }

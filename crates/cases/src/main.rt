@@ -161,7 +161,7 @@ fn play() {
     let table_length = fill(&mut table);
     let mut list = [170u8; 4096];
     let list_length = fill(&mut list);
-    let mut variables = [170u8; 256];
+    let mut variables = [170u8; 320];
     let variables_length = fill(&mut variables);
     let mut cells = [170u8; 65600];
     let cells_length = fill(&mut cells);

@@ -1,5 +1,5 @@
 -- Which cell a shown step uses under a directive and what it changes, as the code has it: cells by their places, words in bytes.
-use Prim.Native.Nat.{ℕ, _*_, _≤_}
+use Prim.Native.Nat.{ℕ, _+_, _*_, _≤_}
 use mathlib.Core.Bool.{Bool, cond}
 use mathlib.Core.Path.{_≡_}
 use mathlib.Core.Option.{Option, none, some}
@@ -21,11 +21,15 @@ use Rattle.directives.specs.declared.fit.Target.{Target}
 use Rattle.directives.specs.declared.fit.Target.the-variants.{Own, Named, Neither}
 use Rattle.directives.specs.declared.fit.Fit.{Fit}
 use Rattle.directives.specs.declared.fit.Fit.the-variants.{Goes, Forced, Unfit}
+use Rattle.awhile.specs.Tables.{maxArrays}
 
--- a list that says where each array's cells begin: entry a for array a, up to the end of the sixteenth array there could be
+-- a list that says where each array's cells begin: entry a for array a, up to the end of the last array that there could be
+abbrev pub startsLength : ℕ
+startsLength = maxArrays + 1
+
 pub record Starts (counts starts : List ℕ) : Type 0 where
-  pub few : length counts ≤ 16
-  pub begins : (a : ℕ) → a ≤ 16 → getD starts a 0 ≡ sum (take a counts)
+  pub few : length counts ≤ maxArrays
+  pub begins : (a : ℕ) → a ≤ maxArrays → getD starts a 0 ≡ sum (take a counts)
 
 -- a cell, if there is one, as the code has it
 unfoldable pub found : Option ℕ → Cell

@@ -11,7 +11,7 @@ ghost use mathlib.Core.Bool.{cond};
 ghost use mathlib.Core.Path.{_≡_};
 ghost use mathlib.Core.List.{List};
 ghost use lib.ListN.{length};
-ghost use Rattle.directives.specs.Fitting.{Starts, found, loadTarget, storeTarget, ownOr, cellFor, forkFit, loadFit, storeFit, fitOf};
+ghost use Rattle.directives.specs.Fitting.{startsLength, Starts, found, loadTarget, storeTarget, ownOr, cellFor, forkFit, loadFit, storeFit, fitOf};
 
 // The cell that a directive asks for: the program's own, another one by name, or none because it does not fit here.
 pub enum Target {
@@ -60,7 +60,7 @@ fn store_target(directive: Directive) -> Target
 // The cell that a read or write uses, if its directive fits: its own where that exists, whatever the directive names; else the named one,
 // and only with the flag set.
 fn cell_for(starts: &[u16], flag: bool, array: usize, index: u32, target: Target) -> Cell
-    requires { ⌜ length (now starts) ≡ 17 ⌝ }
+    requires { ⌜ length (now starts) ≡ startsLength ⌝ }
     ensures { λ r. ⌜ ((counts : List ℕ) → Starts counts (now (starts .entry)) → r ≡ found (cellFor counts flag array index target)) ⌝ }
 {
     let own = cell_at(starts, array, index);
@@ -97,7 +97,7 @@ fn side(value: bool, yes: Back, no: Back) -> Back
     if value { yes } else { no }
 }
 
-// "73 force, at a branch, goes the other way and sets the flag."
+// "73 force, at a branch, goes the other way and sets the flag"
 fn fork_fit(value: bool, yes: Back, no: Back, directive: Directive) -> Fit
     ensures { λ r. ⌜ r ≡ forkFit value yes no directive ⌝ }
 {
@@ -151,7 +151,7 @@ fn store_fit(value: u32, cell: Cell) -> Fit
 
 // What a shown step does under a directive.
 pub fn fitting(starts: &[u16], cells: &[u8], flag: bool, shown: Shown, directive: Directive) -> Fit
-    requires { ⌜ length (now starts) ≡ 17 ⌝ }
+    requires { ⌜ length (now starts) ≡ startsLength ⌝ }
     ensures { λ r. ⌜ ((counts : List ℕ) → Starts counts (now (starts .entry)) → r ≡ fitOf counts (now (cells .entry)) flag shown directive) ⌝ }
 {
     match shown {

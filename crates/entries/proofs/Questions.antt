@@ -19,6 +19,7 @@ use Rattle.labels.proofs.Rules.{analysis-is-least}
 use Rattle.machine.specs.Memory.{writtenOver}
 use Rattle.entries.specs.Answers.{answered}
 use Rattle.entries.specs.Writing.{writtenAll, writing, askedIn, questionsEntry}
+use Rattle.awhile.proofs.VersionOne.{reads-as-before}
 use Rattle.entries.specs.Promises.{writtenAt, AnswersInto, AnswersQuestions}
 use Rattle.entries.proofs.Written.{writing-zero, answers-zero}
 
@@ -90,4 +91,4 @@ answers-into table s buffer answer bytes zero =
 pub entry-answers : {table s buffer answer buffer′ answer′ : List ℕ} {k : ℕ} → Below 256 table
     → writtenAt k buffer′ answer′ ≡ questionsEntry table s buffer answer → AnswersQuestions table s buffer answer k buffer′ answer′
 entry-answers {table} {s} {buffer} {answer} bytes w =
-    record { writes = w; tells = λ e. subst (AnswersInto table s answer) (sym w) (answers-into table s buffer answer bytes (answers-zero w e)) }
+    record { older = reads-as-before table; writes = w; tells = λ e. subst (AnswersInto table s answer) (sym w) (answers-into table s buffer answer bytes (answers-zero w e)) }

@@ -20,6 +20,7 @@ use Rattle.machine.proofs.Saving.{flag-while-open, eight-open}
 use Rattle.entries.specs.Answers.{answered}
 use Rattle.entries.specs.Running.{Lent, notRun, ranAll, runIn}
 use Rattle.entries.specs.Rolling.{RanSaving, savingFor, notRunSaving, ranSaving, savingRun, rollbackWith, rollbackEntry}
+use Rattle.awhile.proofs.VersionOne.{reads-as-before}
 use Rattle.entries.specs.Promises.{ranSavingAt, OpenSaves, RollsBack}
 use Rattle.entries.proofs.Accepted.{refusal-not-zero, saving-for}
 
@@ -72,6 +73,7 @@ pub entry-rolls-back : {table directives saves answer : List ℕ} {lent : Lent} 
 unfolding rollbackEntry
 entry-rolls-back {table} {directives} {saves} {answer} {lent} {budget} w =
     record {
+      older = reads-as-before table;
       rolls = w;
       flags =
           λ zero.

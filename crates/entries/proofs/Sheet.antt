@@ -11,6 +11,7 @@ use Rattle.awhile.specs.Trees.{rootOf}
 use Rattle.labels.specs.Sheet.{annotated, finalLabels, sheetBytes}
 use Rattle.labels.proofs.Rules.{analysis-is-least}
 use Rattle.entries.specs.Writing.{writtenAll, sheetEntry}
+use Rattle.awhile.proofs.VersionOne.{reads-as-before}
 use Rattle.entries.specs.Promises.{writtenAt, SheetInto, Sheets}
 use Rattle.entries.proofs.Written.{front, writing-zero, answers-zero}
 
@@ -44,4 +45,4 @@ sheet-into s buffer answer zero =
 -- THE PROMISE of the sheet entry: an entry that writes as it is defined to leaves the least labels where it answers 0
 pub entry-sheets : {s buffer answer buffer′ answer′ : List ℕ} {k : ℕ} → writtenAt k buffer′ answer′ ≡ sheetEntry s buffer answer → Sheets s buffer answer k buffer′ answer′
 entry-sheets {s} {buffer} {answer} w =
-    record { writes = w; labels = λ e. subst (SheetInto s answer) (sym w) (sheet-into s buffer answer (answers-zero w e)) }
+    record { older = reads-as-before s; writes = w; labels = λ e. subst (SheetInto s answer) (sym w) (sheet-into s buffer answer (answers-zero w e)) }

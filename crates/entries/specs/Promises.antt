@@ -1,6 +1,6 @@
 -- WHAT THE SIX ENTRIES PROMISE, on any bytes: the result, each lent slice and the answer slice at exit, by an equation with the entry's
 -- definition; of a label sheet and of answers to questions, that the labels are the least; of a table that was hardened, the demands; and of a run
--- that rolls back, which saves are open.
+-- that rolls back, which saves are open. Each says besides that a file which does not say version 2 reads as document 01 has it (`older`).
 -- Nothing is left free, the place of a refusal by 6 no more than any other (awhile/proofs/Lowest says whose record it is).
 use Prim.Native.Nat.{ℕ, _*_, _<_, _≤_}
 use mathlib.Core.Bool.{false, cond}
@@ -11,6 +11,7 @@ use lib.ListN.{length, getD, take}
 use Rattle.awhile.specs.Language.{Com}
 use Rattle.awhile.specs.Refusals.{got}
 use Rattle.awhile.specs.Tables.{Table, readTable}
+use Rattle.awhile.specs.VersionOne.{ReadsAsBefore}
 use Rattle.awhile.specs.Trees.{rootOf}
 use Rattle.awhile.specs.declared.Labelling.{Labelling}
 use Rattle.labels.specs.Annotation.{Entry}
@@ -19,7 +20,7 @@ use Rattle.labels.specs.Sheet.{sheetOf}
 use Rattle.labels.specs.Questions.{maxQuestions, pairAt, questionAt, TellsLabel}
 use Rattle.machine.specs.Steps.{State}
 use Rattle.machine.specs.Directives.{readRollingDirectives}
-use Rattle.machine.specs.Runs.{rolling, someOpen}
+use Rattle.machine.specs.Runs.{maxSaves, rolling, someOpen}
 use Rattle.machine.specs.Memory.{savesAfter}
 use Rattle.machine.specs.declared.Directive.{Directive}
 use Rattle.masks.specs.Hardening.{hardenedProgram}
@@ -60,10 +61,11 @@ pub record SheetInto (table answer : List ℕ) (exit : Written) : Type 0 where
   -- how many bytes were written, as the answer says, and so many bytes of the buffer at exit are the sheet of this annotation
   pub size : ℕ
   pub answers : exit .answer ≡ answered (0 ∷ size ∷ []) answer
-  pub sheet : take size (exit .buffer) ≡ sheetOf (length (original .nodes)) annotation final
+  pub sheet : take size (exit .buffer) ≡ sheetOf (original .version) (length (original .nodes)) annotation final
 
 -- THE PROMISE of the sheet entry: all that stands at exit, by an equation; and where it answers 0, the least labels
 pub record Sheets (table sheet answer : List ℕ) (result : ℕ) (sheet′ answer′ : List ℕ) : Type 0 where
+  pub older : ReadsAsBefore table
   pub writes : writtenAt result sheet′ answer′ ≡ sheetEntry table sheet answer
   pub labels : result ≡ 0 → SheetInto table answer (writtenAt result sheet′ answer′)
 
@@ -90,6 +92,7 @@ pub record AnswersInto (table questions answer : List ℕ) (exit : Written) : Ty
 
 -- THE PROMISE of the questions entry: all that stands at exit, by an equation; and where it answers 0, the least labels, each pair as if it were asked alone
 pub record AnswersQuestions (table questions labels answer : List ℕ) (result : ℕ) (labels′ answer′ : List ℕ) : Type 0 where
+  pub older : ReadsAsBefore table
   pub writes : writtenAt result labels′ answer′ ≡ questionsEntry table questions labels answer
   pub tells : result ≡ 0 → AnswersInto table questions answer (writtenAt result labels′ answer′)
 
@@ -109,18 +112,29 @@ pub record HardenedInto (table answer : List ℕ) (exit : Written) : Type 0 wher
   -- P5: "A user of this machine gets from a hardened program what demand 3 gives on the forward one": of calls of the rollback machine's entry
   pub callsRolling : CallsShowTheSame flowRollback (original .labels) original (take size (exit .buffer))
 
--- THE PROMISE of the hardening entry: all that stands at exit, by an equation; and where it answers 0, the demands
+-- What a caller of the hardening entry has where it answers 9, from the table's bytes: "Refusal 9 now means 64 variables", so no version 1 table gets it
+pub record NoneFree (table : List ℕ) : Type 0 where
+  pub original : Table
+  pub reads : readTable table ≡ got original
+  pub variables : original .variables ≡ 64
+  pub version : original .version ≡ 2
+
+-- THE PROMISE of the hardening entry: all that stands at exit, by an equation; where it answers 0, the demands; and where it answers 9, 64 variables
 pub record Hardens (table out answer : List ℕ) (result : ℕ) (out′ answer′ : List ℕ) : Type 0 where
+  pub older : ReadsAsBefore table
   pub writes : writtenAt result out′ answer′ ≡ hardenEntry table out answer
   pub demands : result ≡ 0 → HardenedInto table answer (writtenAt result out′ answer′)
+  pub noneFree : result ≡ 9 → NoneFree table
 
 -- ---- the entries that run a table
 -- THE PROMISE of the plain machine's entry: all that stands at exit, by an equation
 pub record Runs (table : List ℕ) (lent : Lent) (budget : ℕ) (answer : List ℕ) (result : ℕ) (lent′ : Lent) (answer′ : List ℕ) : Type 0 where
+  pub older : ReadsAsBefore table
   pub runs : ranAt result lent′ answer′ ≡ runEntry table lent budget answer
 
 -- THE PROMISE of the guessing machine's entry: the same
 pub record Guesses (table directives : List ℕ) (lent : Lent) (budget : ℕ) (answer : List ℕ) (result : ℕ) (lent′ : Lent) (answer′ : List ℕ) : Type 0 where
+  pub older : ReadsAsBefore table
   pub guesses : ranAt result lent′ answer′ ≡ guessEntry table directives lent budget answer
 
 -- What a caller of the rollback machine's entry has where it answers 0, from the table's bytes, the list, the lent slices, the budget and the
@@ -134,7 +148,7 @@ pub record OpenSaves (table directives : List ℕ) (lent : Lent) (saves : List �
   -- the saves that the run leaves open, the newest first: "at most eight are"
   pub saved : List (State ℕ)
   pub left : saved ≡ runIn original lent budget (rolling script) .machine .saves
-  pub eight : length saved ≤ 8
+  pub eight : length saved ≤ maxSaves
   -- so many places of the save words hold them, and the rest of the eight is zeros
   pub places : exit .saves ≡ savesAfter (length (original .nodes)) (saveSize original) saved saves
   -- "The flag is set exactly while a save is open": so the answer says, between the bytes shown and the next node
@@ -148,5 +162,6 @@ pub record OpenSaves (table directives : List ℕ) (lent : Lent) (saves : List �
 -- THE PROMISE of the rollback machine's entry: the same, and the save slice; and where it answers 0, that its flag tells whether a save is open
 pub record RollsBack (table directives : List ℕ) (lent : Lent) (saves : List ℕ) (budget : ℕ) (answer : List ℕ)
     (result : ℕ) (lent′ : Lent) (saves′ answer′ : List ℕ) : Type 0 where
+  pub older : ReadsAsBefore table
   pub rolls : ranSavingAt result lent′ saves′ answer′ ≡ rollbackEntry table directives lent saves budget answer
   pub flags : result ≡ 0 → OpenSaves table directives lent saves budget answer (ranSavingAt result lent′ saves′ answer′)

@@ -10,7 +10,7 @@ use Rattle.awhile.specs.Tables.{Table, readTable}
 use Rattle.awhile.specs.declared.Refusal.{Refusal}
 use Rattle.awhile.specs.declared.Refusal.the-variants.{BadDirectives, ShortSaves}
 use Rattle.machine.specs.Directives.{readRollingDirectives}
-use Rattle.machine.specs.Runs.{Guide, rolling, Outcome}
+use Rattle.machine.specs.Runs.{Guide, rolling, Outcome, maxSaves}
 use Rattle.machine.specs.Memory.{savesAfter}
 use Rattle.machine.specs.declared.Directive.{Directive}
 use Rattle.entries.specs.Running.{Lent, Ran, notRun, lentFor, ranAll, runIn}
@@ -26,7 +26,7 @@ saveSize t = t .variables + (sum (t .counts) + length (t .nodes))
 
 -- 24: "after 22, where the lent save words number fewer than eight times V, cells and N together"; a word has 4 bytes
 unfoldable pub savingFor : Lent → (saves : List ℕ) → Table → Answer Table
-savingFor lent saves t = andThen (lentFor lent t) (λ u. check (leb (32 * saveSize u) (length saves)) ShortSaves (got u))
+savingFor lent saves t = andThen (lentFor lent t) (λ u. check (leb (4 * maxSaves * saveSize u) (length saves)) ShortSaves (got u))
 
 -- "All lent memory is unchanged."
 unfoldable pub notRunSaving : Refusal → Lent → (saves answer : List ℕ) → RanSaving

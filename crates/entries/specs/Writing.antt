@@ -49,7 +49,7 @@ askedIn s t = check (answerable t s) BadQuestions (got (answerBytes t (t .labels
 unfoldable pub questionsEntry : (table questions labels answer : List ℕ) → Written
 questionsEntry table questions labels answer = writing (andThen (readTable table) (askedIn questions)) labels answer
 
--- 8: hardening with N above 512; 9: hardening with V = 32
+-- 8: hardening with N above 512; 9: hardening with V = 64 ("Refusal 9 now means 64 variables")
 unfoldable pub hardenedIn : Table → Answer (List ℕ)
 hardenedIn t =
     check (leb (length (t .nodes)) maxHardened) TooManyNodes

@@ -1,35 +1,35 @@
 -- The hardened table written record by record: array counts one behind the other, then the whole.
-use Prim.Native.Nat.{ℕ, suc, _+_, _-_, _*_, _^_, _≤_, _<_}
+use Prim.Native.Nat.{ℕ, suc, _+_, _-_, _*_, _≤_, _<_}
 use native.Mathlib.Numerals.{add-one}
 use native.Mathlib.Omega.{arith}
 use mathlib.Core.List.{List, [], _∷_, _++_, flatMap, append-nil}
 use mathlib.Core.Path.{_≡_, refl, sym, ap, subst, _∙_}
 use lib.ListN.{length, getD, set, take, length-append, length-take, length-drop}
-use lib.Pow.{pow-mono}
 use lib.Seq.{sets, set-comm, length-sets, take-suc, length-take-le}
 use Rattle.bytes_le.specs.Numbers.{le, leAt}
-use Rattle.bytes_le.proofs.Numbers.{Below}
+use Rattle.bytes_le.proofs.Numbers.{Below, length-le}
 use Rattle.bytes_le.proofs.Stores.{sets-append}
 use Rattle.awhile.specs.Language.{Com}
 use Rattle.awhile.specs.Encoding.{nodesOf, countBytes, headerBytes, labelsBytes, tableBytes, writeC}
 use Rattle.awhile.specs.Nodes.{sortOf, nodeBytes}
-use Rattle.awhile.specs.Tables.{Table, headerOf, maxVariables, maxArrays, maxNodes, headerSize, labelsSize, labelsStart, countsStart, countStart, nodesStart}
+use Rattle.awhile.specs.Tables.{Table, headerOf, maxVariables, maxArrays, maxNodes, maskBytes, labelsSize, headerSize, countsStart, countStart, nodesStart}
 use Rattle.awhile.specs.WellFormed.{Declared}
 use Rattle.awhile.specs.declared.Declarations.{Declarations}
 use Rattle.awhile.specs.declared.Header.{Header}
 use Rattle.awhile.specs.declared.Labelling.{Labelling}
-use Rattle.reader.specs.Index.{HasHeader, tableOf, nodesIn, nodeIn, commandIn}
+use Rattle.reader.specs.Index.{HasHeader, tableOf, versionIn, nodesIn, nodeIn, commandIn}
 use Rattle.reader.proofs.Index.{indexed-root, indexed-root-sort, indexed-some, indexed-well-formed}
-use Rattle.reader.proofs.Ready.{header-arrays, header-few-arrays, header-count, ready-header, ready-variables, ready-nodes, ready-labels}
+use Rattle.reader.proofs.Ready.{header-version, header-arrays, header-few-arrays, header-count, ready-header, ready-variables, ready-nodes, ready-labels}
 use Rattle.awhile.proofs.Lists.{flatMap-append}
+use Rattle.awhile.proofs.Versions.{declared-variables}
 use Rattle.awhile.proofs.Reading.{length-headerBytes, length-labelsBytes, length-countBytes, length-countsBytes}
 use Rattle.masks.specs.Decisions.{Decision}
 use Rattle.masks.specs.Growth.{MasksLargeConditions}
-use Rattle.masks.specs.Hardening.{Origin, hardenedProgram, tableOfHardened, hardenedTable}
+use Rattle.masks.specs.Hardening.{Origin, versionFor, hardenedProgram, tableOfHardened, hardenedTable}
 use Rattle.deciding.specs.Deciding.{decisionIn, decidedIn}
 use Rattle.masking.specs.InMemory.{hardenedAt, Hardenable}
 use Rattle.masking.proofs.DecidedProgram.{program-hardened, program-large}
-use Rattle.hardener.specs.Output.{Measurable, Writable, WroteTable}
+use Rattle.hardener.specs.Output.{hardenedHeader, Measurable, Writable, WroteTable}
 use Rattle.hardener.specs.Sizes.{Sizable, AllSized}
 use Rattle.copier.specs.Sizes.{bytesOf}
 use Rattle.copier.specs.Totals.{bytesTold}
@@ -58,16 +58,17 @@ count-record : (n : ℕ) → recordBytes (One 2 n) ≡ countBytes n
 unfolding recordBytes countBytes le
 count-record n = refl
 
--- the record of array a, written into the rest from its place on
-pub counts-step : {s : List ℕ} {header : Header} → Below 256 s → HasHeader s header → (a at r : ℕ) → a < header .arrays → at ≡ countStart header a → r ≡ leAt 2 s (at + 4)
-    → (l m rest : List ℕ) → nodesStart header ≤ length l → m ≡ sets l (countsStart header) (flatMap countBytes (take a (tableOf s .counts)))
+-- the record of array a, read at one place and written into the rest from another on
+pub counts-step : {s : List ℕ} {header : Header} (to : Header) → Below 256 s → HasHeader s header → to .arrays ≡ header .arrays → (a from at r : ℕ) → a < header .arrays
+    → from ≡ countStart header a → at ≡ countStart to a → r ≡ leAt 2 s (from + 4)
+    → (l m rest : List ℕ) → nodesStart to ≤ length l → m ≡ sets l (countsStart to) (flatMap countBytes (take a (tableOf s .counts)))
     → rest ≡ sets (restOf at m) 0 (recordBytes (One 2 r))
-    → withRest at m rest ≡ sets l (countsStart header) (flatMap countBytes (take (a + 1) (tableOf s .counts)))
-counts-step {s} {header} bytes has a at r less here is l m rest room done stored =
+    → withRest at m rest ≡ sets l (countsStart to) (flatMap countBytes (take (a + 1) (tableOf s .counts)))
+counts-step {s} {header} to bytes has as-many a from at r less there-read here is l m rest room done stored =
     let cs : List ℕ = tableOf s .counts in
-    let start : ℕ = countsStart header in
+    let start : ℕ = countsStart to in
     let many : header .arrays ≡ length cs = header-arrays has in
-    let count : r ≡ getD cs a 0 = is ∙ ap (λ i. leAt 2 s (i + 4)) here ∙ sym (header-count has bytes a less) in
+    let count : r ≡ getD cs a 0 = is ∙ ap (λ i. leAt 2 s (i + 4)) there-read ∙ sym (header-count has bytes a less) in
     let written : recordBytes (One 2 r) ≡ countBytes (getD cs a 0) = count-record r ∙ ap countBytes count in
     let same : length m ≡ length l = ap length done ∙ length-sets l start (flatMap countBytes (take a cs)) in
     let there : at + length (countBytes (getD cs a 0)) ≤ length m = omega (arith, length-countBytes (getD cs a 0)) in
@@ -89,15 +90,23 @@ three-runs l b c n i j k p q =
     ∙ sym (sets-append b (c ++ n) l i)
 
 -- the fields of a labels record, one behind the other
-pub labels-stored : (labels : Labelling) (at : ℕ) (l : List ℕ) {m n o p : List ℕ} → m ≡ sets l at (le 2 labelsSize) → n ≡ sets m (at + 2) (le 2 3)
-    → o ≡ sets n (at + 4) (le 4 (labels .variables)) → p ≡ sets o (at + 8) (le 2 (labels .arrays)) → p ≡ sets l at (labelsBytes labels)
-unfolding labelsBytes le
-labels-stored labels at l {m} size kind variables arrays =
+pub labels-stored : (labels : Labelling) (v size wide at : ℕ) (l : List ℕ) → size ≡ labelsSize v → wide ≡ maskBytes v → {m n o p : List ℕ}
+    → m ≡ sets l at (le 2 size) → n ≡ sets m (at + 2) (le 2 3) → o ≡ sets n (at + 4) (le (maskBytes v) (labels .variables))
+    → p ≡ sets o (at + 4 + wide) (le 2 (labels .arrays)) → p ≡ sets l at (labelsBytes v labels)
+unfolding labelsBytes
+labels-stored labels v size wide at l long is {m} {n} {o} {p} head kind variables arrays =
+    let w = maskBytes v in
+    let x = le w (labels .variables) in
+    let y = le 2 (labels .arrays) in
+    let first = le 2 (labelsSize v) in
+    let there : at + 2 ≡ at + length first = simp length-le (omega arith) in
     arrays
-    ∙ ap (λ x. sets x (at + 8) (le 2 (labels .arrays))) (variables ∙ ap (λ x. sets x (at + 4) (le 4 (labels .variables))) kind)
-    ∙ three-runs m (le 2 3) (le 4 (labels .variables)) (le 2 (labels .arrays)) (at + 2) (at + 4) (at + 8) (omega arith) (omega arith)
-    ∙ ap (λ x. sets x (at + 2) (le 2 3 ++ (le 4 (labels .variables) ++ le 2 (labels .arrays)))) size
-    ∙ sym (sets-append (le 2 labelsSize) (le 2 3 ++ (le 4 (labels .variables) ++ le 2 (labels .arrays))) l at)
+    ∙ ap (λ k. sets o (at + 4 + k) y) is
+    ∙ ap (λ k. sets k (at + 4 + w) y) (variables ∙ ap (λ k. sets k (at + 4) x) kind)
+    ∙ three-runs m (le 2 3) x y (at + 2) (at + 4) (at + 4 + w) (simp length-le (omega arith)) (simp length-le (omega arith))
+    ∙ ap (λ k. sets k (at + 2) (le 2 3 ++ (x ++ y))) (head ∙ ap (λ k. sets l at (le 2 k)) long)
+    ∙ ap (λ k. sets (sets l at first) k (le 2 3 ++ (x ++ y))) there
+    ∙ sym (sets-append first (le 2 3 ++ (x ++ y)) l at)
 
 -- a store in front of a run of bytes may come before it as well
 set-sooner : (ys l : List ℕ) (i j x : ℕ) → i < j → set (sets l j ys) i x ≡ sets (set l i x) j ys
@@ -121,20 +130,17 @@ four-runs l h b c n i j k p q r =
     ∙ sym (sets-append h (b ++ (c ++ n)) l 0)
 
 -- ---- the whole table
--- the header of what comes out: the flag is one variable more, and so many nodes come out
-abbrev hardenedHeader : Header → (nodes : ℕ) → Header
-hardenedHeader h n = record { variables = h .variables + 1; arrays = h .arrays; nodes = n }
-
 -- the length of a hardened table
-table-length : (t : Table) → length (tableBytes (hardenedTable t)) ≡ nodesStart (headerOf t) + bytesOf (hardenedProgram t)
+table-length : (t : Table) → length (tableBytes (hardenedTable t)) ≡ nodesStart (hardenedHeader (headerOf t) 0) + bytesOf (hardenedProgram t)
 unfolding tableBytes hardenedTable tableOfHardened
 table-length t =
     let p = hardenedProgram t in
     let h = hardenedHeader (headerOf t) (length (writeC 0 p)) in
-    let b = labelsBytes (t .labels) in
+    let v = versionFor (t .version) (t .variables + 1) in
+    let b = labelsBytes v (t .labels) in
     let c = flatMap countBytes (t .counts) in
     rw (length-append (headerBytes h) (b ++ (c ++ flatMap nodeBytes (writeC 0 p))), length-append b (c ++ flatMap nodeBytes (writeC 0 p)), length-append c (flatMap nodeBytes (writeC 0 p)))
-    (omega (arith, length-headerBytes h, length-labelsBytes (t .labels), length-countsBytes (t .counts), counted-C 0 p .bytesAre))
+    (omega (arith, length-headerBytes h, length-labelsBytes v (t .labels), length-countsBytes (t .counts), counted-C 0 p .bytesAre))
 
 -- ---- the root, by the decisions of its program
 -- its number
@@ -191,12 +197,16 @@ module _ {table index ds : List ℕ} {declared : Declarations} (bytes : Below 25
   pub root-few : nodesOf (hardenedAt table ds 0 (rootAt declared)) ≤ maxNodes
   root-few = omega (arith, root-grown, m .few)
 
-  -- the nodes of the hardened table stand where those of the table do
-  same-start : nodesStart (headerOf (tableOf table)) ≡ nodesStart (declared .header)
-  same-start = ap nodesStart (ready-header (m .ready) .isHeader)
+  -- the nodes of the hardened table stand where its header says
+  same-start : nodesStart (hardenedHeader (headerOf (tableOf table)) 0) ≡ nodesStart (hardenedHeader (declared .header) 0)
+  same-start = ap (λ h. nodesStart (hardenedHeader h 0)) (ready-header (m .ready) .isHeader)
+
+  -- variables are within the limits
+  pub measured-variables : declared .header .variables ≤ maxVariables
+  measured-variables = omega (arith, ready-variables (m .ready), declared-variables (indexed-well-formed table index bytes (m .ready .indexed) .declared))
 
   -- how long the hardened table is, by its root
-  pub measured-length : length (tableBytes (hardenedTable (tableOf table))) ≡ nodesStart (declared .header) + bytesOf (hardenedAt table ds 0 (rootAt declared))
+  pub measured-length : length (tableBytes (hardenedTable (tableOf table))) ≡ nodesStart (hardenedHeader (declared .header) 0) + bytesOf (hardenedAt table ds 0 (rootAt declared))
   unfolding hardenedAt
   measured-length =
       let same = any-flag 0 (tableOf table .variables) (decidedIn table ds (rootAt declared)) in
@@ -204,7 +214,7 @@ module _ {table index ds : List ℕ} {declared : Declarations} (bytes : Below 25
 
   -- and by the total that is kept for it
   pub measured-total : {totals : List ℕ} → AllSized table ds totals
-      → nodesStart (declared .header) + bytesTold (getD totals (rootAt declared) 0) ≡ length (tableBytes (hardenedTable (tableOf table)))
+      → nodesStart (hardenedHeader (declared .header) 0) + bytesTold (getD totals (rootAt declared) 0) ≡ length (tableBytes (hardenedTable (tableOf table)))
   measured-total t =
       let root = root-hardenable .node in
       omega (
@@ -216,7 +226,7 @@ module _ {table index ds : List ℕ} {declared : Declarations} (bytes : Below 25
       )
 
   -- at most 80 bytes come out per node put in
-  pub measured-short : length (tableBytes (hardenedTable (tableOf table))) ≤ nodesStart (declared .header) + 80 * declared .header .nodes
+  pub measured-short : length (tableBytes (hardenedTable (tableOf table))) ≤ nodesStart (hardenedHeader (declared .header) 0) + 80 * declared .header .nodes
   measured-short = omega (arith, measured-length, bytes-C (hardenedAt table ds 0 (rootAt declared)) .short, root-grown, ready-nodes (m .ready))
 
 -- ---- writing the hardened table
@@ -225,10 +235,14 @@ module _ {table index ds : List ℕ} {declared : Declarations} {out : List ℕ} 
   abbrev program : Com Origin
   program = hardenedAt table ds (declared .header .variables) (rootAt declared)
 
+  -- its header, but for the number of nodes
+  abbrev to : Header
+  to = hardenedHeader (declared .header) 0
+
   has-header : HasHeader table (declared .header)
   has-header = ready-header (w .measurable .ready)
 
-  well-declared : Declared (tableOf table .variables) (tableOf table .labels) (tableOf table .counts)
+  well-declared : Declared (tableOf table .version) (tableOf table .variables) (tableOf table .labels) (tableOf table .counts)
   well-declared = indexed-well-formed table index bytes (w .measurable .ready .indexed) .declared
 
   written-program : program ≡ hardenedProgram (tableOf table)
@@ -236,29 +250,21 @@ module _ {table index ds : List ℕ} {declared : Declarations} {out : List ℕ} 
 
   -- the bytes of the hardened table
   whole-bytes : tableBytes (hardenedTable (tableOf table))
-      ≡ headerBytes (hardenedHeader (declared .header) (nodesOf program)) ++ (labelsBytes (declared .labels) ++ (flatMap countBytes (tableOf table .counts) ++ flatMap nodeBytes (writeC 0 program)))
-  unfolding tableBytes hardenedTable tableOfHardened
+      ≡ headerBytes (hardenedHeader (declared .header) (nodesOf program))
+      ++ (labelsBytes (to .version) (declared .labels) ++ (flatMap countBytes (tableOf table .counts) ++ flatMap nodeBytes (writeC 0 program)))
+  unfolding tableBytes hardenedTable tableOfHardened versionIn
   whole-bytes =
       let p = hardenedProgram (tableOf table) in
       let n : nodesOf p ≡ length (writeC 0 p) = sym (counted-C 0 p .nodesAre) in
-      rw (written-program, ready-variables (w .measurable .ready), header-arrays has-header, ready-labels (w .measurable .ready), n)
+      let version : declared .header .version ≡ tableOf table .version = header-version has-header in
+      rw (written-program, ready-variables (w .measurable .ready), header-arrays has-header, ready-labels (w .measurable .ready), version, n)
 
   -- and how many
-  whole-length : length (tableBytes (hardenedTable (tableOf table))) ≡ nodesStart (declared .header) + bytesOf program
+  whole-length : length (tableBytes (hardenedTable (tableOf table))) ≡ nodesStart (hardenedHeader (declared .header) 0) + bytesOf program
   whole-length = omega (arith, table-length (tableOf table), same-start bytes (w .measurable), ap bytesOf written-program)
 
-  pub whole-fits : nodesStart (declared .header) + bytesOf program ≤ length out
+  pub whole-fits : nodesStart (hardenedHeader (declared .header) 0) + bytesOf program ≤ length out
   whole-fits = omega (arith, whole-length, w .fits)
-
-  -- variables and masks are within the limits
-  pub few-variables : declared .header .variables ≤ maxVariables
-  few-variables = omega (arith, ready-variables (w .measurable .ready), well-declared .variablesFit)
-
-  pub mask-fits : declared .labels .variables < 2 ^ 32
-  mask-fits =
-      let limit : 2 ^ tableOf table .variables ≤ 2 ^ 32 = pow-mono (well-declared .variablesFit) in
-      let mask : declared .labels .variables ≡ tableOf table .labels .variables = ap (λ (l : Labelling). l .variables) (ready-labels (w .measurable .ready)) in
-      omega (arith, well-declared .variableMaskFits)
 
   -- so many nodes come out that a table may have them
   written-few : nodesOf program ≤ maxNodes
@@ -266,7 +272,7 @@ module _ {table index ds : List ℕ} {declared : Declarations} {out : List ℕ} 
   written-few = omega (arith, root-few bytes (w .measurable), any-flag 0 (declared .header .variables) (decidedIn table ds (rootAt declared)) .nodesSame)
 
   -- ---- behind the declarations
-  module _ (at : ℕ) (here : at ≡ nodesStart (declared .header)) where
+  module _ (at : ℕ) (here : at ≡ nodesStart (hardenedHeader (declared .header) 0)) where
     -- room for the nodes
     pub nodes-room : (m : List ℕ) → length m ≡ length out → SpaceFor 0 (nodesOf program) (bytesOf program) (restOf at m)
     nodes-room m same =
@@ -290,26 +296,27 @@ module _ {table index ds : List ℕ} {declared : Declarations} {out : List ℕ} 
         omega (arith, whole-fits, ap length (nodes-stored m same n) ∙ length-sets m at (flatMap nodeBytes (writeC 0 program)))
 
     -- labels, arrays and nodes, and the header in front of them, make the table
-    pub whole-written : {l m rest k : List ℕ} {s : Size} → l ≡ sets out labelsStart (labelsBytes (declared .labels)) → m ≡ sets l (countsStart (declared .header)) (flatMap countBytes (tableOf table .counts))
+    pub whole-written : {l m rest k : List ℕ} {s : Size} → l ≡ sets out headerSize (labelsBytes (to .version) (declared .labels))
+        → m ≡ sets l (countsStart to) (flatMap countBytes (tableOf table .counts))
         → Wrote (writeC 0 program) (restOf at m) rest s
         → k ≡ sets (withRest at m rest) 0 (headerBytes (hardenedHeader (declared .header) (s .nodes)))
         → WroteTable table out k (at + s .bytes)
     whole-written {l} {m} {rest} {k} {s} p q n r =
         let header = declared .header in
         let h = headerBytes (hardenedHeader header (nodesOf program)) in
-        let b = labelsBytes (declared .labels) in
+        let b = labelsBytes (to .version) (declared .labels) in
         let c = flatMap countBytes (tableOf table .counts) in
         let ns = flatMap nodeBytes (writeC 0 program) in
         let counted = counted-C 0 program in
         let came : s .nodes ≡ nodesOf program = wrote-sized n counted .nodesCounted in
-        let same : length m ≡ length out = ap length q ∙ length-sets l (countsStart header) c ∙ ap length p ∙ length-sets out labelsStart b in
+        let same : length m ≡ length out = ap length q ∙ length-sets l (countsStart to) c ∙ ap length p ∙ length-sets out headerSize b in
         record {
           stored =
               r
               ∙ ap (λ i. sets (withRest at m rest) 0 (headerBytes (hardenedHeader header i))) came
-              ∙ ap (λ x. sets x 0 h) (nodes-stored m same n ∙ ap (λ x. sets x at ns) (q ∙ ap (λ x. sets x (countsStart header) c) p))
-              ∙ four-runs out h b c ns labelsStart (countsStart header) at
-              (omega (arith, length-headerBytes (hardenedHeader header (nodesOf program)))) (omega (arith, length-labelsBytes (declared .labels)))
+              ∙ ap (λ x. sets x 0 h) (nodes-stored m same n ∙ ap (λ x. sets x at ns) (q ∙ ap (λ x. sets x (countsStart to) c) p))
+              ∙ four-runs out h b c ns headerSize (countsStart to) at
+              (omega (arith, length-headerBytes (hardenedHeader header (nodesOf program)))) (omega (arith, length-labelsBytes (to .version) (declared .labels)))
               (omega (arith, length-countsBytes (tableOf table .counts), header-arrays has-header))
               ∙ ap (sets out 0) (sym whole-bytes);
           counted = omega (arith, whole-length, n .bytesCounted, counted .bytesAre);

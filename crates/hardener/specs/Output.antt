@@ -1,5 +1,5 @@
 -- What measuring and writing a hardened table require: the table that was read and what it declares, the decisions on its program, and room.
-use Prim.Native.Nat.{ℕ, _≤_}
+use Prim.Native.Nat.{ℕ, _+_, _≤_}
 use mathlib.Core.List.{List}
 use mathlib.Core.Path.{_≡_}
 use lib.ListN.{length}
@@ -7,8 +7,13 @@ use lib.Seq.{sets}
 use Rattle.awhile.specs.Encoding.{tableBytes}
 use Rattle.reader.specs.Index.{Ready, tableOf, nodesIn}
 use Rattle.awhile.specs.declared.Declarations.{Declarations}
-use Rattle.masks.specs.Hardening.{hardenedTable, maxHardened}
+use Rattle.awhile.specs.declared.Header.{Header}
+use Rattle.masks.specs.Hardening.{versionFor, hardenedTable, maxHardened}
 use Rattle.deciding.specs.Deciding.{Decides}
+
+-- the header of what comes out: the flag is one variable more, and so many nodes come out
+abbrev pub hardenedHeader : Header → (nodes : ℕ) → Header
+hardenedHeader h n = record { version = versionFor (h .version) (h .variables + 1); variables = h .variables + 1; arrays = h .arrays; nodes = n }
 
 -- what measuring requires
 pub record Measurable (table index decisions : List ℕ) (declared : Declarations) : Type 0 where

@@ -5,6 +5,7 @@ use mathlib.Core.Path.{_≡_, sym, ap, _∙_}
 use mathlib.Core.List.{List}
 use lib.ListN.{length, drop, replicate}
 use lib.Seq.{sets, length-sets}
+use Rattle.awhile.proofs.Versions.{declared-variables}
 use Rattle.bytes_le.specs.Numbers.{le, leAt, words}
 use Rattle.bytes_le.proofs.Numbers.{Below, length-le}
 use Rattle.bytes_le.proofs.Words.{words-fromWords}
@@ -67,7 +68,7 @@ module _ (table index list : List ℕ) (header : Header) (bytes : Below 256 tabl
       let same = same-nodes in
       let v = asked .variablesLong in
       let c = asked .cellsLong in
-      (omega arith, omega (arith, declared .variablesFit, declared .cellsFit))
+      (omega arith, omega (arith, declared-variables declared, declared .cellsFit))
 
   -- what is lent for saves
   pub places-asked : (before : ℕ) → before ≡ length (m₀ .variables) + length (m₀ .cells) → (hs : List ℕ) → length hs ≡ 8

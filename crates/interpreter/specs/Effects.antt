@@ -16,6 +16,7 @@ use Rattle.directives.specs.declared.change.Change.{Change}
 use Rattle.directives.specs.declared.change.Change.the-variants.{PutBack, Assign, Store}
 use Rattle.stepping.specs.declared.next.Seen.{Seen}
 use Rattle.stepping.specs.declared.next.Seen.the-variants.{Nothing, Observed}
+use Rattle.awhile.specs.Tables.{maxNodes}
 
 -- there is room for what is put back, and its numbers fit words
 abbrev pub PushFits : Back → (rest long : ℕ) → Type 0
@@ -55,7 +56,7 @@ pub record Performed (change : Change) (rest : ℕ) (m m′ : Memory) : Type 0 w
 pub record SaveFits (right wrong : Back) (rest place at : ℕ) (m : Memory) (saves heights : List ℕ) : Type 0 where
   pub rightFits : PushFits right rest (length (m .pending))
   pub wrongFits : PushFits wrong rest (length (m .pending))
-  pub high : heightOf (PutBack right) rest ≤ 4096
+  pub high : heightOf (PutBack right) rest ≤ maxNodes
   pub within : 4 * heightOf (PutBack right) rest ≤ length (m .pending)
   pub room : at + length (m .variables) + length (m .cells) + 4 * heightOf (PutBack right) rest ≤ length saves
   pub placed : place < length heights

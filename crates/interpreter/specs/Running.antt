@@ -12,7 +12,7 @@ use Rattle.awhile.specs.Trees.{rootOf}
 use Rattle.awhile.specs.declared.Header.{Header}
 use Rattle.reader.specs.Index.{Indexed, tableOf, nodesIn}
 use Rattle.machine.specs.Observations.{Observation, shownBytes}
-use Rattle.machine.specs.Runs.{Outcome, bytes, run, started}
+use Rattle.machine.specs.Runs.{Outcome, bytes, run, started, maxSaves}
 use Rattle.machine.specs.Memory.{pendingAfter, savesAfter, writtenOver, nextNode}
 use Rattle.stepping.specs.Evaluation.{variablesIn}
 use Rattle.directives.specs.Guiding.{Readable, guideOf}
@@ -36,9 +36,9 @@ pub record Begun (table index starts list : List ℕ) (budget room : ℕ) (m : M
 
 -- what is lent for saves: a height for each of eight places, and on the board that rolls back the places, each of so many bytes
 pub record PlacesLent (table : List ℕ) (board : Board) (size : ℕ) (saves heights : List ℕ) : Type 0 where
-  pub eight : length heights ≡ 8
+  pub eight : length heights ≡ maxSaves
   pub isSize : size ≡ 4 * placeWords table
-  pub long : board ≡ Rolling → 32 * placeWords table ≤ length saves
+  pub long : board ≡ Rolling → 4 * maxSaves * placeWords table ≤ length saves
 
 -- what a run has left in the lent bytes when it is over
 pub record StoppedAs (table list : List ℕ) (board : Board) (budget : ℕ) (m : Memory) (ss os : List ℕ) (m′ : Memory) (ss′ hs′ os′ : List ℕ) (r : Stopped) : Type 0 where
@@ -50,9 +50,9 @@ pub record StoppedAs (table list : List ℕ) (board : Board) (budget : ℕ) (m :
   pub few : r .state .pending ≤ nodesIn table
   pub entries : (j : ℕ) → j < r .state .pending → CommandAt table (leAt 4 (m′ .pending) (4 * j))
   pub beyond : drop (4 * nodesIn table) (m′ .pending) ≡ drop (4 * nodesIn table) (m .pending)
-  pub fewSaves : r .state .saved ≤ 8
+  pub fewSaves : r .state .saved ≤ maxSaves
   pub places : PlacesHold table ss′ hs′ (r .state .saved)
-  pub savesBeyond : drop (32 * placeWords table) ss′ ≡ drop (32 * placeWords table) ss
+  pub savesBeyond : drop (4 * maxSaves * placeWords table) ss′ ≡ drop (4 * maxSaves * placeWords table) ss
 
 -- the word of the next node
 unfoldable pub nextWord : (pending : List ℕ) → (count : ℕ) → ℕ
@@ -82,7 +82,7 @@ pub record RunAsked (table index list : List ℕ) (header : Header) (board : Boa
   pub variablesLong : length (m .variables) ≡ 4 * tableOf table .variables
   pub cellsLong : length (m .cells) ≡ 4 * sum (tableOf table .counts)
   pub pendingLong : 4 * header .nodes ≤ length (m .pending)
-  pub savesLong : board ≡ Rolling → 32 * placeWords table ≤ length ss
+  pub savesLong : board ≡ Rolling → 4 * maxSaves * placeWords table ≤ length ss
 
 -- what a run leaves in the lent slices, and its report; what is left in save words is asked of the board that rolls back alone
 pub record RunLeaves (o : Outcome ℕ) (table : List ℕ) (board : Board) (m : Memory) (ss os : List ℕ) (m′ : Memory) (ss′ os′ : List ℕ) (r : Report) : Type 0 where

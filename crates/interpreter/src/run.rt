@@ -6,6 +6,7 @@ ghost use Rattle.machine.specs.declared.Board.the-variants.{Rolling};
 ghost use Rattle.saves.specs.Leaving.{leftPlaces, LeaveFits};
 ghost use Rattle.stepping.specs.Stepping.{memoryAt};
 ghost use Rattle.interpreter.specs.Running.{Begun, PlacesLent, StoppedAs, nextWord, reportWith, RunAsked, runOf, RunLeaves};
+ghost use Rattle.machine.specs.Runs.{maxSaves};
 use crate::memory::perform;
 use crate::memory::show;
 use crate::memory::show_branch;
@@ -16,9 +17,11 @@ use bytes_le::clear::clear;
 use bytes_le::get::u32_at;
 use bytes_le::put::put32;
 use directives::board::rolls;
+use directives::places::STARTS;
 use directives::places::find_starts;
 use machine::Board;
 use machine::End;
+use machine::MAX_SAVES;
 use saves::leave::leave;
 use saves::place::restore;
 use stepping::next::Next;
@@ -173,7 +176,7 @@ fn leave_saves(
     nodes: usize,
 )
     requires { ⌜ (board ≡ Rolling → LeaveFits (now saves) (now heights) count before nodes) ⌝ }
-    ensures { λ _. ⌜ (board ≡ Rolling → now (saves .exit) ≡ leftPlaces (now (heights .entry)) count before nodes 8 (now (saves .entry))) ⌝ }
+    ensures { λ _. ⌜ (board ≡ Rolling → now (saves .exit) ≡ leftPlaces (now (heights .entry)) count before nodes maxSaves (now (saves .entry))) ⌝ }
 {
     if rolls(board) {
         leave(&mut *saves, heights, count, before, nodes);
@@ -203,8 +206,8 @@ pub fn run(
         (now (table .entry)) board (memoryAt (now (variables .entry)) (now (cells .entry)) (now (pending .entry))) (now (saves .entry)) (now (observations .entry))
         (memoryAt (now (variables .exit)) (now (cells .exit)) (now (pending .exit))) (now (saves .exit)) (now (observations .exit)) r ⌝ }
 {
-    let mut starts = [0u16; 17];
-    let mut heights = [0u16; 8];
+    let mut starts = [0u16; STARTS];
+    let mut heights = [0u16; MAX_SAVES];
     let nodes = header.nodes;
     find_starts(table, header, &mut starts);
     put32(&mut *pending, 0, (nodes - 1) as u32);

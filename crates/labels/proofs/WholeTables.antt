@@ -1,5 +1,5 @@
--- Reads, writes and branches in a secret context, and what a write is given: the label sheets of whole tables, computed from their bytes.
--- x0 is s, secret; x1 is x, public; array a0 has two cells, public.
+-- Reads, writes and branches in a secret context, what a write is given, and a table of version 2: the label sheets of whole tables, computed from
+-- their bytes. In all but the last x0 is s, secret; x1 is x, public; array a0 has two cells, public.
 use Prim.Native.Nat.{ℕ}
 use mathlib.Core.List.{List, [], _∷_}
 use mathlib.Core.Path.{_≡_, refl}
@@ -138,3 +138,24 @@ pub public-inside :
     ∷ [])
 unfolding opened
 public-inside = refl
+
+-- ---- "Version 2 tables and sheets carry 8-byte variable masks"; "A sheet has its table's version"
+-- `x0:=x39; skip` with 40 variables, of which x39 is secret
+abbrev pub wide : List ℕ
+wide =
+    10 ∷ 0 ∷ 1 ∷ 0 ∷ 2 ∷ 0 ∷ 40 ∷ 0 ∷ 4 ∷ 0  -- header: version 2, V 40, A 0, N 4
+    ∷ 14 ∷ 0 ∷ 3 ∷ 0 ∷ 0 ∷ 0 ∷ 0 ∷ 0 ∷ 128 ∷ 0 ∷ 0 ∷ 0 ∷ 0 ∷ 0  -- labels: variable mask 2^39, array mask 0
+    ∷ 6 ∷ 0 ∷ 17 ∷ 0 ∷ 39 ∷ 0  -- 0: variable x39
+    ∷ 8 ∷ 0 ∷ 49 ∷ 0 ∷ 0 ∷ 0 ∷ 0 ∷ 0  -- 1: assign x0 0
+    ∷ 4 ∷ 0 ∷ 48 ∷ 0  -- 2: skip
+    ∷ 8 ∷ 0 ∷ 50 ∷ 0 ∷ 1 ∷ 0 ∷ 2 ∷ 0  -- 3: sequence 1 2
+    ∷ []
+
+pub wide-sheet :
+    sheetFor wide
+    ≡ got
+    (18 ∷ 0 ∷ 128 ∷ 0 ∷ 2 ∷ 0 ∷ 4 ∷ 0 ∷ 1 ∷ 0 ∷ 0 ∷ 0 ∷ 128 ∷ 0 ∷ 0 ∷ 0 ∷ 0 ∷ 0  -- sheet: version 2, N 4, final masks 2^39 + 1 and 0
+    ∷ 16 ∷ 0 ∷ 129 ∷ 0 ∷ 3 ∷ 0 ∷ 1 ∷ 0 ∷ 0 ∷ 0 ∷ 128 ∷ 0 ∷ 0 ∷ 0 ∷ 0 ∷ 0  -- sequence 3: masks 2^39 + 1 and 0 after its first part
+    ∷ [])
+unfolding opened
+wide-sheet = refl

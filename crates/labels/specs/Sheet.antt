@@ -6,7 +6,7 @@ use lib.ListN.{length}
 use lib.Dec.{eqb}
 use Rattle.bytes_le.specs.Numbers.{le}
 use Rattle.awhile.specs.Language.{Com, skip, assign, sequence, if, while, read, write, noteOf}
-use Rattle.awhile.specs.Tables.{Table}
+use Rattle.awhile.specs.Tables.{Table, maskBytes}
 use Rattle.awhile.specs.Trees.{rootOf}
 use Rattle.awhile.specs.declared.Labelling.{Labelling}
 use Rattle.labels.specs.Labellings.{labelOfA, labelOfB}
@@ -27,18 +27,18 @@ pub record SheetRecord : Type 0 where
 abbrev pub sheetRecord : ℕ → List SheetField → SheetRecord
 sheetRecord k fs = record { kind = k; fields = fs }
 
--- "Label 1 is secret."
-unfoldable pub fieldBytes : SheetField → List ℕ
-fieldBytes (number n) = le 2 n
-fieldBytes (label b) = le 2 (cond b 1 0)
-fieldBytes (masks l) = le 4 (l .variables) ++ le 2 (l .arrays)
+-- "Label 1 is secret." How many bytes a variable mask has goes by the version.
+unfoldable pub fieldBytes : (version : ℕ) → SheetField → List ℕ
+fieldBytes v (number n) = le 2 n
+fieldBytes v (label b) = le 2 (cond b 1 0)
+fieldBytes v (masks l) = le (maskBytes v) (l .variables) ++ le 2 (l .arrays)
 
-unfoldable pub fieldsBytes : List SheetField → List ℕ
-fieldsBytes fs = flatMap fieldBytes fs
+unfoldable pub fieldsBytes : (version : ℕ) → List SheetField → List ℕ
+fieldsBytes v fs = flatMap (fieldBytes v) fs
 
 -- "A record is a 2-byte length (of the whole record), a 2-byte kind, then fields"
-unfoldable pub recordBytes : SheetRecord → List ℕ
-recordBytes r = le 2 (4 + length (fieldsBytes (r .fields))) ++ (le 2 (r .kind) ++ fieldsBytes (r .fields))
+unfoldable pub recordBytes : (version : ℕ) → SheetRecord → List ℕ
+recordBytes v r = le 2 (4 + length (fieldsBytes v (r .fields))) ++ (le 2 (r .kind) ++ fieldsBytes v (r .fields))
 
 -- the labelling on entry to a command
 unfoldable pub entryOf : Com Entry → Labelling
@@ -66,16 +66,16 @@ unfoldable pub recordsBelow : Com Entry → ℕ → List SheetRecord
 recordsBelow c zero = []
 recordsBelow c (suc n) = recordsBelow c n ++ recordsAt c n
 
--- the first record: version 1, the number of nodes, and the masks after the program
-unfoldable pub headRecord : (nodes : ℕ) → (final : Labelling) → SheetRecord
-headRecord n final = sheetRecord 128 (number 1 ∷ number n ∷ masks final ∷ [])
+-- the first record: the version, the number of nodes, and the masks after the program
+unfoldable pub headRecord : (version nodes : ℕ) → (final : Labelling) → SheetRecord
+headRecord v n final = sheetRecord 128 (number v ∷ number n ∷ masks final ∷ [])
 
 -- the sheet of an annotated program with so many nodes and this labelling after it: its records, and their bytes
-unfoldable pub sheetRecords : (nodes : ℕ) → Com Entry → (final : Labelling) → List SheetRecord
-sheetRecords n a final = headRecord n final ∷ recordsBelow a n
+unfoldable pub sheetRecords : (version nodes : ℕ) → Com Entry → (final : Labelling) → List SheetRecord
+sheetRecords v n a final = headRecord v n final ∷ recordsBelow a n
 
-unfoldable pub sheetOf : (nodes : ℕ) → Com Entry → (final : Labelling) → List ℕ
-sheetOf n a final = flatMap recordBytes (sheetRecords n a final)
+unfoldable pub sheetOf : (version nodes : ℕ) → Com Entry → (final : Labelling) → List ℕ
+sheetOf v n a final = flatMap (recordBytes v) (sheetRecords v n a final)
 
 -- the program of a table with its labels: "a labelling and a context, public at the root". Which labelling it starts from is given.
 unfoldable pub annotated : Table → Labelling → Com Entry
@@ -85,6 +85,6 @@ annotated t l = annotate (rootOf t) false l
 unfoldable pub finalLabels : Table → Labelling → Labelling
 finalLabels t l = analyse (rootOf t) false l
 
--- the sheet of a table whose analysis starts from a labelling
+-- the sheet of a table whose analysis starts from a labelling: "A sheet has its table's version."
 unfoldable pub sheetBytes : Table → Labelling → List ℕ
-sheetBytes t l = sheetOf (length (t .nodes)) (annotated t l) (finalLabels t l)
+sheetBytes t l = sheetOf (t .version) (length (t .nodes)) (annotated t l) (finalLabels t l)

@@ -7,7 +7,7 @@ use Rattle.bytes_le.specs.Numbers.{words}
 use Rattle.awhile.specs.Language.{Com, noteOf}
 use Rattle.machine.specs.Observations.{shownBytes}
 use Rattle.machine.specs.Steps.{State}
-use Rattle.machine.specs.Runs.{Outcome, endNumber}
+use Rattle.machine.specs.Runs.{maxSaves, Outcome, endNumber}
 
 -- "The first N pending entries hold the list, then zeros": the next command's entry is the last
 unfoldable pub pendingWords : (nodes : ℕ) → List (Com ℕ) → List ℕ
@@ -24,7 +24,7 @@ saveWords n s = s .variables ++ (s .cells ++ pendingWords n (s .pending))
 -- "the save words hold the open saves, oldest first ..; the rest of the eight places is zeros, and words beyond are unchanged".
 -- A place has so many words; the newest save is the first of the list
 unfoldable pub savesAfter : (nodes size : ℕ) → List (State ℕ) → (slice : List ℕ) → List ℕ
-savesAfter n size ss slice = words (flatMap (saveWords n) (reverse ss) ++ replicate ((8 - length ss) * size) 0) ++ drop (32 * size) slice
+savesAfter n size ss slice = words (flatMap (saveWords n) (reverse ss) ++ replicate ((maxSaves - length ss) * size) 0) ++ drop (4 * maxSaves * size) slice
 
 -- bytes written at the front of a slice; "bytes beyond are unchanged"
 unfoldable pub writtenOver : (written slice : List ℕ) → List ℕ

@@ -67,6 +67,10 @@ rollbackNext (guessing ds) = none
 rollbackNext (rolling []) = none
 rollbackNext (rolling (d ∷ ds)) = onlyIf (isRollback d) (rolling ds)
 
+-- how many saves can be open: "at most eight are"
+abbrev pub maxSaves : ℕ
+maxSaves = 8
+
 module _ {Note : Type 0} where
   -- one step further: "the machine's flag, step count and directives used move on together"
   unfoldable pub moved : Machine Note → State Note → (saves : List (State Note)) → Guide → (usedNow : ℕ) → (shownNow : List Observation) → Machine Note
@@ -85,7 +89,7 @@ module _ {Note : Type 0} where
   unfoldable pub stacked : Guide → (kept saves : List (State Note)) → Option (List (State Note))
   stacked plain kept saves = some saves
   stacked (guessing ds) kept saves = some saves
-  stacked (rolling ds) kept saves = onlyIf (leb (length kept + length saves) 8) (kept ++ saves)
+  stacked (rolling ds) kept saves = onlyIf (leb (length kept + length saves) maxSaves) (kept ++ saves)
 
   unfoldable pub stackedIf : Room → Machine Note → Observation → Guide → (usedNow : ℕ) → State Note → Option (List (State Note)) → Next Note
   stackedIf room m o g u s none = over Stuck
@@ -128,7 +132,7 @@ module _ {Note : Type 0} where
   unfoldable pub next : (counts : List ℕ) → Room → Machine Note → Next Note
   next counts room m = nextBy counts room m (rollbackNext (m .guide))
 
-  -- with no budget left: finished where nothing is pending, else spent; "with 76 next, the budget is checked first"
+  -- with no budget left: finished where nothing is pending, else spent; "With 76 next, the budget is checked first"
   unfoldable pub endWithout : (pending : List (Com Note)) → (rollback : Option Guide) → End
   endWithout [] none = Finished
   endWithout [] (some g) = Spent

@@ -8,6 +8,9 @@ pub enum Board {
     Rolling,
 }
 
+// How many saves can be open: "at most eight are, and a force beyond them is stuck".
+pub const MAX_SAVES: usize = 8;
+
 // What the attacker picks for one shown step, or that the newest wrong guess is rolled back.
 pub enum Directive {
     Step,

@@ -41,7 +41,7 @@ script = Force ∷ Load 2 0 ∷ Step ∷ []
 unfoldable original : Table
 original =
     elim (readTable boundsCheck) [
-      | refused r ↦ record { variables = 0; labels = record { variables = 0; arrays = 0 }; counts = []; nodes = [] }
+      | refused r ↦ record { version = 0; variables = 0; labels = record { variables = 0; arrays = 0 }; counts = []; nodes = [] }
       | got t ↦ t
     ]
 
@@ -118,7 +118,7 @@ not-related h =
     let n : _≡_ {A = ℕ} 77 78 = cc in
     omega arith
 
--- "The same table" is no hardened table: the claim of demand 3 is false of it on a board that shows this
+-- The fake "the same table" is no hardened table: the claim of demand 3 is false of it on a board that shows this
 differs-on : (board : List Directive → Guide) → ShownOn board 77 × ShownOn board 78
     → (t : Table) → readTable boundsCheck ≡ got t → ShowsTheSame board (t .labels) t t → ⊥
 differs-on board shown t e h = refuted (subst (λ (p : Table). ShowsTheSame board (p .labels) p p) same h)

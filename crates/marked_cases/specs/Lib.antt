@@ -10,4 +10,5 @@ pub mod Nought
 pub mod BoundsCheck
 pub mod RolledBack
 pub mod Chain
+pub mod Versions
 pub mod Bites

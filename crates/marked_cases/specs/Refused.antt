@@ -1,4 +1,4 @@
--- "no bytes: 1 at 0"; "V 31 hardens, 32 is 9"
+-- "no bytes: 1 at 0"; "V 31 hardens, 32 is 9", which "becomes 63 and 64"
 use Prim.Native.Nat.{ℕ}
 use mathlib.Core.Path.{refl}
 use mathlib.Core.List.{List, [], _∷_}
@@ -18,31 +18,22 @@ no-bytes = (
   λ directives lent saves budget answer. refl,
 )
 
--- `skip`, 31 variables
-abbrev pub skip31 : List ℕ
-skip31 =
-    10 ∷ 0 ∷ 1 ∷ 0 ∷ 1 ∷ 0 ∷ 31 ∷ 0 ∷ 1 ∷ 0  -- header: version 1, V 31, A 0, N 1
-    ∷ 10 ∷ 0 ∷ 3 ∷ 0 ∷ 0 ∷ 0 ∷ 0 ∷ 0 ∷ 0 ∷ 0  -- labels: variable mask 0, array mask 0
+-- `skip` with so many variables, as a table of version 1 and of version 2
+abbrev pub skipOne : ℕ → List ℕ
+skipOne v =
+    10 ∷ 0 ∷ 1 ∷ 0 ∷ 1 ∷ 0 ∷ v ∷ 0 ∷ 1 ∷ 0  -- header: version 1, V, A 0, N 1
+    ∷ 10 ∷ 0 ∷ 3 ∷ 0 ∷ 0 ∷ 0 ∷ 0 ∷ 0 ∷ 0 ∷ 0  -- labels: variable mask 0 in 4 bytes, array mask 0
     ∷ 4 ∷ 0 ∷ 48 ∷ 0  -- 0: skip
     ∷ []
 
--- hardened: 32 variables
-abbrev pub skip31Hardened : List ℕ
-skip31Hardened =
-    10 ∷ 0 ∷ 1 ∷ 0 ∷ 1 ∷ 0 ∷ 32 ∷ 0 ∷ 1 ∷ 0  -- header: version 1, V 32, A 0, N 1
-    ∷ 10 ∷ 0 ∷ 3 ∷ 0 ∷ 0 ∷ 0 ∷ 0 ∷ 0 ∷ 0 ∷ 0  -- labels: variable mask 0, array mask 0
+abbrev pub skipTwo : ℕ → List ℕ
+skipTwo v =
+    10 ∷ 0 ∷ 1 ∷ 0 ∷ 2 ∷ 0 ∷ v ∷ 0 ∷ 1 ∷ 0  -- header: version 2, V, A 0, N 1
+    ∷ 14 ∷ 0 ∷ 3 ∷ 0 ∷ 0 ∷ 0 ∷ 0 ∷ 0 ∷ 0 ∷ 0 ∷ 0 ∷ 0 ∷ 0 ∷ 0  -- labels: variable mask 0 in 8 bytes, array mask 0
     ∷ 4 ∷ 0 ∷ 48 ∷ 0  -- 0: skip
     ∷ []
 
--- `skip`, 32 variables
-abbrev pub skip32 : List ℕ
-skip32 =
-    10 ∷ 0 ∷ 1 ∷ 0 ∷ 1 ∷ 0 ∷ 32 ∷ 0 ∷ 1 ∷ 0  -- header: version 1, V 32, A 0, N 1
-    ∷ 10 ∷ 0 ∷ 3 ∷ 0 ∷ 0 ∷ 0 ∷ 0 ∷ 0 ∷ 0 ∷ 0  -- labels: variable mask 0, array mask 0
-    ∷ 4 ∷ 0 ∷ 48 ∷ 0  -- 0: skip
-    ∷ []
-
--- P: V 31 hardens, 32 is 9
-pub no-free-variable : HardensTo skip31 skip31Hardened × Refuses hardenEntry skip32 9 0
+-- P: V 63 hardens, 64 is 9
+pub no-free-variable : HardensTo (skipTwo 63) (skipTwo 64) × Refuses hardenEntry (skipTwo 64) 9 0
 unfolding opened
-no-free-variable = (written skip31Hardened, λ buffer answer. refl)
+no-free-variable = (written (skipTwo 64), λ buffer answer. refl)

@@ -65,7 +65,7 @@ module _ (t : Table) (w : WellFormed t) (small : length (t .nodes) ≤ 512) (fre
           hardened = table′;
           readsBack = back;
           eightfold = grown;
-          room = omega (arith, table-size table′, grown, ap length (back .counts));
+          room = omega (arith, table-size table′, grown);
           sameRun = λ vs cells width.
               subst
               (λ p.

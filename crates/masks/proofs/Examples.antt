@@ -9,7 +9,7 @@ use Rattle.awhile.specs.Language.{Com, skip, assign, sequence, if, while, read}
 use Rattle.awhile.specs.Encoding.{nodesOf}
 use Rattle.labels.specs.Annotation.{annotate}
 use Rattle.masks.specs.Decisions.{Decision, decision, decide}
-use Rattle.masks.specs.Hardening.{Origin, harden}
+use Rattle.masks.specs.Hardening.{Origin, harden, versionFor}
 use Rattle.masks.proofs.Open.{opened}
 
 -- a program over two variables and an array hardened, where variable 0 alone is secret
@@ -67,3 +67,8 @@ pub masked-constants-grow :
     < nodesOf (harden 2 (maskedConstant (maskedConstant (skip (decision 0 false false false)))))
 unfolding opened
 masked-constants-grow = omega arith
+
+-- "A hardened table is version 2 where its input is, or where it declares 33 variables; otherwise it stays version 1."
+pub versions-out : (versionFor 1 32 ≡ 1) × (versionFor 1 33 ≡ 2) × (versionFor 2 6 ≡ 2) × (versionFor 2 64 ≡ 2)
+unfolding opened
+versions-out = (refl, refl, refl, refl)

@@ -2,6 +2,9 @@
 use Prim.Native.Nat.{ℕ, _+_, _*_, _≤_, _<_}
 use native.Mathlib.Numerals.{add-one}
 use native.Mathlib.Omega.{arith}
+use mathlib.Core.Bool.{Bool, true, false, cond, _||_}
+use lib.Dec.{eqb}
+use borrow.Author.Tests.{eqb-false}
 use mathlib.Core.Path.{_≡_, refl, sym, ap, subst}
 use mathlib.Core.List.{List, map}
 use lib.ListN.{length, take}
@@ -9,7 +12,7 @@ use lib.Seq.{take-length}
 use Rattle.awhile.specs.Language.{Com}
 use Rattle.awhile.specs.Lists.{sum}
 use Rattle.awhile.specs.Nodes.{sizeOf}
-use Rattle.awhile.specs.Tables.{Table, headerOf, maxVariables, maxNodes, nodesStart, offsetOf}
+use Rattle.awhile.specs.Tables.{Table, headerOf, knownVersion, maskBytes, mostVariables, maxVariables, maxNodes, nodesStart, offsetOf}
 use Rattle.awhile.specs.Trees.{rootOf}
 use Rattle.awhile.specs.Encoding.{nodesOf, tableBytes}
 use Rattle.awhile.specs.WellFormed.{Declared, WellFormed, Within}
@@ -22,17 +25,41 @@ use Rattle.awhile.proofs.Size.{root-size}
 use Rattle.labels.specs.Labellings.{labelOf}
 use Rattle.labels.proofs.Masks.{bit-above}
 use Rattle.masks.specs.Decisions.{Decision}
-use Rattle.masks.specs.Hardening.{Origin, harden, tableOfHardened}
+use Rattle.masks.specs.Hardening.{Origin, harden, versionFor, tableOfHardened}
 use Rattle.masks.specs.Growth.{MasksLargeConditions}
 use Rattle.masks.specs.ReadBack.{ReadsBack}
 use Rattle.masks.proofs.Decisions.{programFor}
 use Rattle.masks.proofs.Growth.{hardened-size, hardened-within, nodesOf-mapped}
 
+-- ---- the version of a hardened table
+-- allows one variable more than the original's, up to the limit of all
+version-allows : (v n : ℕ) → knownVersion v ≡ true → n ≤ mostVariables v → n < maxVariables → n + 1 ≤ mostVariables (versionFor v (n + 1))
+unfolding versionFor knownVersion maskBytes
+version-allows v n known fits few = go (eqb v 1) (eqb v 2) (eqb (n + 1) 33) refl refl known fits
+  where
+    go : (one two more : Bool) → eqb v 2 ≡ two → eqb (n + 1) 33 ≡ more → one || two ≡ true → n ≤ 8 * cond one 4 8
+        → n + 1 ≤ mostVariables (cond (two || more) 2 1)
+    go one true more p q known fits = omega arith
+    go one false true p q known fits = omega arith
+    go true false false p q known fits = let other : ¬ (n + 1 ≡ 33) = eqb-false (n + 1) 33 q in omega arith
+    go false false false p q known fits = let z : _≡_ {A = ℕ} 0 1 = cc in absurd (omega arith)
+
+-- and is a known one
+version-known : (v n : ℕ) → knownVersion (versionFor v n) ≡ true
+unfolding versionFor knownVersion
+version-known v n = go (eqb v 2 || eqb n 33)
+  where
+    go : (b : Bool) → knownVersion (cond b 2 1) ≡ true
+    go true = refl
+    go false = refl
+
 -- one more variable, not secret, may be declared where there is one free
-declared-more : (v : ℕ) (l : Labelling) (counts : List ℕ) → v < maxVariables → Declared v l counts → Declared (v + 1) l counts
-declared-more v l counts free d =
+declared-more : (version v : ℕ) (l : Labelling) (counts : List ℕ) → v < maxVariables → Declared version v l counts
+    → Declared (versionFor version (v + 1)) (v + 1) l counts
+declared-more version v l counts free d =
     record {
-      variablesFit = omega arith;
+      versionKnown = version-known version (v + 1);
+      variablesFit = version-allows version v (d .versionKnown) (d .variablesFit) free;
       arraysFit = d .arraysFit;
       variableMaskFits = rw add-one (omega (arith, d .variableMaskFits));
       arrayMaskFits = d .arrayMaskFits;
@@ -78,7 +105,8 @@ module _ (t : Table) (w : WellFormed t) (free : t .variables < maxVariables) (d 
     hardened-reads-back =
         record {
           accepts =
-              written-reads-back table′ program′ refl (declared-more (t .variables) (t .labels) (t .counts) free (w .declared)) within′ few;
+              written-reads-back table′ program′ refl (declared-more (t .version) (t .variables) (t .labels) (t .counts) free (w .declared)) within′ few;
+          version = refl;
           variables = refl;
           flagPublic = bit-above (t .variables) (t .labels .variables) (t .variables) (w .declared .variableMaskFits) (omega arith);
           labels = refl;

@@ -7,7 +7,7 @@ use Rattle.awhile.specs.Language.{Com}
 use Rattle.awhile.specs.Tables.{Table, headerOf, nodesStart}
 use Rattle.awhile.specs.Trees.{rootOf}
 use Rattle.machine.specs.Runs.{guessing, rolling}
-use Rattle.masks.specs.Hardening.{Origin}
+use Rattle.masks.specs.Hardening.{Origin, tableOfHardened}
 use Rattle.masks.specs.ReadBack.{originIn, ReadsBack}
 use Rattle.masks.specs.SameRun.{plainRun, SameRun}
 use Rattle.masks.specs.Security.{ShowsTheSame}
@@ -19,7 +19,7 @@ pub record Demands (original : Table) (program : Com Origin) (out : List ℕ) : 
   -- "At most 8 nodes come out per node put in."
   pub eightfold : length (hardened .nodes) ≤ 8 * length (original .nodes)
   -- A node's record has at most 10 bytes, so a buffer of this length has room.
-  pub room : length out ≤ nodesStart (headerOf original) + 80 * length (original .nodes)
+  pub room : length out ≤ nodesStart (headerOf (tableOfHardened original program)) + 80 * length (original .nodes)
   -- Without guessing, from every state with f = 0, the hardened table's program runs as the original's does.
   pub sameRun :
       (vs cells : List ℕ) → length vs ≡ original .variables

@@ -1,6 +1,7 @@
 -- The hardened program (figure 12 of source 004) and its table. f is the flag, "variable number V".
 use Prim.Native.Nat.{ℕ, _+_}
-use mathlib.Core.Bool.{Bool, cond}
+use mathlib.Core.Bool.{Bool, cond, _||_}
+use lib.Dec.{eqb}
 use mathlib.Core.Option.{Option, none, some}
 use Rattle.awhile.specs.Language.{AExp, number, variable, choice, BExp, equal, and}
 use Rattle.awhile.specs.Language.{Com, skip, assign, sequence, if, while, read, write}
@@ -60,9 +61,13 @@ harden f (write n a i e) = write (some (n .node)) a (maskedIndex f (n .maskIndex
 unfoldable pub hardenedProgram : Table → Com Origin
 hardenedProgram t = harden (t .variables) (decide (annotated t (t .labels)))
 
--- "the output declares V+1 variables, f public, and its own N; all else of the declarations is unchanged"
+-- "A hardened table is version 2 where its input is, or where it declares 33 variables; otherwise it stays version 1."
+unfoldable pub versionFor : (version variables : ℕ) → ℕ
+versionFor v n = cond (eqb v 2 || eqb n 33) 2 1
+
+-- "the output declares V+1 variables, f public, and its own N; all else of the declarations is unchanged", but for the version
 unfoldable pub tableOfHardened : Table → Com Origin → Table
-tableOfHardened t c = record { variables = t .variables + 1; labels = t .labels; counts = t .counts; nodes = writeC 0 c }
+tableOfHardened t c = record { version = versionFor (t .version) (t .variables + 1); variables = t .variables + 1; labels = t .labels; counts = t .counts; nodes = writeC 0 c }
 
 unfoldable pub hardenedTable : Table → Table
 hardenedTable t = tableOfHardened t (hardenedProgram t)

@@ -11,7 +11,7 @@ use Rattle.awhile.specs.Tables.{Table, readTable}
 use Rattle.awhile.specs.Trees.{rootOf}
 use Rattle.awhile.specs.Encoding.{nodesOfA, nodesOfB, writeC, numbered}
 use Rattle.labels.specs.Labellings.{variableMark, labelOf}
-use Rattle.masks.specs.Hardening.{Origin}
+use Rattle.masks.specs.Hardening.{Origin, versionFor}
 
 -- the origins of a program's nodes, by their numbers; the node of an expression has none
 unfoldable pub origins : Com Origin → List Origin
@@ -31,6 +31,8 @@ originIn program node = getD (origins program) node none
 pub record ReadsBack (original : Table) (program : Com Origin) (out : List ℕ) (hardened : Table) : Type 0 where
   -- the bytes are accepted as a table
   pub accepts : readTable out ≡ got hardened
+  -- "A hardened table is version 2 where its input is, or where it declares 33 variables; otherwise it stays version 1."
+  pub version : hardened .version ≡ versionFor (original .version) (original .variables + 1)
   -- "the output declares V+1 variables, f public, and its own N; all else of the declarations is unchanged"
   pub variables : hardened .variables ≡ original .variables + 1
   pub flagPublic : labelOf (hardened .labels) (variableMark (original .variables)) ≡ false

@@ -1,5 +1,5 @@
 -- The program's answer, from what the hardening entry leaves.
-use Prim.Native.Nat.{ℕ, _≤_, _<_}
+use Prim.Native.Nat.{ℕ, _+_, _≤_, _<_}
 use native.Mathlib.Omega.{arith}
 use mathlib.Core.List.{List, [], _∷_, _++_}
 use mathlib.Core.Path.{_≡_, refl, sym, ap, ap₂, _∙_}
@@ -16,7 +16,8 @@ use Rattle.awhile.specs.declared.Refusal.{Refusal}
 use Rattle.awhile.specs.declared.Refusal.the-variants.{TooManyNodes, NoFreeVariable}
 use Rattle.awhile.proofs.Accepted.{accepted-well-formed, check-got, then-got}
 use Rattle.machine.specs.Memory.{writtenOver}
-use Rattle.masks.specs.Hardening.{hardenedTable, maxHardened}
+use Rattle.awhile.proofs.Versions.{mask-most}
+use Rattle.masks.specs.Hardening.{hardenedTable, maxHardened, versionFor, tableOfHardened}
 use Rattle.masks.proofs.Demands.{demands-met}
 use Rattle.entries.specs.Answers.{answered, refusalNumbers}
 use Rattle.entries.specs.Promises.{writtenAt}
@@ -63,8 +64,9 @@ refusal-stored k n place a b c d =
 -- no hardened table is longer than the longest table
 hardened-short : (s : List ℕ) (t : Table) → Below 256 s → readTable s ≡ got t → length (t .nodes) ≤ maxHardened → t .variables < maxVariables
     → length (tableBytes (hardenedTable t)) ≤ longestTable
+unfolding tableOfHardened
 hardened-short s t bytes reads small free =
-    omega (arith, demands-met s t bytes reads small free .room, accepted-well-formed s bytes t reads .declared .arraysFit)
+    omega (arith, demands-met s t bytes reads small free .room, accepted-well-formed s bytes t reads .declared .arraysFit, mask-most (versionFor (t .version) (t .variables + 1)))
 
 data Leaves (s out answer : List ℕ) : Type 0 where
   refuses : (r : Refusal) → hardenedInput s ≡ refusalRecord r → hardenEntry s out answer ≡ notWritten r out answer → Leaves s out answer

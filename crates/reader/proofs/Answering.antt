@@ -120,14 +120,14 @@ module _ (s index uses : List ℕ) (declared : Declarations) (end : ℕ) (root :
 -- ---- from the nodes on
 -- records read as far as the nodes: the nodes decide
 records-then : (s : List ℕ) (h : Header) (l : Labelling) (cs : List ℕ) (a : Answer (List Node))
-    → readHeader s ≡ got h → readLabels s h labelsStart ≡ got l → readCounts (h .arrays) s (countsStart h) [] ≡ got cs → readNodes (h .nodes) h s (nodesStart h) [] ≡ a
-    → readRecords s ≡ andThen a (λ ns. got (record { variables = h .variables; labels = l; counts = cs; nodes = ns }))
+    → readHeader s ≡ got h → readLabels s h (labelsStart h) ≡ got l → readCounts (h .arrays) s (countsStart h) [] ≡ got cs → readNodes (h .nodes) h s (nodesStart h) [] ≡ a
+    → readRecords s ≡ andThen a (λ ns. got (record { version = h .version; variables = h .variables; labels = l; counts = cs; nodes = ns }))
 unfolding readRecords andThen
 records-then s h l cs a header labels counts nodes = rw (header, labels, counts, nodes)
 
 module _ (s index : List ℕ) (declared : Declarations) where
   -- a refused labels record refuses the table
-  pub labels-stop : (x : Refusal) → readHeader s ≡ got (declared .header) → LabelsRefused x ≡ labelsAs (readLabels s (declared .header) labelsStart) → Answers s index (Refused x)
+  pub labels-stop : (x : Refusal) → readHeader s ≡ got (declared .header) → LabelsRefused x ≡ labelsAs (readLabels s (declared .header) (labelsStart (declared .header))) → Answers s index (Refused x)
   unfolding readRecords andThen
   labels-stop x isHeader e = refuses s index x (table-refused s x (rw (isHeader, labels-not-got _ x e)))
 
@@ -148,12 +148,12 @@ module _ (s index : List ℕ) (declared : Declarations) where
       let cs = c .counts in
       let ns = h-left .before in
       let h = declared .header in
-      let t : Table = record { variables = h .variables; labels = declared .labels; counts = cs; nodes = ns } in
+      let t : Table = record { version = h .version; variables = h .variables; labels = declared .labels; counts = cs; nodes = ns } in
       let fit = counts-fit s (h .arrays) (countsStart h) [] cs (omega arith) (c .isCounts) in
       let many : length cs ≡ h .arrays = ap length (fit .whole) ∙ fit .counted in
       let all-there : length ns ≡ h .nodes = h-left .counted ∙ all-read in
       let declares : declarationsOf t ≡ declared =
-      λ i. record { header = record { variables = h .variables; arrays = many i; nodes = all-there i }; cells = c .total i; labels = declared .labels } in
+      λ i. record { header = record { version = h .version; variables = h .variables; arrays = many i; nodes = all-there i }; cells = c .total i; labels = declared .labels } in
       let atEnd : nodesStart (headerOf t) + sum (map sizeOf (take (length ns) ns)) ≡ at = rw (many, take-length) (sym (h-left .place)) in
       finishes .answers t (records-then _ _ _ _ _ (c .declared .isHeader) (c .declared .isLabels) (c .isCounts) (nodes-done _ _ _ _ _ _ h-left (omega (arith, all-read))))
       declares atEnd (rw many (h-left .kept))

@@ -10,11 +10,15 @@ use Rattle.awhile.specs.Lists.{sum}
 use Rattle.awhile.specs.Tables.{maxArrays, countStart}
 use Rattle.awhile.proofs.Accepted.{accepted-well-formed}
 use Rattle.awhile.proofs.Counts.{count-at}
-use Rattle.reader.specs.Index.{tableOf, nodesIn, Ready, HasHeader}
+use Rattle.reader.specs.Index.{tableOf, versionIn, nodesIn, Ready, HasHeader}
 use Rattle.awhile.specs.declared.Declarations.{Declarations}
 use Rattle.awhile.specs.declared.Header.{Header}
 
 module _ {table : List ℕ} {header : Header} (has : HasHeader table header) where
+  pub header-version : header .version ≡ versionIn table
+  unfolding versionIn
+  header-version = sym (ap (λ (h : Header). h .version) (has .isHeader))
+
   pub header-variables : header .variables ≡ tableOf table .variables
   header-variables = sym (ap (λ (h : Header). h .variables) (has .isHeader))
 
@@ -37,6 +41,9 @@ module _ {table : List ℕ} {header : Header} (has : HasHeader table header) whe
 module _ {table index : List ℕ} {declared : Declarations} (ready : Ready table index declared) where
   pub ready-header : HasHeader table (declared .header)
   ready-header = record { reads = ready .indexed .reads; isHeader = ap (λ (d : Declarations). d .header) (ready .declares) }
+
+  pub ready-version : declared .header .version ≡ versionIn table
+  ready-version = header-version ready-header
 
   pub ready-variables : declared .header .variables ≡ tableOf table .variables
   ready-variables = header-variables ready-header

@@ -10,6 +10,7 @@ use denote.Enum.Declared.{tagOf}
 use Rattle.awhile.specs.Refusals.{got}
 use Rattle.awhile.specs.Tables.{maxArrays, maxNodes, labelsStart, nodesStart, readHeader, readLabels, readCount}
 use Rattle.awhile.proofs.Accepted.{HeaderFits, header-fits}
+use Rattle.awhile.proofs.Versions.{mask-most}
 use Rattle.record.specs.RecordRead.{headerAs, labelsAs, countAs, Heads}
 use Rattle.reader.specs.Index.{Answers, Finishes}
 use Rattle.reader.specs.Walk.{begun, doneWith, headerDue, labelsDue, countDue, nodeDue, CountsLeft, NodesLeft, Long, Fresh, Declared, Counted, Walking, atHeader, atLabels, atArray, atNode, atEnd}
@@ -66,7 +67,7 @@ module _ (s : List ℕ) (at : ℕ) (p : Progress) (index uses : List ℕ) where
 
   -- the labels
   pub record LabelsReady : Type 0 where
-    pub here : at ≡ labelsStart
+    pub here : at ≡ labelsStart (p .declared .header)
     pub sum-left : p .left ≡ 2 + p .declared .header .arrays + p .declared .header .nodes
     pub isHeader : readHeader s ≡ got (p .declared .header)
     pub fresh : Fresh index uses
@@ -170,12 +171,12 @@ module _ (s : List ℕ) (at : ℕ) (p : Progress) (index uses : List ℕ) where
         rw (q, k .here) (record {
           walking = atArray refl (p .declared .header .arrays) (omega arith) (record { isHeader = k .isHeader; isLabels = labels-got _ ls (rw (k .here) at e) }) (counts-start s (p .declared .header)) (k .fresh);
           fewer = omega arith;
-          fits = omega arith;
+          fits = omega (arith, mask-most (p .declared .header .version));
         })
 
     -- after an array
-    array-small : (k : ArrayReady) → at < 65000
-    array-small k = omega (arith, header-fits s (p .declared .header) (k .declared .isHeader) .arraysFit)
+    pub array-small : (k : ArrayReady) → at < 65000
+    array-small k = omega (arith, header-fits s (p .declared .header) (k .declared .isHeader) .arraysFit, mask-most (p .declared .header .version))
 
     pub array-turn : (k : ArrayReady) → (h : CountRead) → h ≡ countAs (readCount s at (p .declared .cells)) → (r : Progress) → r ≡ countDue p h → Turned s at p r index uses
     unfolding countDue

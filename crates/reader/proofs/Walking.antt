@@ -10,7 +10,8 @@ use Rattle.bytes_le.proofs.Numbers.{Below}
 use Rattle.awhile.specs.Lists.{sum, all, occurrences}
 use Rattle.awhile.specs.Refusals.{refused, got}
 use Rattle.awhile.specs.Nodes.{sizeOf, decodeAt, fieldInRange, inRange, fieldChildren, childrenOf}
-use Rattle.awhile.specs.Tables.{maxNodes, nodesStart, readNode, readNodes, usesOf}
+use Rattle.awhile.specs.Tables.{maxNodes, nodesStart, readNode, readNodes, usesOf, headerSize, arraySize}
+use Rattle.awhile.proofs.Versions.{mask-most}
 use Rattle.record.specs.RecordRead.{fieldsOf, tally, allBelow, CountsBelow, Heads, Kept, NodeKnown, NodeChecked}
 use Rattle.reader.specs.Walk.{NodesLeft}
 use Rattle.awhile.proofs.Lists.{sum-append, occurrences-append, flatMap-append}
@@ -102,8 +103,8 @@ module _ (s : List ℕ) (header : Header) where
 
   module _ (index uses : List ℕ) (at n : ℕ) (h : NodesLeft s header index uses at n) where
     -- the offset is small
-    pub offset-small : at ≤ nodesStart header + 10 * n
-    offset-small = omega (arith, h .place, h .counted, sizes-most (h .before))
+    pub offset-small : at ≤ headerSize + 14 + arraySize * header .arrays + 10 * n
+    offset-small = omega (arith, h .place, h .counted, sizes-most (h .before), mask-most (header .version))
 
     -- the records before are whole
     pub heads-before : n ≤ length index → Heads s index n
@@ -122,12 +123,12 @@ module _ (s : List ℕ) (header : Header) where
       -- a refused record refuses them all
       pub nodes-stop : (x : Refusal) → NodeChecked s index (header .variables) (header .arrays) n at (NodeRefused x) → readNodes (header .nodes) header s (nodesStart header) [] ≡ refused x
       nodes-stop x c =
-          let e = c .isRead (h .before) (h .counted) (h .kept .leads) (header .nodes) in
+          let e = c .isRead (h .before) (h .counted) (h .kept .leads) (header .version) (header .nodes) in
           h .same ∙ ap (λ k. readNodes k header s at (h .before)) next ∙ nodes-refused _ _ _ _ _ _ e
 
       module _ (bytes : Below 256 s) (size : ℕ) (fs : Fields) (c : NodeChecked s index (header .variables) (header .arrays) n at (NodeGot size fs)) where
         was-read : NodeKnown (readNode header s at (h .before)) size fs
-        was-read = c .isRead (h .before) (h .counted) (h .kept .leads) (header .nodes)
+        was-read = c .isRead (h .before) (h .counted) (h .kept .leads) (header .version) (header .nodes)
 
         abbrev m : Node
         m = was-read .node

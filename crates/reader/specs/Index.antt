@@ -21,11 +21,14 @@ use Rattle.awhile.specs.declared.Node.the-variants.{Skip, Sequence, If, While}
 unfoldable pub tableOf : List ℕ → Table
 tableOf s =
     elim (readTable s) [
-      | refused r ↦ record { variables = 0; labels = record { variables = 0; arrays = 0 }; counts = []; nodes = [] }
+      | refused r ↦ record { version = 0; variables = 0; labels = record { variables = 0; arrays = 0 }; counts = []; nodes = [] }
       | got t ↦ t
     ]
 
--- how many nodes, the node of a number, and its tree
+-- its version, how many nodes, the node of a number, and its tree
+unfoldable pub versionIn : List ℕ → ℕ
+versionIn s = tableOf s .version
+
 unfoldable pub nodesIn : List ℕ → ℕ
 nodesIn s = length (tableOf s .nodes)
 

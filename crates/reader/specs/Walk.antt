@@ -27,7 +27,7 @@ use Rattle.reader.specs.declared.records.Due.{Due}
 use Rattle.reader.specs.declared.records.Due.the-variants.{Header as HeaderDue, Labels as LabelsDue, Body, Done}
 
 abbrev noHeader : Header
-noHeader = record { variables = 0; arrays = 0; nodes = 0 }
+noHeader = record { version = 0; variables = 0; arrays = 0; nodes = 0 }
 
 abbrev noLabels : Labelling
 noLabels = record { variables = 0; arrays = 0 }
@@ -50,7 +50,7 @@ headerDue (HeaderGot h) = record { left = 2 + h .arrays + h .nodes; size = heade
 
 unfoldable pub labelsDue : Progress → LabelsRead → Progress
 labelsDue p (LabelsRefused r) = doneWith (Refused r)
-labelsDue p (LabelsGot l) = record { left = p .left - 1; size = labelsSize; due = Body; declared = record { header = p .declared .header; cells = 0; labels = l } }
+labelsDue p (LabelsGot l) = record { left = p .left - 1; size = labelsSize (p .declared .header .version); due = Body; declared = record { header = p .declared .header; cells = 0; labels = l } }
 
 unfoldable pub countDue : Progress → CountRead → Progress
 countDue p (CountRefused r) = doneWith (Refused r)
@@ -95,7 +95,7 @@ pub record Fresh (index uses : List ℕ) : Type 0 where
 -- header and labels were read
 pub record Declared (s : List ℕ) (d : Declarations) : Type 0 where
   pub isHeader : readHeader s ≡ got (d .header)
-  pub isLabels : readLabels s (d .header) labelsStart ≡ got (d .labels)
+  pub isLabels : readLabels s (d .header) (labelsStart (d .header)) ≡ got (d .labels)
 
 -- the arrays too
 pub record Counted (s : List ℕ) (d : Declarations) : Type 0 where
@@ -107,7 +107,7 @@ pub record Counted (s : List ℕ) (d : Declarations) : Type 0 where
 -- what is known between two records
 pub data Walking (s : List ℕ) (at : ℕ) (p : Progress) (index uses : List ℕ) : Type 0 where
   atHeader : at ≡ 0 → p ≡ begun → Fresh index uses → Walking s at p index uses
-  atLabels : at ≡ labelsStart → p .due ≡ LabelsDue → p .left ≡ 2 + p .declared .header .arrays + p .declared .header .nodes → readHeader s ≡ got (p .declared .header)
+  atLabels : at ≡ labelsStart (p .declared .header) → p .due ≡ LabelsDue → p .left ≡ 2 + p .declared .header .arrays + p .declared .header .nodes → readHeader s ≡ got (p .declared .header)
       → Fresh index uses → Walking s at p index uses
   atArray : p .due ≡ Body → (left : ℕ) → p .left ≡ 1 + left + p .declared .header .nodes → Declared s (p .declared) → CountsLeft s (p .declared .header) left at (p .declared .cells)
       → Fresh index uses → Walking s at p index uses

@@ -17,7 +17,7 @@ use record::declarations::HeaderRead;
 use record::declarations::LabelsRead;
 use record::layout::ARRAY_BYTES;
 use record::layout::HEADER_BYTES;
-use record::layout::LABELS_BYTES;
+use record::layout::labels_bytes;
 use record::node;
 use record::node::NodeRead;
 use record::uses;
@@ -62,6 +62,7 @@ fn undeclared(left: usize, due: Due) -> Progress
         due,
         declared: Declarations {
             header: Header {
+                version: 0,
                 variables: 0,
                 arrays: 0,
                 nodes: 0,
@@ -100,7 +101,7 @@ fn header_due(table: &[u8], at: usize) -> Progress
 
 // The labels record.
 fn labels_due(table: &[u8], at: usize, progress: Progress) -> Progress
-    requires { ⌜ (at ≡ labelsStart) × (progress .declared .header .variables ≤ maxVariables) × (progress .declared .header .arrays ≤ maxArrays) × (0 < progress .left) ⌝ }
+    requires { ⌜ (at ≡ labelsStart (progress .declared .header)) × (progress .declared .header .variables ≤ maxVariables) × (progress .declared .header .arrays ≤ maxArrays) × (0 < progress .left) ⌝ }
     ensures { λ r. ⌜ r ≡ labelsDue progress (labelsAs (readLabels (now (table .entry)) (progress .declared .header) at)) ⌝ }
 {
     let declared = progress.declared;
@@ -109,7 +110,7 @@ fn labels_due(table: &[u8], at: usize, progress: Progress) -> Progress
         LabelsRead::Refused { refusal } => done(Read::Refused { refusal }),
         LabelsRead::Labels { labels } => Progress {
             left: progress.left - 1,
-            size: LABELS_BYTES,
+            size: labels_bytes(header.version),
             due: Due::Body,
             declared: Declarations {
                 header,

@@ -247,7 +247,7 @@ module _ (s index : List ℕ) (vs arrs n at : ℕ) (whole : Checked) where
 module _ (s index : List ℕ) (vs arrs n at : ℕ) where
   -- of no kind
   pub unknown-read : (x : Refusal) → decodeAt s at ≡ Unknown → framed s at 0 (got Skip) ≡ refused x → NodeChecked s index vs arrs n at (NodeRefused x)
-  unknown-read x d e = record { isRead = λ before counted leads nodes. node-unknown _ _ _ _ d ∙ e }
+  unknown-read x d e = record { isRead = λ before counted leads version nodes. node-unknown _ _ _ _ d ∙ e }
 
   -- of a kind: what the tests of its record say
   pub record-read : (m : Node) → decodeAt s at ≡ Known m → (size : ℕ) (fs : Fields) → size ≡ sizeOf m → fieldsOf fs ≡ form m .fields
@@ -255,7 +255,7 @@ module _ (s index : List ℕ) (vs arrs n at : ℕ) where
   unfolding framed inRange sorted sizeOf
   record-read m d size fs long held r h =
       record {
-        isRead = λ before counted leads nodes.
+        isRead = λ before counted leads version nodes.
             rw (node-known _ _ _ _ _ d, counted)
             (row-read _ _ _ _ _ m size fs long held _ _ _ _ _ r (h .isChecked before counted leads ∙ rw held));
       }

@@ -140,7 +140,7 @@ pub record RecordChecked (s index : List ℕ) (vs arrs n at : ℕ) (fs : List Fi
 -- what reading the next node answers, by an index of the nodes before
 pub record NodeChecked (s index : List ℕ) (vs arrs n at : ℕ) (r : NodeRead) : Type 0 where
   pub isRead : (before : List Node) → length before ≡ n → Leads s index before
-      → (nodes : ℕ) → NodeAs (readNode (record { variables = vs; arrays = arrs; nodes = nodes }) s at before) r
+      → (version nodes : ℕ) → NodeAs (readNode (record { version = version; variables = vs; arrays = arrs; nodes = nodes }) s at before) r
 
 -- ---- how often a node is a child
 -- counts with one more for each of these numbers

@@ -2,20 +2,23 @@
 ghost use Prim.Native.Nat.{_+_, _^_, _<_, _≤_};
 ghost use mathlib.Core.Path.{_≡_};
 ghost use mathlib.Core.Bool.{_&&_};
-ghost use lib.Dec.{eqb, ltb, leb};
-ghost use Rattle.awhile.specs.Tables.{maxVariables, maxArrays, maxNodes, maxCells, labelsSize, arraySize, readHeader, readLabels, readCount};
+ghost use lib.Dec.{ltb, leb};
+ghost use Rattle.awhile.specs.Tables.{knownVersion, mostVariables, maxVariables, maxArrays, maxNodes, maxCells, longestLabels, arraySize, readHeader, readLabels, readCount};
 ghost use Rattle.record.specs.RecordRead.{headerAs, labelsAs, countAs};
 use crate::checks;
 use crate::checks::Checked;
 use crate::layout::ARRAY_BYTES;
 use crate::layout::HEADER_BYTES;
-use crate::layout::LABELS_BYTES;
+use crate::layout::labels_bytes;
+use crate::mask::mask_at;
+use crate::mask::mask_bytes;
+use crate::mask::mask_fits;
+use crate::mask::most_variables;
 use awhile::Header;
 use awhile::Labelling;
 use awhile::MAX_ARRAYS;
 use awhile::MAX_CELLS;
 use awhile::MAX_NODES;
-use awhile::MAX_VARIABLES;
 use awhile::Refusal;
 use bytes_le::get;
 
@@ -25,14 +28,24 @@ pub enum HeaderRead {
     Header { header: Header },
 }
 
+// There is such a version.
+fn known_version(version: usize) -> bool
+    ensures { λ r. ⌜ r ≡ knownVersion version ⌝ }
+{
+    if version == 1 {
+        return true;
+    }
+    version == 2
+}
+
 // Version, variables, arrays and nodes are within the limits.
 fn within_limits(version: usize, variables: usize, arrays: usize, nodes: usize) -> bool
-    ensures { λ r. ⌜ r ≡ (eqb version 1 && leb variables maxVariables && leb arrays maxArrays && ltb 0 nodes && leb nodes maxNodes) ⌝ }
+    ensures { λ r. ⌜ r ≡ (knownVersion version && leb variables (mostVariables version) && leb arrays maxArrays && ltb 0 nodes && leb nodes maxNodes) ⌝ }
 {
-    if version != 1 {
+    if !known_version(version) {
         return false;
     }
-    if MAX_VARIABLES < variables {
+    if most_variables(version) < variables {
         return false;
     }
     if MAX_ARRAYS < arrays {
@@ -59,6 +72,7 @@ pub fn read_header(table: &[u8], at: usize) -> HeaderRead
     if within_limits(version, variables, arrays, nodes) {
         return HeaderRead::Header {
             header: Header {
+                version,
                 variables,
                 arrays,
                 nodes,
@@ -76,24 +90,17 @@ pub enum LabelsRead {
     Labels { labels: Labelling },
 }
 
-// No mark of a mask stands at a number from a width up.
-fn mask_fits(mask: u64, width: usize) -> bool
-    requires { ⌜ width < 64 ⌝ }
-    ensures { λ r. ⌜ r ≡ ltb mask (2 ^ width) ⌝ }
-{
-    mask >> width == 0
-}
-
 // The labels record: no mark beyond the variables and arrays that there are.
 pub fn read_labels(table: &[u8], header: Header, at: usize) -> LabelsRead
-    requires { ⌜ (at + labelsSize < 2 ^ 64) × (header .variables ≤ maxVariables) × (header .arrays ≤ maxArrays) ⌝ }
+    requires { ⌜ (at + longestLabels < 2 ^ 64) × (header .variables ≤ maxVariables) × (header .arrays ≤ maxArrays) ⌝ }
     ensures { λ r. ⌜ r ≡ labelsAs (readLabels (now (table .entry)) header at) ⌝ }
 {
-    if let Checked::Refused { refusal } = checks::frame_of_kind(table, at, 3, LABELS_BYTES) {
+    let size = labels_bytes(header.version);
+    if let Checked::Refused { refusal } = checks::frame_of_kind(table, at, 3, size) {
         return LabelsRead::Refused { refusal };
     }
-    let variable_mask = get::u32_at(table, at + 4) as u64;
-    let array_mask = get::u16_at(table, at + 8);
+    let variable_mask = mask_at(table, header.version, at + 4);
+    let array_mask = get::u16_at(table, at + 4 + mask_bytes(header.version));
     if mask_fits(variable_mask, header.variables) {
         if mask_fits(array_mask as u64, header.arrays) {
             return LabelsRead::Labels {

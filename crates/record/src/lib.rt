@@ -4,5 +4,6 @@ pub mod declarations;
 pub mod decode;
 pub mod forms;
 pub mod layout;
+pub mod mask;
 pub mod node;
 pub mod uses;

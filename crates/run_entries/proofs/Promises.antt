@@ -19,6 +19,7 @@ use Rattle.interpreter.specs.Running.{reportOf}
 use Rattle.entries.specs.Answers.{answered}
 use Rattle.entries.specs.Running.{Lent, Ran, notRun, lentFor, ranAll, running, runEntry, guessWith, guessEntry}
 use Rattle.entries.specs.Rolling.{saveSize, savingFor, notRunSaving, ranSaving, savingRun, rollbackWith, rollbackEntry}
+use Rattle.awhile.proofs.VersionOne.{reads-as-before}
 use Rattle.entries.specs.Promises.{ranAt, Runs, Guesses, RollsBack}
 use Rattle.entries.proofs.Rolling.{entry-rolls-back}
 use Rattle.run_entries.specs.Lengths.{enoughFor, fitFor}
@@ -101,10 +102,17 @@ module _ (table list : List ℕ) (budget : ℕ) (lent : Lent) (ss : List ℕ) (l
   pub run-promise : list ≡ [] → ReadDone table list Plain budget lent ss lent′ ss′ d → Runs table lent budget answer result lent′ answer′
   run-promise empty read =
       let done = rw empty at read in
-      record { runs = at-exit ∙ sym (run-entry table budget lent ss answer ∙ came-to [] Plain budget lent ss lent′ ss′ answer _ d (done .came)) }
+      record {
+        older = reads-as-before table;
+        runs = at-exit ∙ sym (run-entry table budget lent ss answer ∙ came-to [] Plain budget lent ss lent′ ss′ answer _ d (done .came));
+      }
 
   pub guess-promise : ReadDone table list Guessing budget lent ss lent′ ss′ d → Guesses table list lent budget answer result lent′ answer′
-  guess-promise done = record { guesses = at-exit ∙ sym (guess-entry table budget lent ss answer list ∙ came-to list Guessing budget lent ss lent′ ss′ answer _ d (done .came)) }
+  guess-promise done =
+      record {
+        older = reads-as-before table;
+        guesses = at-exit ∙ sym (guess-entry table budget lent ss answer list ∙ came-to list Guessing budget lent ss lent′ ss′ answer _ d (done .came));
+      }
 
   pub rollback-promise : ReadDone table list Rolling budget lent ss lent′ ss′ d → RollsBack table list lent ss budget answer result lent′ ss′ answer′
   rollback-promise done =

@@ -6,6 +6,7 @@ use mathlib.Core.List.{List, [], _∷_}
 use mathlib.Core.Path.{_≡_, refl, sym, ap, _∙_}
 use lib.ListN.{length}
 use borrow.Author.Tests.{leb-true}
+use Rattle.awhile.proofs.Versions.{declared-variables}
 use Rattle.bytes_le.proofs.Numbers.{Below}
 use Rattle.awhile.specs.Refusals.{refused, check, andThen, refusalNumber}
 use Rattle.reader.specs.Index.{Indexed, Ready, tableOf, nodesIn, Answers}
@@ -47,7 +48,7 @@ module _ (table index list : List ℕ) (declared : Declarations) (ready : Ready 
   ready-small bytes =
       let w = indexed-well-formed table index bytes (ready .indexed) in
       record {
-        variables = omega (arith, ready-variables ready, w .declared .variablesFit);
+        variables = omega (arith, ready-variables ready, declared-variables (w .declared));
         cells = omega (arith, ready-cells ready, w .declared .cellsFit);
         nodes = omega (arith, ready-nodes ready, indexed-few table index bytes (ready .indexed));
       }

@@ -5,7 +5,7 @@ use mathlib.Core.List.{List}
 use lib.ListN.{length}
 use lib.Dec.{eqb, leb}
 use Rattle.awhile.specs.Refusals.{Answer, refused, got, check, andThen}
-use Rattle.awhile.specs.Tables.{Table}
+use Rattle.awhile.specs.Tables.{Table, maxVariables, maxCells, maxNodes}
 use Rattle.awhile.specs.declared.Declarations.{Declarations}
 use Rattle.awhile.specs.declared.Refusal.the-variants.{WrongVariables, WrongCells, ShortPending, ShortSaves}
 use Rattle.machine.specs.declared.Board.{Board}
@@ -14,18 +14,19 @@ use Rattle.entries.specs.Running.{Lent, lentFor}
 use Rattle.entries.specs.Rolling.{saveSize}
 use Rattle.run_entries.specs.declared.lengths.Lengths.{Lengths}
 use Rattle.run_entries.specs.declared.lengths.Lengths.the-variants.{Right, Wrong}
+use Rattle.machine.specs.Runs.{maxSaves}
 
 -- a table's numbers are small
 pub record Small (d : Declarations) : Type 0 where
-  pub variables : d .header .variables ≤ 32
-  pub cells : d .cells ≤ 16384
-  pub nodes : d .header .nodes ≤ 4096
+  pub variables : d .header .variables ≤ maxVariables
+  pub cells : d .cells ≤ maxCells
+  pub nodes : d .header .nodes ≤ maxNodes
 
 -- only the board that rolls back wants save words
 unfoldable pub enoughFor : Board → (saves words : ℕ) → Bool
 enoughFor Plain saves words = true
 enoughFor Guessing saves words = true
-enoughFor Rolling saves words = leb (32 * words) saves
+enoughFor Rolling saves words = leb (4 * maxSaves * words) saves
 
 unfoldable pub lengthsOf : Declarations → Board → (variables cells pending saves : ℕ) → Lengths
 lengthsOf d board v c p s =

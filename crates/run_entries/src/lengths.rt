@@ -3,6 +3,7 @@ use awhile::Declarations;
 use awhile::Refusal;
 use directives::board::rolls;
 use machine::Board;
+use machine::MAX_SAVES;
 ghost use Prim.Native.Nat.{_≤_};
 ghost use mathlib.Core.Path.{_≡_};
 ghost use Rattle.run_entries.specs.Lengths.{Small, enoughFor, lengthsOf};
@@ -13,13 +14,13 @@ pub enum Lengths {
     Wrong { refusal: Refusal },
 }
 
-// Whether the save words suffice for eight saves of so many words, on the board that rolls back. Another board saves nothing.
+// Whether the save words suffice for as many saves, of so many words each, as can be open, on the board that rolls back. Another board saves nothing.
 fn enough_saves(board: Board, saves: usize, words: usize) -> bool
     requires { ⌜ words ≤ 65536 ⌝ }
     ensures { λ r. ⌜ r ≡ enoughFor board saves words ⌝ }
 {
     if rolls(board) {
-        return 32 * words <= saves;
+        return 4 * MAX_SAVES * words <= saves;
     }
     true
 }

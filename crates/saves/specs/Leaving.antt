@@ -7,6 +7,7 @@ use lib.ListN.{length, getD, replicate}
 use lib.Seq.{sets}
 use lib.Dec.{ltb}
 use Rattle.bytes_le.specs.Numbers.{words}
+use Rattle.machine.specs.Runs.{maxSaves}
 
 -- the words of place k that are kept: those before its entries and its entries where it is open, else none
 unfoldable pub keptWords : (heights : List ℕ) → (count before k : ℕ) → ℕ
@@ -21,6 +22,6 @@ leftPlaces heights count before nodes (suc k) saves =
 
 -- eight places stand in the slice, and the open ones have no more entries than nodes
 pub record LeaveFits (saves heights : List ℕ) (count before nodes : ℕ) : Type 0 where
-  pub eight : length heights ≡ 8
-  pub within : 32 * (before + nodes) ≤ length saves
+  pub eight : length heights ≡ maxSaves
+  pub within : 4 * maxSaves * (before + nodes) ≤ length saves
   pub few : (k : ℕ) → k < count → getD heights k 0 ≤ nodes

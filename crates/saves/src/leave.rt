@@ -3,7 +3,9 @@ ghost use Prim.Native.Nat.{_+_, _^_, _<_};
 ghost use mathlib.Core.Path.{_≡_};
 ghost use lib.ListN.{length};
 ghost use Rattle.saves.specs.Leaving.{keptWords, leftPlaces, LeaveFits};
+ghost use Rattle.machine.specs.Runs.{maxSaves};
 use bytes_le::clear::clear;
+use machine::MAX_SAVES;
 
 // How many words of place k are kept.
 fn kept(heights: &[u16], k: usize, count: usize, before: usize) -> usize
@@ -17,14 +19,14 @@ fn kept(heights: &[u16], k: usize, count: usize, before: usize) -> usize
     }
 }
 
-// Sets to 0 what is not kept of the eight places. A place has so many words before its entries, and an entry for each node.
+// Sets to 0 what is not kept of all places. A place has so many words before its entries, and an entry for each node.
 pub fn leave(saves: &mut [u8], heights: &[u16], count: usize, before: usize, nodes: usize)
     requires { ⌜ LeaveFits (now saves) (now heights) count before nodes ⌝ }
-    ensures { λ _. ⌜ now (saves .exit) ≡ leftPlaces (now (heights .entry)) count before nodes 8 (now (saves .entry)) ⌝ }
+    ensures { λ _. ⌜ now (saves .exit) ≡ leftPlaces (now (heights .entry)) count before nodes maxSaves (now (saves .entry)) ⌝ }
 {
     let size = before + nodes;
     let mut k = 0;
-    while k < 8 {
+    while k < MAX_SAVES {
         let from = size * k;
         let keep = kept(heights, k, count, before);
         clear(&mut *saves, from + keep, from + size);

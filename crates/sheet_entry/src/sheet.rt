@@ -39,11 +39,21 @@ fn sheet_in(
         ≡ writing (got (sheetBytes (tableOf (now (table .entry))) labels)) (now (sheet .entry)) (now (answer .entry)) ⌝ }
 {
     let nodes = declared.header.nodes;
+    let version = declared.header.version;
     name_all(table, index, nodes, &mut *named);
     let masks = label_program(table, index, &*named, &mut *notes, nodes, labels);
     let room = sheet.len();
-    if sheet_fits(table, index, &*named, &*notes, nodes, room) {
-        let size = write_sheet(table, index, &*named, &*notes, nodes, masks, &mut *sheet);
+    if sheet_fits(table, index, &*named, &*notes, version, nodes, room) {
+        let size = write_sheet(
+            table,
+            index,
+            &*named,
+            &*notes,
+            version,
+            nodes,
+            masks,
+            &mut *sheet,
+        );
         answer_two(&mut *answer, 0, size as u64);
         return 0;
     }

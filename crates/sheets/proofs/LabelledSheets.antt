@@ -4,7 +4,7 @@ use mathlib.Core.Path.{_≡_, ap₂}
 use Prim.Native.Nat.{ℕ}
 use Rattle.awhile.specs.Language.{Com}
 use Rattle.awhile.specs.declared.Labelling.{Labelling}
-use Rattle.reader.specs.Index.{tableOf, nodesIn}
+use Rattle.reader.specs.Index.{tableOf, versionIn, nodesIn}
 use Rattle.labels.specs.Annotation.{Entry}
 use Rattle.labels.specs.Sheet.{sheetOf, finalLabels, sheetBytes}
 use Rattle.analysis.specs.Conditions.{Labelled}
@@ -12,5 +12,5 @@ use Rattle.analysis.proofs.NotedPrograms.{labelled-program}
 use Rattle.sheets.specs.Rows.{sheetIn}
 
 pub labelled-sheet : {table ns : List ℕ} {l final : Labelling} → Labelled table ns l → final ≡ finalLabels (tableOf table) l → sheetIn table ns final ≡ sheetBytes (tableOf table) l
-unfolding sheetIn sheetBytes nodesIn
-labelled-sheet {table} h e = ap₂ (λ (a : Com Entry) (m : Labelling). sheetOf (nodesIn table) a m) (labelled-program h) e
+unfolding sheetIn sheetBytes nodesIn versionIn
+labelled-sheet {table} h e = ap₂ (λ (a : Com Entry) (m : Labelling). sheetOf (versionIn table) (nodesIn table) a m) (labelled-program h) e

@@ -6,7 +6,8 @@ use lib.ListN.{length}
 use lib.Seq.{sets}
 use Rattle.awhile.specs.Language.{mapNotes}
 use Rattle.awhile.specs.declared.Labelling.{Labelling}
-use Rattle.reader.specs.Index.{Indexed, nodesIn, commandIn}
+use Rattle.awhile.specs.Tables.{maskBytes}
+use Rattle.reader.specs.Index.{Indexed, versionIn, nodesIn, commandIn}
 use Rattle.labels.specs.Sheet.{SheetRecord, sheetRecord, number, label, masks, recordBytes, commandRecords, recordsBelow, sheetOf}
 use Rattle.variables.specs.Named.{Named}
 use Rattle.analysis.specs.Notes.{noteIn, notedProgram}
@@ -23,20 +24,20 @@ rowRecords (Labels k a b) n = sheetRecord k (number n ∷ label a ∷ label b �
 rowRecords (LabelMasks k b l) n = sheetRecord k (number n ∷ label b ∷ masks l ∷ []) ∷ []
 
 -- its bytes, and how many they are
-unfoldable pub rowBytes : Row → (node : ℕ) → List ℕ
-rowBytes r n = flatMap recordBytes (rowRecords r n)
+unfoldable pub rowBytes : (version : ℕ) → Row → (node : ℕ) → List ℕ
+rowBytes v r n = flatMap (recordBytes v) (rowRecords r n)
 
-unfoldable pub rowSize : Row → ℕ
-rowSize Nothing = 0
-rowSize (Masks k l) = 12
-rowSize (Label k b) = 8
-rowSize (Labels k a b) = 10
-rowSize (LabelMasks k b l) = 14
+unfoldable pub rowSize : (version : ℕ) → Row → ℕ
+rowSize v Nothing = 0
+rowSize v (Masks k l) = 8 + maskBytes v
+rowSize v (Label k b) = 8
+rowSize v (Labels k a b) = 10
+rowSize v (LabelMasks k b l) = 10 + maskBytes v
 
 -- a record at an offset: written where it fits whole, and where it ends
-pub record RowPut (out : List ℕ) (at : ℕ) (r : Row) (node : ℕ) (out′ : List ℕ) (end : ℕ) : Type 0 where
-  pub ends : end ≡ at + rowSize r
-  pub stored : at + rowSize r ≤ length out → out′ ≡ sets out at (rowBytes r node)
+pub record RowPut (version : ℕ) (out : List ℕ) (at : ℕ) (r : Row) (node : ℕ) (out′ : List ℕ) (end : ℕ) : Type 0 where
+  pub ends : end ≡ at + rowSize version r
+  pub stored : at + rowSize version r ≤ length out → out′ ≡ sets out at (rowBytes version r node)
 
 -- the record of a node's command, by the notes
 unfoldable pub recordsIn : (table notes : List ℕ) → (node : ℕ) → List SheetRecord
@@ -44,16 +45,23 @@ recordsIn table ns n = commandRecords (mapNotes (noteIn ns) (commandIn table n))
 
 -- the records of all nodes of the program as it is noted
 unfoldable pub rowsIn : (table notes : List ℕ) → List ℕ
-rowsIn table ns = flatMap recordBytes (recordsBelow (notedProgram table ns) (nodesIn table))
+rowsIn table ns = flatMap (recordBytes (versionIn table)) (recordsBelow (notedProgram table ns) (nodesIn table))
 
--- these bytes are written behind the head's 14 where they fit, and they end there
-pub record RowsPut (rows out out′ : List ℕ) (end : ℕ) : Type 0 where
-  pub ends : end ≡ 14 + length rows
-  pub stored : 14 + length rows ≤ length out → out′ ≡ sets out 14 rows
+-- how many bytes the sheet's first record has: no other has more, and none has more of any version than these
+abbrev pub firstSize : (version : ℕ) → ℕ
+firstSize v = 10 + maskBytes v
+
+abbrev pub longestRow : ℕ
+longestRow = 18
+
+-- these bytes are written behind the first record where they fit, and they end there
+pub record RowsPut (version : ℕ) (rows out out′ : List ℕ) (end : ℕ) : Type 0 where
+  pub ends : end ≡ firstSize version + length rows
+  pub stored : firstSize version + length rows ≤ length out → out′ ≡ sets out (firstSize version) rows
 
 -- the sheet of the program as it is noted, with this labelling after it
 unfoldable pub sheetIn : (table notes : List ℕ) → (final : Labelling) → List ℕ
-sheetIn table ns final = sheetOf (nodesIn table) (notedProgram table ns) final
+sheetIn table ns final = sheetOf (versionIn table) (nodesIn table) (notedProgram table ns) final
 
 -- what the sheet is written from
 pub record Sheetable (table index named notes : List ℕ) : Type 0 where

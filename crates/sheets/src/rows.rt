@@ -9,17 +9,18 @@ use awhile::Labelling;
 use awhile::Node;
 use reader::lookup::command_at;
 use reader::lookup::is_command;
+use record::mask::mask_bytes;
 use variables::meeting::named_label;
-ghost use Prim.Native.Nat.{_+_, _^_, _≤_, _<_};
+ghost use Prim.Native.Nat.{ℕ, _+_, _^_, _≤_, _<_};
+ghost use mathlib.Core.Bool.{cond};
 ghost use mathlib.Core.List.{_++_};
 ghost use mathlib.Core.Path.{_≡_};
 ghost use lib.ListN.{length};
 ghost use lib.Seq.{sets};
 ghost use Rattle.bytes_le.specs.Numbers.{le};
-ghost use Rattle.labels.specs.Sheet.{fieldBytes, label};
 ghost use Rattle.awhile.specs.declared.Sort.the-variants.{Command};
 ghost use Rattle.reader.specs.Index.{nodesIn, OfSort};
-ghost use Rattle.sheets.specs.Rows.{RowPut, Sheetable, recordsIn, rowRecords};
+ghost use Rattle.sheets.specs.Rows.{longestRow, RowPut, Sheetable, recordsIn, rowRecords};
 
 pub enum Row {
     // a command that has no record, or no command
@@ -45,23 +46,31 @@ pub enum Row {
 }
 
 // A record with masks, where it fits whole; the answer is where it ends, or would end.
-fn put_masked(out: &mut [u8], at: usize, kind: usize, n: usize, masks: Labelling) -> usize
-    requires { ⌜ at + 14 < 2 ^ 64 ⌝ }
-    ensures { λ r. ⌜ RowPut (now (out .entry)) at (Row.Masks kind masks) n (now (out .exit)) r ⌝ }
+fn put_masked(
+    out: &mut [u8],
+    at: usize,
+    version: usize,
+    kind: usize,
+    n: usize,
+    masks: Labelling,
+) -> usize
+    requires { ⌜ at + longestRow < 2 ^ 64 ⌝ }
+    ensures { λ r. ⌜ RowPut version (now (out .entry)) at (Row.Masks kind masks) n (now (out .exit)) r ⌝ }
 {
-    let end = at + 12;
+    let size = 8 + mask_bytes(version);
+    let end = at + size;
     if out.len() < end {
         return end;
     }
-    put_head(&mut *out, at, 12, kind, n);
-    put_masks(&mut *out, at + 6, masks);
+    put_head(&mut *out, at, size, kind, n);
+    put_masks(&mut *out, at + 6, version, masks);
     end
 }
 
 // A record of a length, up to its first label.
 fn put_labelled(out: &mut [u8], at: usize, size: usize, kind: usize, n: usize, secret: bool)
     requires { ⌜ at + 8 ≤ length (now out) ⌝ }
-    ensures { λ _. ⌜ now (out .exit) ≡ sets (now (out .entry)) at (le 2 size ++ (le 2 kind ++ (le 2 n ++ fieldBytes (label secret)))) ⌝ }
+    ensures { λ _. ⌜ now (out .exit) ≡ sets (now (out .entry)) at (le 2 size ++ (le 2 kind ++ (le 2 n ++ le 2 (cond secret 1 0)))) ⌝ }
 {
     put_head(&mut *out, at, size, kind, n);
     put_label(&mut *out, at + 6, secret);
@@ -69,8 +78,8 @@ fn put_labelled(out: &mut [u8], at: usize, size: usize, kind: usize, n: usize, s
 
 // The same for a record with a label, with two, and with a label and masks.
 fn put_one(out: &mut [u8], at: usize, kind: usize, n: usize, secret: bool) -> usize
-    requires { ⌜ at + 14 < 2 ^ 64 ⌝ }
-    ensures { λ r. ⌜ RowPut (now (out .entry)) at (Row.Label kind secret) n (now (out .exit)) r ⌝ }
+    requires { ⌜ at + longestRow < 2 ^ 64 ⌝ }
+    ensures { λ r. ⌜ ((v : ℕ) → RowPut v (now (out .entry)) at (Row.Label kind secret) n (now (out .exit)) r) ⌝ }
 {
     let end = at + 8;
     if out.len() < end {
@@ -81,8 +90,8 @@ fn put_one(out: &mut [u8], at: usize, kind: usize, n: usize, secret: bool) -> us
 }
 
 fn put_two(out: &mut [u8], at: usize, kind: usize, n: usize, first: bool, second: bool) -> usize
-    requires { ⌜ at + 14 < 2 ^ 64 ⌝ }
-    ensures { λ r. ⌜ RowPut (now (out .entry)) at (Row.Labels kind first second) n (now (out .exit)) r ⌝ }
+    requires { ⌜ at + longestRow < 2 ^ 64 ⌝ }
+    ensures { λ r. ⌜ ((v : ℕ) → RowPut v (now (out .entry)) at (Row.Labels kind first second) n (now (out .exit)) r) ⌝ }
 {
     let end = at + 10;
     if out.len() < end {
@@ -96,31 +105,33 @@ fn put_two(out: &mut [u8], at: usize, kind: usize, n: usize, first: bool, second
 fn put_label_masks(
     out: &mut [u8],
     at: usize,
+    version: usize,
     kind: usize,
     n: usize,
     secret: bool,
     masks: Labelling,
 ) -> usize
-    requires { ⌜ at + 14 < 2 ^ 64 ⌝ }
-    ensures { λ r. ⌜ RowPut (now (out .entry)) at (Row.LabelMasks kind secret masks) n (now (out .exit)) r ⌝ }
+    requires { ⌜ at + longestRow < 2 ^ 64 ⌝ }
+    ensures { λ r. ⌜ RowPut version (now (out .entry)) at (Row.LabelMasks kind secret masks) n (now (out .exit)) r ⌝ }
 {
-    let end = at + 14;
+    let size = 10 + mask_bytes(version);
+    let end = at + size;
     if out.len() < end {
         return end;
     }
-    put_labelled(&mut *out, at, 14, kind, n, secret);
-    put_masks(&mut *out, at + 8, masks);
+    put_labelled(&mut *out, at, size, kind, n, secret);
+    put_masks(&mut *out, at + 8, version, masks);
     end
 }
 
 // Writes the record of node n at an offset, where it fits whole, and answers where it ends, or would end.
-pub fn put_row(out: &mut [u8], at: usize, n: usize, row: Row) -> usize
-    requires { ⌜ at + 14 < 2 ^ 64 ⌝ }
-    ensures { λ r. ⌜ RowPut (now (out .entry)) at row n (now (out .exit)) r ⌝ }
+pub fn put_row(out: &mut [u8], at: usize, version: usize, n: usize, row: Row) -> usize
+    requires { ⌜ at + longestRow < 2 ^ 64 ⌝ }
+    ensures { λ r. ⌜ RowPut version (now (out .entry)) at row n (now (out .exit)) r ⌝ }
 {
     match row {
         Row::Nothing => at,
-        Row::Masks { kind, masks } => put_masked(&mut *out, at, kind, n, masks),
+        Row::Masks { kind, masks } => put_masked(&mut *out, at, version, kind, n, masks),
         Row::Label { kind, secret } => put_one(&mut *out, at, kind, n, secret),
         Row::Labels {
             kind,
@@ -131,7 +142,7 @@ pub fn put_row(out: &mut [u8], at: usize, n: usize, row: Row) -> usize
             kind,
             secret,
             masks,
-        } => put_label_masks(&mut *out, at, kind, n, secret, masks),
+        } => put_label_masks(&mut *out, at, version, kind, n, secret, masks),
     }
 }
 

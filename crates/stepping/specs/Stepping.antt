@@ -11,11 +11,11 @@ use Rattle.awhile.specs.Lists.{sum}
 use Rattle.reader.specs.Index.{Indexed, tableOf, nodesIn, commandIn}
 use Rattle.machine.specs.Observations.{Observation, branch, rolledBack, shownBytes}
 use Rattle.machine.specs.Steps.{State}
-use Rattle.machine.specs.Runs.{Machine, bytes, next, goes, run}
+use Rattle.machine.specs.Runs.{Machine, bytes, next, goes, run, maxSaves}
 use Rattle.stepping.specs.Evaluation.{variablesIn}
 use Rattle.stepping.specs.Actions.{changed, observationOf, CommandAt, BackFits}
 use Rattle.directives.specs.Changes.{heightOf}
-use Rattle.directives.specs.Fitting.{Starts}
+use Rattle.directives.specs.Fitting.{startsLength, Starts}
 use Rattle.directives.specs.Guiding.{Readable, guideOf}
 use Rattle.machine.specs.declared.Board.{Board}
 use Rattle.machine.specs.declared.Board.the-variants.{Plain, Guessing, Rolling}
@@ -31,6 +31,7 @@ use Rattle.stepping.specs.declared.next.Seen.{Seen}
 use Rattle.stepping.specs.declared.next.Seen.the-variants.{Nothing, Observed}
 use Rattle.stepping.specs.declared.next.Next.{Next}
 use Rattle.stepping.specs.declared.next.Next.the-variants.{Over, Goes, Saves, Undoes}
+use Rattle.awhile.specs.Tables.{maxNodes}
 
 -- ---- the state by value
 unfoldable pub startState : MachineState
@@ -39,7 +40,7 @@ startState = record { flag = false; saved = 0; steps = 0; used = 0; at = 0; pend
 -- a step can be taken: something is pending, and the counts fit
 pub record Steppable (state : MachineState) (usedNow size bytesNow : ℕ) : Type 0 where
   pub some : 0 < state .pending
-  pub few : state .pending ≤ 4096
+  pub few : state .pending ≤ maxNodes
   pub stepsFit : state .steps + 1 < 2 ^ 32
   pub usedFit : state .used + usedNow < 2 ^ 32
   pub atFit : state .at + size < 2 ^ 64
@@ -82,7 +83,7 @@ wrongStep room s shown wrong u size =
 -- the same, with its right side saved
 unfoldable pub saveStep : (room : ℕ) → MachineState → (value : Bool) → (right wrong : Back) → (usedNow size : ℕ) → Next
 saveStep room s v right wrong u size =
-    cond (leb 8 (s .saved)) (Over Stuck)
+    cond (leb maxSaves (s .saved)) (Over Stuck)
     (cond (ltb (room - s .shown) 6) (Over Full)
     (Saves v right wrong (steppedState s (PutBack wrong) true (s .saved + 1) u size 6)))
 
@@ -173,7 +174,7 @@ undoneTo list board m s ss st =
 pub record Between (table index starts list : List ℕ) (budget room : ℕ) (state : MachineState) (m : Memory) : Type 0 where
   pub indexed : Indexed table index
   pub begins : Starts (tableOf table .counts) starts
-  pub startsLong : length starts ≡ 17
+  pub startsLong : length starts ≡ startsLength
   pub variablesLong : length (m .variables) ≡ 4 * tableOf table .variables
   pub cellsLong : length (m .cells) ≡ 4 * sum (tableOf table .counts)
   pub pendingLong : 4 * nodesIn table ≤ length (m .pending)
@@ -183,7 +184,7 @@ pub record Between (table index starts list : List ℕ) (budget room : ℕ) (sta
   pub stepsFit : state .steps ≤ budget
   pub usedFit : state .used ≤ state .steps
   pub shownFit : state .shown ≤ room
-  pub savedFit : state .saved ≤ 8
+  pub savedFit : state .saved ≤ maxSaves
 
 module _ (table list : List ℕ) (board : Board) (budget room : ℕ) (state : MachineState) (m : Memory) where
   -- the run is over, whatever is saved and was shown
@@ -223,7 +224,7 @@ module _ (table list : List ℕ) (board : Board) (budget room : ℕ) (state : Ma
     pub rightFits : BackFits table right
     pub wrongFits : BackFits table wrong
     pub isHeight : after .pending ≡ heightOf (PutBack wrong) (state .pending - 1)
-    pub few : state .saved < 8
+    pub few : state .saved < maxSaves
     pub isSaved : after .saved ≡ state .saved + 1
     pub isFlag : after .flag ≡ true
     pub counted : Counted after 6

@@ -8,12 +8,10 @@ use directives::change::Change;
 use directives::change::Shown;
 use machine::Board;
 use machine::End;
+use machine::MAX_SAVES;
 ghost use Prim.Native.Nat.{_≤_};
 ghost use mathlib.Core.Path.{_≡_};
 ghost use Rattle.stepping.specs.Stepping.{Steppable, forceStep, saveStep, backStep};
-
-// "at most eight are, and a force beyond them is stuck"
-const MAX_SAVES: usize = 8;
 
 // With a rollback next: "the budget is checked first, then 76, even when nothing is pending; with no save open it is stuck".
 pub fn back_step(room: usize, budget: u32, state: MachineState) -> Next

@@ -5,6 +5,7 @@ use Prim.Native.Nat.{_+_}
 use denote.Ref.{now}
 use Rattle.bytes_le.specs.Numbers.{leAt}
 use Rattle.bytes_le.proofs.Numbers.{slice-bytes}
+use Rattle.awhile.proofs.Versions.{mask-most}
 use Rattle.reader.proofs.Ready.{header-few-arrays, header-count}
 use Rattle.directives.proofs.CellPlaces.{undeclared-count}
 use borrow.Author.Needs.{needs}
@@ -15,7 +16,7 @@ count-start-requires : tie.Need-count-start-requires
 count-start-requires c κs = omega (arith, header-few-arrays (c .before .before .before .pre) (slice-bytes _ (c .before .before .shared-slice-known .given)))
 
 add-u16-at : tie.Need-add-u16-at
-add-u16-at c = omega (arith, header-few-arrays (c .before .before .before .before .pre) (slice-bytes _ (c .before .before .before .shared-slice-known .given)), c .count-start .ensures)
+add-u16-at c = omega (arith, header-few-arrays (c .before .before .before .before .pre) (slice-bytes _ (c .before .before .before .shared-slice-known .given)), c .count-start .ensures, mask-most (c .before .before .before .before .args .header .version))
 
 returns : tie.Need-returns
 returns c =

@@ -11,7 +11,7 @@ returns : tie.Need-returns
 unfolding headerBytes le
 returns c =
     let header = c .before .before .before .before .before .before .before .before .before .before .before .before .before .before .before .before .before .before .before .before .before .before .before .before .before .args .header in
-    c .before .before .put164 .ensures ∙ ap (λ l. sets l 8 (le 2 (header .nodes))) (c .before .before .before .before .before .before .put82 .ensures ∙ ap (λ l. sets l 7 (le 1 (header .arrays))) (c .before .before .before .before .before .before .before .before .before .before .put8 .ensures ∙ ap (λ l. sets l 6 (le 1 (header .variables))) (c .before .before .before .before .before .before .before .before .before .before .before .before .before .before .put163 .ensures ∙ ap (λ l. sets l 4 (le 2 1)) (c .before .before .before .before .before .before .before .before .before .before .before .before .before .before .before .before .before .before .put162 .ensures ∙ ap (λ l. sets l 2 (le 2 1)) (c .before .before .before .before .before .before .before .before .before .before .before .before .before .before .before .before .before .before .before .before .before .before .put16 .ensures)))))
+    c .before .before .put164 .ensures ∙ ap (λ l. sets l 8 (le 2 (header .nodes))) (c .before .before .before .before .before .before .put82 .ensures ∙ ap (λ l. sets l 7 (le 1 (header .arrays))) (c .before .before .before .before .before .before .before .before .before .before .put8 .ensures ∙ ap (λ l. sets l 6 (le 1 (header .variables))) (c .before .before .before .before .before .before .before .before .before .before .before .before .before .before .put163 .ensures ∙ ap (λ l. sets l 4 (le 2 (header .version))) (c .before .before .before .before .before .before .before .before .before .before .before .before .before .before .before .before .before .before .put162 .ensures ∙ ap (λ l. sets l 2 (le 2 1)) (c .before .before .before .before .before .before .before .before .before .before .before .before .before .before .before .before .before .before .before .before .before .before .put16 .ensures)))))
 
 pub put-header-spec : {M : Type 1} → statement M
 put-header-spec =

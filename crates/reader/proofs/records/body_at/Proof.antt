@@ -1,7 +1,7 @@
 -- `body_at` reads an array or a node, or finishes.
 use native.Mathlib.Omega.{arith}
 use mathlib.Core.Path.{refl}
-use Rattle.reader.proofs.Turns.{array-ready, after-arrays, array-turn, node-turn, end-heads, end-turn, body-limits, node-ready}
+use Rattle.reader.proofs.Turns.{array-ready, after-arrays, array-small, array-turn, node-turn, end-heads, end-turn, body-limits, node-ready}
 use borrow.Author.Needs.{needs}
 use Rattle.reader.proofs.records.body_at.Statement.{statement}
 use Rattle.reader.proofs.records.body_at.Tie as tie
@@ -13,7 +13,7 @@ array-due-requires : tie.Need-array-due-requires
 array-due-requires c κs =
     let b = c .before .before .before .before .before .pre in
     let k = array-ready _ _ _ _ _ (b .walking) (b .isBody) (c .if1 .taken) in
-    (omega (arith, body-limits _ _ _ _ _ (b .walking) (b .isBody) .arraysFit), k .counts .few, b .some)
+    (omega (arith, array-small _ _ _ _ _ (b .some) k), k .counts .few, b .some)
 
 returns : tie.Need-returns
 returns c =

@@ -11,7 +11,9 @@ returns c = c .done .ensures ∙ ap (labelsDue _) (sym (c .before .before .refus
 
 returns-2 : tie.Need-returns-2
 unfolding labelsDue
-returns-2 c = ap (labelsDue _) (sym (c .before .before .labels .given .1) ∙ c .before .before .before .before .read-labels .ensures)
+returns-2 c =
+    rw (c .labels-bytes .ensures .0)
+    (ap (labelsDue _) (sym (c .before .before .before .labels .given .1) ∙ c .before .before .before .before .before .read-labels .ensures))
 
 pub labels-due-spec : {M : Type 1} → statement M
 labels-due-spec =
@@ -22,5 +24,6 @@ labels-due-spec =
     (λ c κs. search needs)
     (λ c. search needs)
     (λ c. search needs)
+    (λ c κs. search needs)
     returns
     returns-2)

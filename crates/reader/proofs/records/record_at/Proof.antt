@@ -1,6 +1,7 @@
 -- `record_at` reads the record that is due.
 use mathlib.Core.Path.{refl}
 use Rattle.awhile.proofs.Accepted.{header-fits}
+use Rattle.awhile.proofs.Versions.{variables-most}
 use Rattle.reader.proofs.Turns.{header-ready, labels-ready, header-turn, labels-turn, never-done}
 use borrow.Author.Needs.{needs}
 use Rattle.reader.proofs.records.record_at.Statement.{statement}
@@ -14,7 +15,7 @@ labels-due-requires c κs =
     let start = c .before .before .before .before .before in
     let k = labels-ready _ _ _ _ _ (start .pre .0) (c .enum-told2 .given .1) in
     let f = header-fits _ (start .args .progress .declared .header) (k .isHeader) in
-    (k .here, f .variablesFit, f .arraysFit, start .pre .1)
+    (k .here, variables-most _ _ (f .variablesFit), f .arraysFit, start .pre .1)
 
 returns : tie.Need-returns
 returns c =

@@ -17,7 +17,13 @@ module _ (c : tie.After-within-limits) where
   passed = c .before .before .before .before .before
 
   abbrev fields : Header
-  fields = record { variables = c .before .before .before .byte-at .result; arrays = c .before .before .byte-at2 .result; nodes = c .before .u16-at2 .result }
+  fields =
+      record {
+        version = c .before .before .before .before .u16-at .result;
+        variables = c .before .before .before .byte-at .result;
+        arrays = c .before .before .byte-at2 .result;
+        nodes = c .before .u16-at2 .result;
+      }
 
   -- the fields decide
   tested : (b : Bool) → c .within-limits .result ≡ b

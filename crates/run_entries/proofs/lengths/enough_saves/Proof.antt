@@ -1,4 +1,4 @@
--- `enough_saves` wants eight saves' words on the board that rolls back, and none elsewhere.
+-- `enough_saves` wants the words of all saves on the board that rolls back, and none elsewhere.
 use Rattle.run_entries.proofs.RightLengths.{enough-elsewhere, enough-rolling}
 use borrow.Author.Needs.{needs}
 use Rattle.run_entries.proofs.lengths.enough_saves.Statement.{statement}
@@ -15,6 +15,7 @@ enough-saves-spec =
     tie.close
     (tie.spec
     (λ c κs. search needs)
+    (λ c. search needs)
     (λ c. search needs)
     returns
     returns-2)

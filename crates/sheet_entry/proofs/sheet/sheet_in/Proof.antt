@@ -8,7 +8,7 @@ use lib.ListN.{length}
 use lib.Seq.{sets}
 use borrow.Author.Tests.{leb-true, leb-false}
 use Rattle.reader.specs.Index.{tableOf}
-use Rattle.reader.proofs.Ready.{ready-nodes}
+use Rattle.reader.proofs.Ready.{ready-version, ready-nodes}
 use Rattle.labels.specs.Sheet.{sheetBytes}
 use Rattle.entries.specs.Answers.{answered}
 use Rattle.sheets.specs.Rows.{sheetIn}
@@ -27,7 +27,11 @@ module _ (d : tie.After-label-program) where
   sheet-is = labelled-sheet (d .label-program .ensures .1) (d .label-program .ensures .0)
 
 write-sheet-requires : tie.Need-write-sheet-requires
-write-sheet-requires c κs = (search needs, ready-nodes (c .before .before .before .before .before .before .before .before .before .before .before .before .before .before .before .before .before .before .before .before .before .before .pre .ready), leb-true _ _ (sym (c .before .before .before .before .sheet-fits .ensures (c .before .before .before .before .before .before .before .before .before .label-program .result)) ∙ c .before .before .before .if1 .taken))
+write-sheet-requires c κs =
+    let d = c .before .before .before .before .before .before .before .before .before in
+    let ready = start d .pre .ready in
+    let fits = sym (c .before .before .before .before .sheet-fits .ensures (d .label-program .result)) ∙ c .before .before .before .if1 .taken in
+    (search needs, ready-nodes ready, ready-version ready, leb-true _ _ fits)
 
 returns : tie.Need-returns
 returns c =
@@ -54,7 +58,7 @@ sheet-in-spec =
     (tie.spec
     (λ c κs. let pre = c .before .before .before .before .before .before .before .pre in (pre .ready .indexed, ready-nodes (pre .ready), pre .namedFit))
     (λ c κs. (search needs, ready-nodes (c .before .before .before .before .before .before .before .before .before .before .before .before .pre .ready)))
-    (λ c κs. (search needs, ready-nodes (c .before .before .before .before .before .before .before .before .before .before .before .before .before .before .before .before .before .pre .ready)))
+    (λ c κs. let ready = start (c .before .before .before .before) .pre .ready in (search needs, ready-nodes ready, ready-version ready))
     write-sheet-requires
     (λ c κs. search needs)
     (λ c. search needs)

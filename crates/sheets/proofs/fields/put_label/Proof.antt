@@ -5,13 +5,11 @@ use mathlib.Core.Path.{sym, ap, _∙_}
 use denote.Ref.{now}
 use lib.Seq.{sets}
 use Rattle.bytes_le.specs.Numbers.{le}
-use Rattle.labels.specs.Sheet.{fieldBytes}
 use borrow.Author.Needs.{needs}
 use Rattle.sheets.proofs.fields.put_label.Statement.{statement}
 use Rattle.sheets.proofs.fields.put_label.Tie as tie
 
 returns : tie.Need-returns
-unfolding fieldBytes
 returns c =
     let args = c .before .before .before .before .before .before .args in
     c .before .before .put16 .ensures

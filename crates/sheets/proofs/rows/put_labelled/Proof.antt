@@ -4,17 +4,17 @@ use mathlib.Core.Path.{refl}
 use mathlib.Core.List.{_++_}
 use denote.Ref.{now}
 use Rattle.bytes_le.specs.Numbers.{le}
-use Rattle.labels.specs.Sheet.{label, fieldBytes}
+use mathlib.Core.Bool.{cond}
 use Rattle.sheets.proofs.Stored.{stored-then}
 use borrow.Author.Needs.{needs}
 use Rattle.sheets.proofs.rows.put_labelled.Statement.{statement}
 use Rattle.sheets.proofs.rows.put_labelled.Tie as tie
 
 returns : tie.Need-returns
-unfolding fieldBytes le
+unfolding le
 returns c =
     let args = c .before .before .before .before .before .before .before .before .before .args in
-    stored-then (le 2 (args .size) ++ (le 2 (args .kind) ++ le 2 (args .n))) (fieldBytes (label (args .secret))) (now (args .out)) (args .at) (args .at + 6) refl
+    stored-then (le 2 (args .size) ++ (le 2 (args .kind) ++ le 2 (args .n))) (le 2 (cond (args .secret) 1 0)) (now (args .out)) (args .at) (args .at + 6) refl
     (c .before .before .before .before .before .before .put-head .ensures) (c .before .before .put-label .ensures)
 
 pub put-labelled-spec : {M : Type 1} → statement M

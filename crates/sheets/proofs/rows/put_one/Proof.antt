@@ -12,13 +12,13 @@ use Rattle.sheets.proofs.rows.put_one.Tie as tie
 
 returns : tie.Need-returns
 unfolding rowSize
-returns c = let args = c .before .before .args in row-beyond (now (args .out)) (args .at) (Label (args .kind) (args .secret)) (args .n) (c .if1 .taken)
+returns c v = let args = c .before .before .args in row-beyond v (now (args .out)) (args .at) (Label (args .kind) (args .secret)) (args .n) (c .if1 .taken)
 
 returns-2 : tie.Need-returns-2
 unfolding rowSize rowBytes rowRecords recordBytes fieldsBytes fieldBytes flatMap le
-returns-2 c =
+returns-2 c v =
     let args = c .before .before .before .before .before .before .args in
-    row-stored (now (args .out)) (args .at) (Label (args .kind) (args .secret)) (args .n) (c .before .before .put-labelled .ensures)
+    row-stored v (now (args .out)) (args .at) (Label (args .kind) (args .secret)) (args .n) (c .before .before .put-labelled .ensures)
 
 pub put-one-spec : {M : Type 1} → statement M
 put-one-spec = tie.close (tie.spec (λ c. search needs) returns (λ c κs. search needs) (λ c. search needs) returns-2)

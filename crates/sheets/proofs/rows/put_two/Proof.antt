@@ -4,7 +4,8 @@ use mathlib.Core.Path.{refl}
 use mathlib.Core.List.{_++_, flatMap}
 use denote.Ref.{now}
 use Rattle.bytes_le.specs.Numbers.{le}
-use Rattle.labels.specs.Sheet.{label, fieldBytes, fieldsBytes, recordBytes}
+use mathlib.Core.Bool.{cond}
+use Rattle.labels.specs.Sheet.{fieldBytes, fieldsBytes, recordBytes}
 use Rattle.sheets.specs.Rows.{rowRecords, rowBytes, rowSize}
 use Rattle.sheets.specs.declared.rows.Row.the-variants.{Labels}
 use Rattle.sheets.proofs.Stored.{stored-then}
@@ -15,14 +16,14 @@ use Rattle.sheets.proofs.rows.put_two.Tie as tie
 
 returns : tie.Need-returns
 unfolding rowSize
-returns c = let args = c .before .before .args in row-beyond (now (args .out)) (args .at) (Labels (args .kind) (args .first) (args .second)) (args .n) (c .if1 .taken)
+returns c v = let args = c .before .before .args in row-beyond v (now (args .out)) (args .at) (Labels (args .kind) (args .first) (args .second)) (args .n) (c .if1 .taken)
 
 returns-2 : tie.Need-returns-2
 unfolding rowSize rowBytes rowRecords recordBytes fieldsBytes fieldBytes flatMap le
-returns-2 c =
+returns-2 c v =
     let args = c .before .before .before .before .before .before .before .before .before .before .args in
-    row-stored (now (args .out)) (args .at) (Labels (args .kind) (args .first) (args .second)) (args .n)
-    (stored-then (le 2 10 ++ (le 2 (args .kind) ++ (le 2 (args .n) ++ fieldBytes (label (args .first))))) (fieldBytes (label (args .second))) (now (args .out)) (args .at) (args .at + 8) refl
+    row-stored v (now (args .out)) (args .at) (Labels (args .kind) (args .first) (args .second)) (args .n)
+    (stored-then (le 2 10 ++ (le 2 (args .kind) ++ (le 2 (args .n) ++ le 2 (cond (args .first) 1 0)))) (le 2 (cond (args .second) 1 0)) (now (args .out)) (args .at) (args .at + 8) refl
     (c .before .before .before .before .before .before .put-labelled .ensures) (c .before .before .put-label .ensures))
 
 pub put-two-spec : {M : Type 1} → statement M

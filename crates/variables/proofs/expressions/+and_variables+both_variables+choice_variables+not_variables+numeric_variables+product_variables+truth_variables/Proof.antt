@@ -6,6 +6,7 @@ use lib.Bits.{bitOr}
 use denote.Ref.{now}
 use borrow.Author.Needs.{needs}
 use native.Mathlib.Omega.{arith}
+use Rattle.awhile.proofs.Versions.{declared-variables}
 use Rattle.bytes_le.proofs.Numbers.{Below, slice-bytes}
 use Rattle.awhile.specs.Nodes.{sortOf}
 use Rattle.awhile.specs.declared.Node.{Node}
@@ -117,7 +118,7 @@ module _ {x y : ℕ} where
 
 -- a declared variable is one of 64
 variable-fits : {table index : List ℕ} {x : ℕ} → Below 256 table → Indexed table index → x < tableOf table .variables → x < 64
-variable-fits {table} {index} bytes indexed h = omega (arith, indexed-well-formed table index bytes indexed .declared .variablesFit)
+variable-fits {table} {index} bytes indexed h = omega (arith, declared-variables (indexed-well-formed table index bytes indexed .declared))
 
 pub +and-variables+both-variables+choice-variables+not-variables+numeric-variables+product-variables+truth-variables-spec : {M : Type 1} → statement M
 unfolding variablesOfA variablesOfB
