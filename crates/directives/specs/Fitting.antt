@@ -23,10 +23,11 @@ use Rattle.directives.specs.declared.fit.Fit.{Fit}
 use Rattle.directives.specs.declared.fit.Fit.the-variants.{Goes, Forced, Unfit}
 use Rattle.awhile.specs.Tables.{maxArrays}
 
--- a list that says where each array's cells begin: entry a for array a, up to the end of the last array that there could be
+-- how many entries a list of where cells begin has: one for each array that there could be, and one for the end of the last
 abbrev pub startsLength : ℕ
 startsLength = maxArrays + 1
 
+-- a list that says where each array's cells begin: entry a for array a, up to the end of the last array that there could be
 pub record Starts (counts starts : List ℕ) : Type 0 where
   pub few : length counts ≤ maxArrays
   pub begins : (a : ℕ) → a ≤ maxArrays → getD starts a 0 ≡ sum (take a counts)

@@ -13,7 +13,6 @@ use Rattle.awhile.specs.Language.{Com}
 use Rattle.awhile.specs.Encoding.{nodesOf, countBytes, headerBytes, labelsBytes, tableBytes, writeC}
 use Rattle.awhile.specs.Nodes.{sortOf, nodeBytes}
 use Rattle.awhile.specs.Tables.{Table, headerOf, maxVariables, maxArrays, maxNodes, maskBytes, labelsSize, headerSize, countsStart, countStart, nodesStart}
-use Rattle.awhile.specs.WellFormed.{Declared}
 use Rattle.awhile.specs.declared.Declarations.{Declarations}
 use Rattle.awhile.specs.declared.Header.{Header}
 use Rattle.awhile.specs.declared.Labelling.{Labelling}
@@ -241,9 +240,6 @@ module _ {table index ds : List ℕ} {declared : Declarations} {out : List ℕ} 
 
   has-header : HasHeader table (declared .header)
   has-header = ready-header (w .measurable .ready)
-
-  well-declared : Declared (tableOf table .version) (tableOf table .variables) (tableOf table .labels) (tableOf table .counts)
-  well-declared = indexed-well-formed table index bytes (w .measurable .ready .indexed) .declared
 
   written-program : program ≡ hardenedProgram (tableOf table)
   written-program = ap (λ f. hardenedAt table ds f (rootAt declared)) (ready-variables (w .measurable .ready)) ∙ root-hardened bytes (w .measurable)
