@@ -10,7 +10,9 @@
 #include "call.h"
 #include "factors.h"
 #include "flow.h"
+#include "gateway.h"
 #include "samples.h"
+#include "settling.h"
 #include "timing.h"
 
 enum { RUNS = 5 };
@@ -55,12 +57,6 @@ static void same_few_copies_table(unsigned nodes, unsigned sample, struct buffer
 
 /* ---- Rows --------------------------------------------------------------------------------------------------------------- */
 
-static int by_size(const void *one, const void *other)
-{
-    double difference = *(const double *)one - *(const double *)other;
-    return (difference > 0) - (difference < 0);
-}
-
 static void print_row(const char *what, unsigned size, const struct row *row)
 {
     double before[RUNS], after[RUNS], ratios[RUNS];
@@ -69,10 +65,8 @@ static void print_row(const char *what, unsigned size, const struct row *row)
         after[run] = row->after[run];
         ratios[run] = after[run] / before[run];
     }
-    qsort(before, RUNS, sizeof *before, by_size);
-    qsort(after, RUNS, sizeof *after, by_size);
-    qsort(ratios, RUNS, sizeof *ratios, by_size);
-    double median_before = before[RUNS / 2], median_after = after[RUNS / 2];
+    double median_before = median_of(before, RUNS), median_after = median_of(after, RUNS);
+    median_of(ratios, RUNS); /* sorted by it */
     printf("| %s | %u | %.3f | %.3f | %.2f (%.2f to %.2f) |\n", what, size, 1e6 * median_before, 1e6 * median_after,
            median_after / median_before, ratios[0], ratios[RUNS - 1]);
 }
@@ -113,12 +107,47 @@ static void compare_calls(const char *what, unsigned size, struct call *calls, u
     free_calls(calls, count);
 }
 
-static void compare_samples(const char *what, enum entry entry, const unsigned *sizes)
+static void compare_samples(const char *what, enum entry entry, sample_table *make, const unsigned *sizes)
 {
     for (; *sizes != 0; sizes++) {
         struct call calls[SAMPLES];
-        sample_calls(entry, same_mixed_table, *sizes, calls);
+        sample_calls(entry, make, *sizes, calls);
         compare_calls(what, *sizes, calls, SAMPLES);
+    }
+}
+
+/* ---- Small tables ------------------------------------------------------------------------------------------------------- */
+
+/* As compare_calls, but cold. */
+static void compare_cold_calls(const char *what, unsigned size, struct call *calls, unsigned count)
+{
+    struct row row;
+    require_same_answers(calls, count);
+    for (unsigned run = 0; run < RUNS; run++) {
+        struct timing timing = time_cold_calls(copies[run], calls, count);
+        row.before[run] = timing.other;
+        row.after[run] = timing.library;
+    }
+    print_row(what, size, &row);
+    free_calls(calls, count);
+}
+
+static void compare_gateway(enum entry entry, const char *warm, const char *cold)
+{
+    struct call calls[SAMPLES];
+    sample_calls(entry, gateway_table, 0, calls);
+    compare_calls(warm, gateway_mean_nodes(), calls, SAMPLES);
+    sample_calls(entry, gateway_table, 0, calls);
+    compare_cold_calls(cold, gateway_mean_nodes(), calls, SAMPLES);
+}
+
+static void compare_refusals(enum entry entry)
+{
+    for (enum refused refused = 0; refused < REFUSED; refused++) {
+        struct call call = refused_call(entry, refused);
+        char what[80];
+        snprintf(what, sizeof what, "%s refused, %s", entry_names[entry], refused_names[refused]);
+        compare_calls(what, call.slices[SLICE_TABLE].length, &call, 1);
     }
 }
 
@@ -206,14 +235,22 @@ int main(void)
     printf("\n## Before and after\n\n"
            "Medians of five runs, both libraries in turn on the same calls, at other addresses in each run; in brackets the least and\n"
            "the most of the five ratios. Sizing alone is the time with the exact buffer less that with the large one, in each run.\n\n"
-           "| what | N, depth, steps or cells | before, µs | after, µs | after/before |\n|---|---|---|---|---|\n");
-    compare_samples("reading (a run refused by 20)", ENTRY_RUN, sample_sizes);
-    compare_samples("labelling", ENTRY_SHEET, sample_sizes);
-    compare_samples("256 questions", ENTRY_QUESTIONS, asked_sizes);
+           "| what | N, depth, steps, cells or bytes | before, µs | after, µs | after/before |\n|---|---|---|---|---|\n");
+    compare_samples("reading (a run refused by 20)", ENTRY_RUN, same_mixed_table, sample_sizes);
+    compare_samples("labelling", ENTRY_SHEET, same_mixed_table, sample_sizes);
+    compare_samples("256 questions", ENTRY_QUESTIONS, same_mixed_table, asked_sizes);
+    compare_gateway(ENTRY_RUN, "gateway programs: reading, warm", "gateway programs: reading, cold");
+    compare_gateway(ENTRY_SHEET, "gateway programs: labelling, warm", "gateway programs: labelling, cold");
+    compare_gateway(ENTRY_HARDEN, "gateway programs: hardening, warm", "gateway programs: hardening, cold");
+    compare_refusals(ENTRY_SHEET);
+    compare_refusals(ENTRY_HARDEN);
+    compare_refusals(ENTRY_RUN);
     compare_rooms("mixed", same_mixed_table, sample_sizes);
     compare_rooms("many copies", same_many_copies_table, copied_sizes);
     compare_rooms("few copies", same_few_copies_table, copied_sizes);
     compare_nesting();
+    compare_samples("labelling a loop that settles slowly, mixed commands", ENTRY_SHEET, settling_table, settling_sizes);
+    compare_samples("labelling a loop that settles slowly, skips", ENTRY_SHEET, settling_skips_table, settling_sizes);
     compare_machine("plain machine, so many steps", ENTRY_RUN);
     compare_machine("guessing machine, so many steps", ENTRY_GUESS);
     compare_accesses();

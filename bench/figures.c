@@ -4,8 +4,10 @@
 #include "records/assemble.h"
 #include "call.h"
 #include "flow.h"
+#include "gateway.h"
 #include "records/little_endian.h"
 #include "samples.h"
+#include "settling.h"
 #include "stack.h"
 #include "timing.h"
 
@@ -42,6 +44,50 @@ static void figures_of_sizes(void)
         print_timing("labelling", *nodes, time_samples(ENTRY_SHEET, mixed_table, *nodes));
     for (const unsigned *nodes = sample_sizes; *nodes != 0 && *nodes <= FLOW_MAX_HARDENED_NODES; nodes++)
         print_timing("hardening", *nodes, time_samples(ENTRY_HARDEN, mixed_table, *nodes));
+}
+
+/* ---- Gateway programs --------------------------------------------------------------------------------------------------- */
+
+static void figures_of_gateway(enum entry entry, const char *warm, const char *cold)
+{
+    struct call calls[SAMPLES];
+    sample_calls(entry, gateway_table, 0, calls);
+    print_timing(warm, gateway_mean_nodes(), time_calls(both, calls, SAMPLES));
+    print_timing(cold, gateway_mean_nodes(), time_cold_calls(both, calls, SAMPLES));
+    free_calls(calls, SAMPLES);
+}
+
+static void figures_of_gateways(void)
+{
+    static const char text[] =
+        "Warm: all of them in turn, again and again. Cold: before each single call 64 MiB are written to, a byte in each 64, and 16,384\n"
+        "branches taken that cannot be foreseen; of each program's times the median, and of these the mean.\n\n";
+    print_timing_head("Gateway programs (8 small programs of 10 to 50 nodes)", text, "mean N");
+    figures_of_gateway(ENTRY_RUN, "reading (a run refused by 20), warm", "reading, cold");
+    figures_of_gateway(ENTRY_SHEET, "labelling, warm", "labelling, cold");
+    figures_of_gateway(ENTRY_HARDEN, "hardening, warm", "hardening, cold");
+}
+
+/* ---- Refusals ----------------------------------------------------------------------------------------------------------- */
+
+static void figures_of_refusal(enum entry entry, enum refused refused)
+{
+    struct call call = refused_call(entry, refused);
+    struct timing timing = time_calls(both, &call, 1);
+    printf("| %s | %s | %.3f | %.3f | %.2f |\n", refused_names[refused], entry_names[entry], 1e6 * timing.library,
+           1e6 * timing.other, timing.library / timing.other);
+    call_free(&call);
+}
+
+static void figures_of_refusals(void)
+{
+    printf("\n## Tables refused at their first bytes\n\n"
+           "| table | entry | library, µs | reference, µs | ratio |\n|---|---|---|---|---|\n");
+    for (enum refused refused = 0; refused < REFUSED; refused++) {
+        figures_of_refusal(ENTRY_SHEET, refused);
+        figures_of_refusal(ENTRY_HARDEN, refused);
+        figures_of_refusal(ENTRY_RUN, refused);
+    }
 }
 
 /* ---- Versions ----------------------------------------------------------------------------------------------------------- */
@@ -128,6 +174,17 @@ static void figures_of_nesting(void)
         struct call call = nested_call(*depth);
         print_timing("hardening", *depth, time_calls(both, &call, 1));
         call_free(&call);
+    }
+}
+
+/* ---- Settling ----------------------------------------------------------------------------------------------------------- */
+
+static void figures_of_settling(void)
+{
+    print_timing_head("A loop that settles slowly: while y<100 do (x0:=x1; x1:=x2; ..; x28:=x29; a long body), 30 passes", "", "N");
+    for (const unsigned *nodes = settling_sizes; *nodes != 0; nodes++) {
+        print_timing("labelling, a body of mixed commands", *nodes, time_samples(ENTRY_SHEET, settling_table, *nodes));
+        print_timing("labelling, a body of skips", *nodes, time_samples(ENTRY_SHEET, settling_skips_table, *nodes));
     }
 }
 
@@ -286,35 +343,54 @@ static void guess_and_undo(struct call *call)
     put16(list + 6, FLOW_ROLLBACK);
 }
 
+/* Of all entries; flow_harden takes a table of its own. */
+static void figures_of_stacks(const char *name, const struct buffer *table, const struct buffer *hardened)
+{
+    unsigned nodes = get16(table->bytes + 8), hardened_nodes = get16(hardened->bytes + 8);
+    struct call sheet = writing_call(ENTRY_SHEET, table, FLOW_SHEET_BYTES);
+    struct call questions = asking_call(table);
+    struct call harden = writing_call(ENTRY_HARDEN, hardened, FLOW_TABLE_BYTES);
+    harden.slices[SLICE_OUTPUT].length = hardened_length(&harden); /* sizing takes stack too */
+    struct call run = running_call(ENTRY_RUN, table, 5000, 2000);
+    struct call guess = running_call(ENTRY_GUESS, table, 5000, 2000);
+    struct call rollback = rolling_call(running_call(ENTRY_GUESS, table, 5000, 2000));
+    guess_and_undo(&rollback);
+    print_stack(name, "flow_sheet", nodes, &sheet);
+    print_stack(name, "flow_questions", nodes, &questions);
+    print_stack(name, "flow_harden", hardened_nodes, &harden);
+    print_stack(name, "flow_run", nodes, &run);
+    print_stack(name, "flow_guess", nodes, &guess);
+    print_stack(name, "flow_rollback", nodes, &rollback);
+}
+
 static void figures_of_nest(const struct nest *nest)
 {
     struct buffer table = {0}, small = {0};
     nested_table(nest, FLOW_MAX_NODES, &table);
     nested_table(nest, FLOW_MAX_HARDENED_NODES, &small);
-    unsigned nodes = get16(table.bytes + 8), small_nodes = get16(small.bytes + 8);
-    struct call sheet = writing_call(ENTRY_SHEET, &table, FLOW_SHEET_BYTES);
-    struct call questions = asking_call(&table);
-    struct call harden = writing_call(ENTRY_HARDEN, &small, FLOW_TABLE_BYTES);
-    harden.slices[SLICE_OUTPUT].length = hardened_length(&harden); /* sizing takes stack too */
-    struct call run = running_call(ENTRY_RUN, &table, 5000, 2000);
-    struct call guess = running_call(ENTRY_GUESS, &table, 5000, 2000);
-    struct call rollback = rolling_call(running_call(ENTRY_GUESS, &table, 5000, 2000));
-    guess_and_undo(&rollback);
-    print_stack(nest->name, "flow_sheet", nodes, &sheet);
-    print_stack(nest->name, "flow_questions", nodes, &questions);
-    print_stack(nest->name, "flow_harden", small_nodes, &harden);
-    print_stack(nest->name, "flow_run", nodes, &run);
-    print_stack(nest->name, "flow_guess", nodes, &guess);
-    print_stack(nest->name, "flow_rollback", nodes, &rollback);
+    figures_of_stacks(nest->name, &table, &small);
     buffer_free(&table);
     buffer_free(&small);
 }
 
+/* A table of usual size and shape. */
+static void figures_of_small_stack(void)
+{
+    enum { LITTLE_NODES = 43 };
+    struct buffer table = {0};
+    mixed_table(LITTLE_NODES, 0, &table);
+    figures_of_stacks("a generated table", &table, &table);
+    buffer_free(&table);
+}
+
 static void figures_of_stack(void)
 {
-    printf("\n## Peak stack, on the deepest tables\n\n| nested | entry | N | library, KiB | reference, KiB |\n|---|---|---|---|---|\n");
+    static const char columns[] = "entry | N | library, KiB | reference, KiB |\n|---|---|---|---|---|\n";
+    printf("\n## Peak stack, on the deepest tables\n\n| nested | %s", columns);
     for (unsigned i = 0; i < sizeof nests / sizeof *nests; i++)
         figures_of_nest(&nests[i]);
+    printf("\n## Peak stack, on a small table\n\n| table | %s", columns);
+    figures_of_small_stack();
 }
 
 int main(void)
@@ -322,10 +398,13 @@ int main(void)
     setvbuf(stdout, NULL, _IOLBF, 0);
     printf("# Figures\n\nTimes are the best of several rounds, library and reference in turn.\n");
     figures_of_sizes();
+    figures_of_gateways();
+    figures_of_refusals();
     figures_of_versions();
     figures_of_sizing();
     figures_of_questions();
     figures_of_nesting();
+    figures_of_settling();
     figures_of_machines();
     figures_of_rollback();
     figures_of_stack();

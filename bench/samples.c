@@ -11,9 +11,10 @@
 #include "records/kinds.h"
 #include "records/little_endian.h"
 
-const unsigned sample_sizes[] = {8, 64, 128, 256, 512, 1024, 2048, 4096, 0};
-const unsigned asked_sizes[] = {64, 512, 4096, 0};
-const unsigned copied_sizes[] = {8, 64, 512, 0};
+const unsigned sample_sizes[] = {8, 16, 32, 64, 128, 256, 512, 1024, 2048, 4096, 0};
+const unsigned asked_sizes[] = {8, 16, 32, 64, 512, 4096, 0};
+const unsigned copied_sizes[] = {8, 16, 32, 64, 512, 0};
+const unsigned settling_sizes[] = {512, 4096, 0};
 const unsigned nested_depths[] = {1, 2, 5, 10, 20, 30, 40, 50, 60, 0};
 const unsigned saved_cells[] = {1, 256, FLOW_MAX_CELLS, 0};
 
@@ -21,6 +22,9 @@ const char *const accesses_names[ACCESSES] = {
     "plain machine, reads and writes", "guessing machine, reads and writes under steps",
     "guessing machine, reads and writes out of bounds under loads and stores",
     "guessing machine, reads and writes in bounds under loads and stores"};
+
+const char *const refused_names[REFUSED] = {"no byte at all", "a first record of another kind", "version 3",
+                                            "a header of 4,096 nodes alone"};
 
 const char *const room_names[ROOMS] = {"large buffer", "exact buffer", "one byte short, refused by 23"};
 
@@ -67,7 +71,7 @@ void wide_table(unsigned nodes, unsigned sample, struct buffer *table)
 
 static void table_of_copies(enum copies copies, unsigned nodes, unsigned sample, struct buffer *table)
 {
-    enum { LEVEL = 64 }; /* conditions and values of about 60 nodes */
+    enum { LEVEL = 64 }; /* conditions and values of about 60 nodes, or of as many as a smaller table has */
     struct random r = random_from(nodes, sample);
     struct plan plan = sample_plan(&r, nodes);
     copies_table(&r, &plan, copies, LEVEL, table);
@@ -280,6 +284,31 @@ void sample_calls(enum entry entry, sample_table *make, unsigned nodes, struct c
         calls[sample] = sample_call(entry, &table);
         buffer_free(&table);
     }
+}
+
+/* The header is the first ten bytes; its second number is its kind, the third its version, and the last its nodes. */
+static void refused_table(enum refused refused, struct buffer *t)
+{
+    if (refused == REFUSED_EMPTY)
+        return;
+    mixed_table(32, 0, t);
+    if (refused == REFUSED_KIND)
+        put16(t->bytes + 2, FLOW_LABELS);
+    if (refused == REFUSED_VERSION)
+        put16(t->bytes + 4, FLOW_VERSION_2 + 1);
+    if (refused == REFUSED_CUT) {
+        put16(t->bytes + 8, FLOW_MAX_NODES);
+        t->length = LABELS_AT;
+    }
+}
+
+struct call refused_call(enum entry entry, enum refused refused)
+{
+    struct buffer table = {0};
+    refused_table(refused, &table);
+    struct call call = sample_call(entry, &table);
+    buffer_free(&table);
+    return call;
 }
 
 void free_calls(struct call *calls, unsigned count)

@@ -8,10 +8,10 @@
 enum { SAMPLES = 8 }; /* tables of each size */
 
 /*
- * What is timed: node counts (for all entries, for questions, for sizing and version 2), depths of nested loops, cells saved.  Each
- * ends with 0.
+ * What is timed: node counts (for all entries, for questions, for sizing and version 2, for loops that settle slowly), depths of
+ * nested loops, cells saved.  Each ends with 0.
  */
-extern const unsigned sample_sizes[], asked_sizes[], copied_sizes[], nested_depths[], saved_cells[];
+extern const unsigned sample_sizes[], asked_sizes[], copied_sizes[], settling_sizes[], nested_depths[], saved_cells[];
 
 /* Puts one of the tables of a size. */
 typedef void sample_table(unsigned nodes, unsigned sample, struct buffer *table);
@@ -57,6 +57,11 @@ struct call nested_call(unsigned depth);
  */
 void sample_calls(enum entry entry, sample_table *make, unsigned nodes, struct call calls[SAMPLES]);
 void free_calls(struct call *calls, unsigned count);
+
+/* Tables that are refused at their first bytes: by 1 at 0, 2 at 0, 3 at 0 and 1 at 10.  For every entry but flow_questions. */
+enum refused { REFUSED_EMPTY, REFUSED_KIND, REFUSED_VERSION, REFUSED_CUT, REFUSED };
+extern const char *const refused_names[REFUSED];
+struct call refused_call(enum entry entry, enum refused refused);
 
 /* The length of the table that a hardening call with a large buffer writes. */
 size_t hardened_length(struct call *call);

@@ -2,9 +2,12 @@
 
 #include "timing.h"
 
+#include <stdlib.h>
 #include <time.h>
 
-enum { ROUNDS = 9 };
+#include "chill.h"
+
+enum { ROUNDS = 9, COLD_TURNS = 31 };
 static const double round_seconds = 0.01;
 
 static double now(void)
@@ -74,4 +77,57 @@ struct timing time_calls(struct performers both, struct call *calls, unsigned co
     struct timing timing;
     time_groups(both, (struct call *const[]){calls}, 1, count, &timing);
     return timing;
+}
+
+/* ---- Cold --------------------------------------------------------------------------------------------------------------- */
+
+static int by_size(const void *one, const void *other)
+{
+    double difference = *(const double *)one - *(const double *)other;
+    return (difference > 0) - (difference < 0);
+}
+
+double median_of(double *figures, unsigned count)
+{
+    qsort(figures, count, sizeof *figures, by_size);
+    return figures[count / 2];
+}
+
+/* The clock of the CPU is a call of the system, whose own cold code would be timed too: this one is read without. */
+static struct timespec wall_clock(void)
+{
+    struct timespec time;
+    clock_gettime(CLOCK_MONOTONIC, &time);
+    return time;
+}
+
+static double time_cold_call(performer *perform, struct call *call)
+{
+    chill();
+    wall_clock(); /* reading it is not to be cold */
+    struct timespec start = wall_clock();
+    perform(call);
+    struct timespec end = wall_clock();
+    return (double)(end.tv_sec - start.tv_sec) + 1e-9 * (double)(end.tv_nsec - start.tv_nsec);
+}
+
+static struct timing time_one_cold(struct performers both, struct call *call)
+{
+    double library[COLD_TURNS], other[COLD_TURNS];
+    for (unsigned turn = 0; turn < COLD_TURNS; turn++) {
+        library[turn] = time_cold_call(both.library, call);
+        other[turn] = time_cold_call(both.other, call);
+    }
+    return (struct timing){median_of(library, COLD_TURNS), median_of(other, COLD_TURNS)};
+}
+
+struct timing time_cold_calls(struct performers both, struct call *calls, unsigned count)
+{
+    struct timing sum = {0, 0};
+    for (unsigned i = 0; i < count; i++) {
+        struct timing one = time_one_cold(both, &calls[i]);
+        sum.library += one.library;
+        sum.other += one.other;
+    }
+    return (struct timing){sum.library / count, sum.other / count};
 }

@@ -22,4 +22,13 @@ struct timing time_calls(struct performers both, struct call *calls, unsigned co
 void time_groups(struct performers both, struct call *const *groups, unsigned group_count, unsigned count,
                  struct timing *timings);
 
+/*
+ * Times the same calls on both, in turn, cold: before each single call caches and branch predictors are thrown away (chill.h).  Of
+ * each call's times it takes the median, which an interrupt does not move, and of these the mean.
+ */
+struct timing time_cold_calls(struct performers both, struct call *calls, unsigned count);
+
+/* The middle one of an odd number of figures, which it sorts. */
+double median_of(double *figures, unsigned count);
+
 #endif

@@ -48,8 +48,8 @@ module _ {table index named ns : List ℕ} {n : ℕ} {x : Bool} {l : Labelling} 
   child-room c = omega (arith, c .inside, pre .notesFit .room)
 
   -- what the code stores on entry is the command's note
-  pub entry-noted : {ns′ : List ℕ} → l .arrays < 65536 → ns′ ≡ set (set ns (2 * n) (l .variables)) (2 * n + 1) (secondWord (entered n x l)) → NotedAt n x l ns ns′
-  entry-noted small e = note-stored n x l ns own-room small e
+  pub entry-noted : {m : Labelling} {ns′ : List ℕ} → m ≡ l → m .arrays < 65536 → ns′ ≡ set (set ns (2 * n) (m .variables)) (2 * n + 1) (secondWord (entered n x m)) → NotedAt n x l ns ns′
+  entry-noted {m} {ns′} q small e = subst (λ k. NotedAt n x k ns ns′) q (note-stored n x m ns own-room small e)
 
   pub parts-of : (m : Node) → nodeIn table n ≡ m → Parts table n m
   parts-of m e = indexed-parts table index bytes (pre .node .indexed) n (pre .node .inside) m e

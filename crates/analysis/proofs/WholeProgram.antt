@@ -6,7 +6,7 @@ use mathlib.Core.Path.{_≡_, refl, sym, ap, _∙_}
 use native.Mathlib.Omega.{arith}
 use lib.ListN.{length, getD, replicate, length-replicate}
 use Rattle.bytes_le.proofs.Numbers.{Below}
-use Rattle.reader.specs.Index.{Indexed, Ready, tableOf, nodesIn, commandIn}
+use Rattle.reader.specs.Index.{Ready, tableOf, nodesIn, commandIn}
 use Rattle.awhile.specs.Trees.{rootOf}
 use Rattle.awhile.proofs.Standing.{root-distinct}
 use Rattle.awhile.specs.declared.Declarations.{Declarations}
@@ -16,7 +16,6 @@ use Rattle.labels.specs.Analysis.{analyse}
 use Rattle.analysis.specs.Notes.{noteIn}
 use Rattle.labels.specs.Annotation.{entered}
 use Rattle.labels.specs.Sheet.{annotated, finalLabels}
-use Rattle.variables.specs.Named.{Named}
 use Rattle.analysis.specs.Conditions.{Analysable, Analysed, Fresh, LabelReady, Labelled}
 use Rattle.analysis.proofs.AllPublic.{nothing}
 use Rattle.analysis.proofs.CommandCases.{same-room}
@@ -54,20 +53,10 @@ module _ {table index named ns : List ℕ} (bytes : Below 256 table) (h : Fresh 
         record { notesFit = same-room (h .notesFit) e; notes = rw (indexed-root table index bytes (h .indexed)) (a .notes) }
 
 -- every element of zeros is zero
-pub zero-at : (room p : ℕ) → getD {A = ℕ} (replicate room 0) p 0 ≡ 0
+zero-at : (room p : ℕ) → getD {A = ℕ} (replicate room 0) p 0 ≡ 0
 zero-at zero p = refl
 zero-at (suc room) zero = refl
 zero-at (suc room) (suc p) = zero-at room p
-
--- notes that were just made are all zero
-pub fresh-zeros : {table index named : List ℕ} (room : ℕ) → Indexed table index → Named table named → 2 * nodesIn table ≤ room → Fresh table index named (replicate room 0)
-fresh-zeros room i n h =
-    record {
-      indexed = i;
-      names = n;
-      notesFit = record { room = rw (length-replicate {A = ℕ} room 0) h };
-      zeros = zero-at room;
-    }
 
 -- memory that was just made is ready for labelling
 pub label-ready : {table index : List ℕ} {declared : Declarations} (room words : ℕ) → Ready table index declared → nodesIn table ≤ room → 2 * nodesIn table ≤ words

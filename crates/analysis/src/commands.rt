@@ -1,5 +1,7 @@
 // The analysis of commands: the labelling after a command, from the one before it and a context. On the way it notes what enters each
 // command, and what is noted for a loop's body is where the loop's next analysis starts from.
+use crate::holding::held;
+use crate::holding::hold;
 use crate::labelling::array_label;
 use crate::labelling::either;
 use crate::labelling::join;
@@ -20,6 +22,7 @@ ghost use lib.ListN.{length};
 ghost use Rattle.reader.specs.Index.{nodeIn, truthIn, commandIn};
 ghost use Rattle.awhile.specs.declared.Node.the-variants.{Sequence, If, While};
 ghost use Rattle.labels.specs.Labellings.{variableMark, arrayMark, labelOf, setLabel};
+ghost use Rattle.analysis.specs.Held.{heldIn};
 ghost use Rattle.analysis.specs.Conditions.{labelAt, SingleFits, SingleAfter, Analysable, Analysed, Settleable, SettledLoop};
 
 // The context of what a condition guards.
@@ -124,27 +127,30 @@ fn settle(
     index: &[u16],
     named: &[u64],
     notes: &mut [u64],
+    labels: &mut [u64; 2],
     condition: usize,
     body: usize,
     context: bool,
-    labels: Labelling,
-) -> Labelling
-    requires { ⌜ Settleable (now table) (now index) (now named) (now notes) condition body context labels ⌝ }
-    ensures { λ r. ⌜ SettledLoop (truthIn (now (table .entry)) condition) (commandIn (now (table .entry)) body) context labels
-        (now (notes .entry)) (now (notes .exit)) r ⌝ }
+)
+    requires { ⌜ Settleable (now table) (now index) (now named) (now notes) condition body context (heldIn (now labels)) ⌝ }
+    ensures { λ _. ⌜ SettledLoop (truthIn (now (table .entry)) condition) (commandIn (now (table .entry)) body) context (heldIn (now (labels .entry)))
+        (now (notes .entry)) (now (notes .exit)) (heldIn (now (labels .exit))) ⌝ }
 {
+    let entering = held(&*labels);
     let kept = noted_labelling(&*notes, body);
-    let mut masks = join(labels, kept);
+    let mut masks = join(entering, kept);
     let settled = loop {
         let inner = guarded(named, condition, context, masks);
-        let after = analyse(table, index, named, &mut *notes, body, inner, masks);
+        hold(&mut *labels, masks);
+        analyse(table, index, named, &mut *notes, &mut *labels, body, inner);
+        let after = held(&*labels);
         let next = join(masks, after);
         if same(next, masks) {
             break masks;
         }
         masks = next;
     };
-    settled
+    hold(&mut *labels, settled);
 }
 
 // A loop. Where it is entered as its note says that it last was, its body's note is the answer and no pass is made.
@@ -153,28 +159,31 @@ fn analyse_loop(
     index: &[u16],
     named: &[u64],
     notes: &mut [u64],
+    labels: &mut [u64; 2],
     n: usize,
     condition: usize,
     body: usize,
     context: bool,
-    labels: Labelling,
-) -> Labelling
-    requires { ⌜ Analysable (now table) (now index) (now named) (now notes) n context labels × (nodeIn (now table) n ≡ While condition body) ⌝ }
-    ensures { λ r. ⌜ Analysed (commandIn (now (table .entry)) n) context labels (now (notes .entry)) (now (notes .exit)) r ⌝ }
+)
+    requires { ⌜ Analysable (now table) (now index) (now named) (now notes) n context (heldIn (now labels)) × (nodeIn (now table) n ≡ While condition body) ⌝ }
+    ensures { λ _. ⌜ Analysed (commandIn (now (table .entry)) n) context (heldIn (now (labels .entry))) (now (notes .entry)) (now (notes .exit)) (heldIn (now (labels .exit))) ⌝ }
 {
-    if noted_as(&*notes, n, context, labels) {
-        return noted_labelling(&*notes, body);
+    let entering = held(&*labels);
+    if noted_as(&*notes, n, context, entering) {
+        let settled = noted_labelling(&*notes, body);
+        hold(&mut *labels, settled);
+        return;
     }
-    note(&mut *notes, n, context, labels);
+    note(&mut *notes, n, context, entering);
     settle(
         table,
         index,
         named,
         &mut *notes,
+        &mut *labels,
         condition,
         body,
         context,
-        labels,
     )
 }
 
@@ -184,18 +193,35 @@ fn analyse_sequence(
     index: &[u16],
     named: &[u64],
     notes: &mut [u64],
+    labels: &mut [u64; 2],
     n: usize,
     first: usize,
     second: usize,
     context: bool,
-    labels: Labelling,
-) -> Labelling
-    requires { ⌜ Analysable (now table) (now index) (now named) (now notes) n context labels × (nodeIn (now table) n ≡ Sequence first second) ⌝ }
-    ensures { λ r. ⌜ Analysed (commandIn (now (table .entry)) n) context labels (now (notes .entry)) (now (notes .exit)) r ⌝ }
+)
+    requires { ⌜ Analysable (now table) (now index) (now named) (now notes) n context (heldIn (now labels)) × (nodeIn (now table) n ≡ Sequence first second) ⌝ }
+    ensures { λ _. ⌜ Analysed (commandIn (now (table .entry)) n) context (heldIn (now (labels .entry))) (now (notes .entry)) (now (notes .exit)) (heldIn (now (labels .exit))) ⌝ }
 {
-    note(&mut *notes, n, context, labels);
-    let between = analyse(table, index, named, &mut *notes, first, context, labels);
-    analyse(table, index, named, &mut *notes, second, context, between)
+    let entering = held(&*labels);
+    note(&mut *notes, n, context, entering);
+    analyse(
+        table,
+        index,
+        named,
+        &mut *notes,
+        &mut *labels,
+        first,
+        context,
+    );
+    analyse(
+        table,
+        index,
+        named,
+        &mut *notes,
+        &mut *labels,
+        second,
+        context,
+    );
 }
 
 // An if: both sides are entered with what enters it, in the context of its condition.
@@ -204,35 +230,40 @@ fn analyse_if(
     index: &[u16],
     named: &[u64],
     notes: &mut [u64],
+    labels: &mut [u64; 2],
     n: usize,
     condition: usize,
     yes: usize,
     no: usize,
     context: bool,
-    labels: Labelling,
-) -> Labelling
-    requires { ⌜ Analysable (now table) (now index) (now named) (now notes) n context labels × (nodeIn (now table) n ≡ If condition yes no) ⌝ }
-    ensures { λ r. ⌜ Analysed (commandIn (now (table .entry)) n) context labels (now (notes .entry)) (now (notes .exit)) r ⌝ }
+)
+    requires { ⌜ Analysable (now table) (now index) (now named) (now notes) n context (heldIn (now labels)) × (nodeIn (now table) n ≡ If condition yes no) ⌝ }
+    ensures { λ _. ⌜ Analysed (commandIn (now (table .entry)) n) context (heldIn (now (labels .entry))) (now (notes .entry)) (now (notes .exit)) (heldIn (now (labels .exit))) ⌝ }
 {
-    note(&mut *notes, n, context, labels);
-    let inner = guarded(named, condition, context, labels);
-    let left = analyse(table, index, named, &mut *notes, yes, inner, labels);
-    let right = analyse(table, index, named, &mut *notes, no, inner, labels);
-    join(left, right)
+    let entering = held(&*labels);
+    note(&mut *notes, n, context, entering);
+    let inner = guarded(named, condition, context, entering);
+    analyse(table, index, named, &mut *notes, &mut *labels, yes, inner);
+    let left = held(&*labels);
+    hold(&mut *labels, entering);
+    analyse(table, index, named, &mut *notes, &mut *labels, no, inner);
+    let right = held(&*labels);
+    let both = join(left, right);
+    hold(&mut *labels, both);
 }
 
-// The labelling after the command of node n, from the context and the labelling that enter it.
+// The command of node n, in this context: the labelling that enters it is changed to the one after it.
 pub fn analyse(
     table: &[u8],
     index: &[u16],
     named: &[u64],
     notes: &mut [u64],
+    labels: &mut [u64; 2],
     n: usize,
     context: bool,
-    labels: Labelling,
-) -> Labelling
-    requires { ⌜ Analysable (now table) (now index) (now named) (now notes) n context labels ⌝ }
-    ensures { λ r. ⌜ Analysed (commandIn (now (table .entry)) n) context labels (now (notes .entry)) (now (notes .exit)) r ⌝ }
+)
+    requires { ⌜ Analysable (now table) (now index) (now named) (now notes) n context (heldIn (now labels)) ⌝ }
+    ensures { λ _. ⌜ Analysed (commandIn (now (table .entry)) n) context (heldIn (now (labels .entry))) (now (notes .entry)) (now (notes .exit)) (heldIn (now (labels .exit))) ⌝ }
 {
     let node = command_at(table, index, n);
     match node {
@@ -241,38 +272,40 @@ pub fn analyse(
             index,
             named,
             &mut *notes,
+            &mut *labels,
             n,
             first,
             second,
             context,
-            labels,
         ),
         Node::If { condition, yes, no } => analyse_if(
             table,
             index,
             named,
             &mut *notes,
+            &mut *labels,
             n,
             condition,
             yes,
             no,
             context,
-            labels,
         ),
         Node::While { condition, body } => analyse_loop(
             table,
             index,
             named,
             &mut *notes,
+            &mut *labels,
             n,
             condition,
             body,
             context,
-            labels,
         ),
         _ => {
-            note(&mut *notes, n, context, labels);
-            after_single(named, node, context, labels)
+            let entering = held(&*labels);
+            note(&mut *notes, n, context, entering);
+            let after = after_single(named, node, context, entering);
+            hold(&mut *labels, after);
         }
     }
 }

@@ -1,2 +1,2 @@
-// What an entry answers: the answer slice, and what the reader's answer is worth to an entry that writes into a buffer.
+// What an entry answers.
 pub mod slice;

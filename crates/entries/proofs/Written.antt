@@ -1,16 +1,23 @@
 -- An entry that writes into a buffer, where it answers 0: its bytes were got, and they stand at the front of the buffer.
-use Prim.Native.Nat.{ℕ}
+use Prim.Native.Nat.{ℕ, _≤_}
+use native.Mathlib.Nat.{zero-add}
+use native.Mathlib.Omega.{arith}
 use mathlib.Core.Bool.{Bool, true, false}
 use mathlib.Core.Path.{_≡_, refl, sym, ap, _∙_}
 use mathlib.Core.List.{List}
 use lib.ListN.{length, take, drop}
-use lib.Seq.{take-at}
+use lib.Seq.{sets, sets-eq, take-at}
 use lib.Dec.{leb}
 use Rattle.awhile.specs.Refusals.{Answer, refused, got}
 use Rattle.awhile.specs.declared.Refusal.the-variants.{ShortBuffer}
 use Rattle.machine.specs.Memory.{writtenOver}
 use Rattle.entries.specs.Writing.{Written, notWritten, writtenAll, writing}
 use Rattle.entries.proofs.Accepted.{refusal-not-zero}
+
+-- bytes stored from the front on are written over what was there
+pub written-front : (bytes buffer : List ℕ) → length bytes ≤ length buffer → sets buffer 0 bytes ≡ writtenOver bytes buffer
+unfolding writtenOver
+written-front bytes buffer h = sets-eq bytes buffer 0 (omega arith) ∙ rw zero-add
 
 -- bytes that are written stand at the front of the buffer
 pub front : (bytes buffer answer : List ℕ) → take (length bytes) (writtenAll bytes buffer answer .buffer) ≡ bytes

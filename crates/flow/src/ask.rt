@@ -1,5 +1,6 @@
 // Label questions about a table.
-use questions::entry::answer_questions;
+use write_entries::Job;
+use write_entries::entry::answer_job;
 ghost use Rattle.entries.specs.Promises.{AnswersQuestions};
 
 // Answers a list of questions, each a node and a variable, by a byte each in a lent buffer.
@@ -13,5 +14,5 @@ pub extern "C" fn flow_questions(
     ensures { λ r. ⌜ AnswersQuestions (now (table .entry)) (now (questions .entry)) (now (labels .entry)) (now (answer .entry))
         r (now (labels .exit)) (now (answer .exit)) ⌝ }
 {
-    answer_questions(table, questions, &mut *labels, &mut *answer)
+    answer_job(Job::Answers, table, questions, &mut *labels, &mut *answer)
 }

@@ -25,7 +25,7 @@ use Rattle.entries.specs.Writing.{Written, notWritten, writtenAll, writing, har
 use Rattle.program.specs.Program.{refusalBytes, refusalRecord, hardenedInput, AnswersRead}
 use Rattle.entries.proofs.Accepted.{refusal-not-zero}
 use Rattle.program.proofs.Program.{answers-read}
-use Rattle.answers.proofs.Reading.{written-front}
+use Rattle.entries.proofs.Written.{written-front}
 
 -- ---- the second number of an answer, read again
 -- its four lower bytes

@@ -1,4 +1,3 @@
 -- Laws of this crate.
 pub mod Lists
 pub mod NotedAnswers
-pub mod Calls

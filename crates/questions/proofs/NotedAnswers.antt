@@ -98,7 +98,7 @@ reaches {i = i} h e k = rw e (h .each i k)
 
 -- ---- the answers written one behind the other
 module _ (ns s : List ℕ) where
-  length-noted : (n : ℕ) → length (notedAnswers ns s n) ≡ n
+  pub length-noted : (n : ℕ) → length (notedAnswers ns s n) ≡ n
   unfolding notedAnswers
   length-noted zero = refl
   length-noted (suc n) = simp length-append (omega (arith, length-noted n))

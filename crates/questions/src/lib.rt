@@ -1,4 +1,3 @@
-// Answers label questions: the whole of the entry, below the exported wrapper.
-pub mod entry;
+// Label questions: whether a list is answered, and the answers to one, from the notes that one analysis left.
 pub mod list;
 pub mod writing;

@@ -172,7 +172,7 @@ module _ (s index : List ℕ) where
 -- ---- what a caller learns from the answer
 module _ (s index : List ℕ) where
   -- a table that is accepted is ready
-  pub accepting : (declared : Declarations) → Answers s index (Accepted declared) → Ready s index declared
+  accepting : (declared : Declarations) → Answers s index (Accepted declared) → Ready s index declared
   unfolding readAs
   accepting declared h = go (readTable s) refl (h .answers)
     where
@@ -190,3 +190,7 @@ module _ (s index : List ℕ) where
       go : (a : Answer Table) → readTable s ≡ a → Refused r ≡ readAs (readTable s) → readTable s ≡ refused r
       go (refused q) e answers = let same : q ≡ r = cc (answers ∙ ap readAs e) in e ∙ ap refused same
       go (got t) e answers = absurd (let z : _≡_ {A = ℕ} 0 1 = cc (answers ∙ ap readAs e) in omega arith)
+
+-- where the reader answers an accepted table, it is ready
+pub reader-ready : {s index : List ℕ} {found : Read} {declared : Declarations} → Answers s index found → found ≡ Accepted declared → Ready s index declared
+reader-ready answers is = accepting _ _ _ (rw is at answers)

@@ -1,6 +1,7 @@
 -- Laws for reading a table record by record.
 pub mod Index
 pub mod Ready
+pub mod Rooms
 pub mod NodeKinds
 pub mod Counting
 pub mod Walking

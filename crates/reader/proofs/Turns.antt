@@ -56,7 +56,7 @@ module _ (s : List ℕ) (at : ℕ) (p : Progress) (index uses : List ℕ) where
   pub record HeaderReady : Type 0 where
     pub here : at ≡ 0
     pub all-left : p .left ≡ 3 + maxArrays + maxNodes
-    pub fresh : Fresh index uses
+    pub fresh : Fresh s index uses
 
   pub header-ready : Walking s at p index uses → p .due ≡ HeaderDue → HeaderReady
   header-ready (atHeader z b f) d = record { here = z; all-left = begun-left p b; fresh = f }
@@ -70,7 +70,7 @@ module _ (s : List ℕ) (at : ℕ) (p : Progress) (index uses : List ℕ) where
     pub here : at ≡ labelsStart (p .declared .header)
     pub sum-left : p .left ≡ 2 + p .declared .header .arrays + p .declared .header .nodes
     pub isHeader : readHeader s ≡ got (p .declared .header)
-    pub fresh : Fresh index uses
+    pub fresh : Fresh s index uses
 
   pub labels-ready : Walking s at p index uses → p .due ≡ LabelsDue → LabelsReady
   labels-ready (atHeader z b f) d = absurd (never (cc (begun-due p b)))
@@ -86,7 +86,7 @@ module _ (s : List ℕ) (at : ℕ) (p : Progress) (index uses : List ℕ) where
     pub sum-left : p .left ≡ 1 + left + p .declared .header .nodes
     pub declared : Declared s (p .declared)
     pub counts : CountsLeft s (p .declared .header) left at (p .declared .cells)
-    pub fresh : Fresh index uses
+    pub fresh : Fresh s index uses
 
   pub array-ready : Walking s at p index uses → p .due ≡ Body → p .declared .header .nodes + 1 < p .left → ArrayReady
   array-ready (atHeader z b f) d more = absurd (never (cc (begun-due p b)))
@@ -101,7 +101,7 @@ module _ (s : List ℕ) (at : ℕ) (p : Progress) (index uses : List ℕ) where
     pub sum-left : p .left + n ≡ 1 + p .declared .header .nodes
     pub counted : Counted s (p .declared)
     pub nodesLeft : NodesLeft s (p .declared .header) index uses at n
-    pub long : Long index uses
+    pub long : Long s index uses
 
   pub after-arrays : Walking s at p index uses → p .due ≡ Body → p .left ≤ p .declared .header .nodes + 1 → AfterArrays
   after-arrays (atHeader z b f) d few = absurd (never (cc (begun-due p b)))
@@ -133,7 +133,15 @@ module _ (s : List ℕ) (at : ℕ) (p : Progress) (index uses : List ℕ) where
       let k = after-arrays (b .walking) (b .isBody) few in
       let f = body-limits (b .walking) (b .isBody) in
       let same : p .declared .header .nodes + 1 - p .left ≡ k .n = omega arith in
-      record { some = b .some; more = omega arith; few = (f .nodesFit, f .arraysFit); left = rw same (k .nodesLeft); long = k .long }
+      let isHeader = k .counted .declared .isHeader in
+      record {
+        some = b .some;
+        more = omega arith;
+        few = (f .nodesFit, f .arraysFit);
+        left = rw same (k .nodesLeft);
+        longIndex = k .long .longIndex .holds _ isHeader;
+        longUses = k .long .longUses .holds _ isHeader;
+      }
 
   -- while records are left, no answer is there
   pub never-done : (a : Read) → p .due ≡ Done a → 0 < p .left → Walking s at p index uses → ⊥
@@ -191,10 +199,10 @@ module _ (s : List ℕ) (at : ℕ) (p : Progress) (index uses : List ℕ) where
         })
 
     -- at the end all records are whole
-    pub end-heads : (k : AfterArrays) → p .left ≤ 1 → p .declared .header .nodes ≤ maxNodes → Heads s index (p .declared .header .nodes)
-    end-heads k few limit =
+    pub end-heads : (k : AfterArrays) → p .left ≤ 1 → Heads s index (p .declared .header .nodes)
+    end-heads k few =
         let all : k .n ≡ p .declared .header .nodes = omega (arith, k .sum-left, some, few) in
-        subst (λ n. Heads s index n) all (heads-before s (p .declared .header) index uses at (k .n) (k .nodesLeft) (omega (arith, all, limit, k .long .longIndex)))
+        subst (λ n. Heads s index n) all (heads-before s (p .declared .header) index uses at (k .n) (k .nodesLeft) (omega (arith, all, k .long .longIndex .holds _ (k .counted .declared .isHeader))))
 
     pub end-turn : (k : AfterArrays) → p .left ≤ 1 → (answer : Read) → Finishes s index uses (p .declared) at answer → (r : Progress) → r ≡ doneWith answer → Turned s at p r index uses
     end-turn k few answer f r e =
@@ -211,7 +219,7 @@ module _ (s : List ℕ) (at : ℕ) (p : Progress) (index uses index′ uses′ :
       let c = k .counted in
       rw q (record {
         walking = atNode refl (n + 1) (omega arith) c h
-            (record { longIndex = omega arith; longUses = omega arith });
+            (record { longIndex = rw li (k .long .longIndex); longUses = rw lu (k .long .longUses) });
         fewer = omega arith;
         fits = omega (arith, at-small s (at + size) p index′ uses′ (n + 1) c h);
       })

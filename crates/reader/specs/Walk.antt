@@ -9,6 +9,7 @@ use Rattle.awhile.specs.Nodes.{sizeOf, childrenOf}
 use Rattle.awhile.specs.Tables.{maxArrays, maxCells, maxNodes, headerSize, labelsSize, arraySize, labelsStart, countsStart, nodesStart, readHeader, readLabels, readCounts, readNodes}
 use Rattle.record.specs.RecordRead.{Kept, CountsBelow}
 use Rattle.reader.specs.Index.{Answers}
+use Rattle.reader.specs.Classes.{RoomFor}
 use Rattle.awhile.specs.declared.Declarations.{Declarations}
 use Rattle.awhile.specs.declared.Header.{Header}
 use Rattle.awhile.specs.declared.Labelling.{Labelling}
@@ -83,13 +84,13 @@ pub record NodesLeft (s : List ℕ) (header : Header) (index uses : List ℕ) (a
   pub children : length (flatMap childrenOf before) ≤ 3 * n
   pub few : n ≤ header .nodes
 
--- index and uses are long enough, and before the first node the uses are 0
-pub record Long (index uses : List ℕ) : Type 0 where
-  pub longIndex : maxNodes ≤ length index
-  pub longUses : maxNodes ≤ length uses
+-- index and uses are long enough for the table's nodes, and before the first node the uses are 0
+pub record Long (s index uses : List ℕ) : Type 0 where
+  pub longIndex : RoomFor s (length index)
+  pub longUses : RoomFor s (length uses)
 
-pub record Fresh (index uses : List ℕ) : Type 0 where
-  pub long : Long index uses
+pub record Fresh (s index uses : List ℕ) : Type 0 where
+  pub long : Long s index uses
   pub zeros : CountsBelow 1 uses
 
 -- header and labels were read
@@ -106,13 +107,13 @@ pub record Counted (s : List ℕ) (d : Declarations) : Type 0 where
 
 -- what is known between two records
 pub data Walking (s : List ℕ) (at : ℕ) (p : Progress) (index uses : List ℕ) : Type 0 where
-  atHeader : at ≡ 0 → p ≡ begun → Fresh index uses → Walking s at p index uses
+  atHeader : at ≡ 0 → p ≡ begun → Fresh s index uses → Walking s at p index uses
   atLabels : at ≡ labelsStart (p .declared .header) → p .due ≡ LabelsDue → p .left ≡ 2 + p .declared .header .arrays + p .declared .header .nodes → readHeader s ≡ got (p .declared .header)
-      → Fresh index uses → Walking s at p index uses
+      → Fresh s index uses → Walking s at p index uses
   atArray : p .due ≡ Body → (left : ℕ) → p .left ≡ 1 + left + p .declared .header .nodes → Declared s (p .declared) → CountsLeft s (p .declared .header) left at (p .declared .cells)
-      → Fresh index uses → Walking s at p index uses
+      → Fresh s index uses → Walking s at p index uses
   atNode : p .due ≡ Body → (n : ℕ) → p .left + n ≡ 1 + p .declared .header .nodes → Counted s (p .declared) → NodesLeft s (p .declared .header) index uses at n
-      → Long index uses → Walking s at p index uses
+      → Long s index uses → Walking s at p index uses
   atEnd : (answer : Read) → p .due ≡ Done answer → p .left ≡ 0 → Answers s index answer → Walking s at p index uses
 
 -- a record is read and fewer are left: what is known past it, at an offset that fits a machine's number
@@ -139,7 +140,8 @@ pub record NodeReady (s : List ℕ) (at : ℕ) (p : Progress) (n : ℕ) (index u
   pub more : n < p .declared .header .nodes
   pub few : (p .declared .header .nodes ≤ maxNodes) × (p .declared .header .arrays ≤ maxArrays)
   pub left : NodesLeft s (p .declared .header) index uses at n
-  pub long : Long index uses
+  pub longIndex : p .declared .header .nodes ≤ length index
+  pub longUses : p .declared .header .nodes ≤ length uses
 
 pub data NodeTurned (s : List ℕ) (at : ℕ) (p : Progress) (n : ℕ) (index uses : List ℕ) (r : Progress) : Type 0 where
   nodeRefused : (x : Refusal) → readNodes (p .declared .header .nodes) (p .declared .header) s (nodesStart (p .declared .header)) [] ≡ refused x → r ≡ doneWith (Refused x) → NodeTurned s at p n index uses r

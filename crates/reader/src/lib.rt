@@ -2,6 +2,7 @@
 use awhile::Declarations;
 use awhile::Refusal;
 
+pub mod classes;
 pub mod lookup;
 pub mod reader;
 pub mod records;

@@ -1,14 +1,13 @@
 // Reading a table: its declarations and nodes once, with an index of the nodes' offsets, or the refusal of the first record that fails.
 ghost use Prim.Native.Nat.{_≤_, _<_};
 ghost use lib.ListN.{length};
-ghost use Rattle.awhile.specs.Tables.{maxNodes};
 ghost use Rattle.record.specs.RecordRead.{Heads};
 ghost use Rattle.reader.specs.Index.{Answers, Finishes};
+ghost use Rattle.reader.specs.Walk.{Fresh};
 use crate::Read;
 use crate::reader;
 use crate::records::Due;
 use awhile::Declarations;
-use awhile::MAX_NODES;
 use awhile::Refusal;
 use record::node;
 use record::uses;
@@ -36,13 +35,12 @@ pub fn finish(table: &[u8], index: &[u16], uses: &[u16], declared: Declarations,
     Read::Accepted { declared }
 }
 
-// The whole table, of any bytes.
-pub fn read(table: &[u8], index: &mut [u16]) -> Read
-    requires { ⌜ maxNodes ≤ length (now index) ⌝ }
+// The whole table, of any bytes. Index and counts are for as many nodes as the header declares; the counts are all zero.
+pub fn read(table: &[u8], index: &mut [u16], counts: &mut [u16]) -> Read
+    requires { ⌜ Fresh (now table) (now index) (now counts) ⌝ }
     ensures { λ r. ⌜ Answers (now (table .entry)) (now (index .exit)) r ⌝ }
 {
-    let mut counts = [0u16; MAX_NODES];
-    let progress = reader::walk(table, &mut *index, &mut counts);
+    let progress = reader::walk(table, &mut *index, &mut *counts);
     let due = progress.due;
     let Due::Done { answer } = due else {
         return Read::Refused {

@@ -24,7 +24,7 @@ use Rattle.entries.specs.Promises.{ranAt, Runs, Guesses, RollsBack}
 use Rattle.entries.proofs.Rolling.{entry-rolls-back}
 use Rattle.run_entries.specs.Lengths.{enoughFor, fitFor}
 use Rattle.run_entries.specs.Runs.{reportNumbers, resultOf, numbersOf, runnable, CameTo, not-run, has-run, ReadDone}
-use Rattle.run_entries.specs.declared.machines.Done.{Done}
+use Rattle.run_entries.specs.declared.tables.Done.{Done}
 
 -- what a call came to, as all memory at exit
 abbrev exitOf : Lent → (answer : List ℕ) → Done → Ran

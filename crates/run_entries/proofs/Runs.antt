@@ -37,8 +37,8 @@ use Rattle.run_entries.specs.Lengths.{Small, lengthsOf, fitFor}
 use Rattle.run_entries.specs.Runs.{reportNumbers, resultOf, numbersOf, runnable, not-run, has-run, DoneAs, ReadDone}
 use Rattle.run_entries.specs.declared.lengths.Lengths.{Lengths}
 use Rattle.run_entries.specs.declared.lengths.Lengths.the-variants.{Right, Wrong}
-use Rattle.run_entries.specs.declared.machines.Done.{Done}
-use Rattle.run_entries.specs.declared.machines.Done.the-variants.{Refused, Ended}
+use Rattle.run_entries.specs.declared.tables.Done.{Done}
+use Rattle.run_entries.specs.declared.tables.Done.the-variants.{Refused, Ended}
 use Rattle.run_entries.proofs.RightLengths.{enough-rolling, RightLengths, right-lengths, lengths-answer}
 
 -- ---- a table that was read

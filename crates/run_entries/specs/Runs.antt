@@ -21,8 +21,8 @@ use Rattle.entries.specs.Answers.{refusalNumbers}
 use Rattle.entries.specs.Running.{Lent, runIn, ranAll}
 use Rattle.entries.specs.Rolling.{saveSize}
 use Rattle.run_entries.specs.Lengths.{fitFor}
-use Rattle.run_entries.specs.declared.machines.Done.{Done}
-use Rattle.run_entries.specs.declared.machines.Done.the-variants.{Refused, Ended}
+use Rattle.run_entries.specs.declared.tables.Done.{Done}
+use Rattle.run_entries.specs.declared.tables.Done.the-variants.{Refused, Ended}
 
 -- the answer's numbers of a run's report: "this end, steps, directives used, observation bytes, flag, and the next node"
 unfoldable pub reportNumbers : Report → List ℕ

@@ -1,31 +1,17 @@
 // Runs of a table: on the plain machine, on the guessing one and on the one that rolls back.
-use crate::lengths::Lengths;
-use crate::lengths::lengths_for;
+use crate::memory::run_in;
+use crate::tables::Done;
 use answers::slice::answer_refusal;
 use answers::slice::answer_run;
-use awhile::Declarations;
-use awhile::MAX_NODES;
-use awhile::Refusal;
-use directives::list::reads;
-use interpreter::run::Report;
-use interpreter::run::run;
 use machine::Board;
 use machine::End;
-use reader::Read;
-use reader::tables::read;
+use reader::classes::Class;
 ghost use mathlib.Core.Bool.{cond};
 ghost use mathlib.Core.Path.{_≡_};
 ghost use Rattle.machine.specs.Runs.{endNumber};
-ghost use Rattle.reader.specs.Index.{Ready};
 ghost use Rattle.entries.specs.Answers.{answered};
-ghost use Rattle.run_entries.specs.Runs.{resultOf, numbersOf, DoneAs, ReadDone};
+ghost use Rattle.run_entries.specs.Runs.{resultOf, numbersOf};
 ghost use Rattle.entries.specs.Promises.{lentAt, Runs, Guesses, RollsBack};
-
-// What a call that runs came to.
-pub enum Done {
-    Refused { refusal: Refusal },
-    Ended { report: Report },
-}
 
 // Document 01's number of an end.
 fn number_of(end: End) -> u64
@@ -70,95 +56,6 @@ fn answer_done(answer: &mut [u8], done: Done) -> u64
     }
 }
 
-// Runs a table that was read, if the list reads and the slices have the right lengths.
-fn run_read(
-    table: &[u8],
-    index: &[u16],
-    declared: Declarations,
-    directives: &[u8],
-    board: Board,
-    variables: &mut [u8],
-    cells: &mut [u8],
-    pending: &mut [u8],
-    saves: &mut [u8],
-    observations: &mut [u8],
-    budget: u32,
-) -> Done
-    requires { ⌜ Ready (now table) (now index) declared ⌝ }
-    ensures { λ r. ⌜ DoneAs (now (table .entry)) (now (directives .entry)) board budget
-        (lentAt (now (variables .entry)) (now (cells .entry)) (now (pending .entry)) (now (observations .entry))) (now (saves .entry))
-        (lentAt (now (variables .exit)) (now (cells .exit)) (now (pending .exit)) (now (observations .exit))) (now (saves .exit)) r ⌝ }
-{
-    if !reads(directives, board) {
-        return Done::Refused {
-            refusal: Refusal::BadDirectives,
-        };
-    }
-    let lengths = lengths_for(
-        declared,
-        board,
-        variables.len(),
-        cells.len(),
-        pending.len(),
-        saves.len(),
-    );
-    match lengths {
-        Lengths::Wrong { refusal } => Done::Refused { refusal },
-        Lengths::Right => {
-            let report = run(
-                table,
-                index,
-                declared.header,
-                directives,
-                board,
-                &mut *variables,
-                &mut *cells,
-                &mut *pending,
-                &mut *saves,
-                &mut *observations,
-                budget,
-            );
-            Done::Ended { report }
-        }
-    }
-}
-
-// Reads a table and runs it.
-fn read_and_run(
-    table: &[u8],
-    directives: &[u8],
-    board: Board,
-    variables: &mut [u8],
-    cells: &mut [u8],
-    pending: &mut [u8],
-    saves: &mut [u8],
-    observations: &mut [u8],
-    budget: u32,
-) -> Done
-    ensures { λ r. ⌜ ReadDone (now (table .entry)) (now (directives .entry)) board budget
-        (lentAt (now (variables .entry)) (now (cells .entry)) (now (pending .entry)) (now (observations .entry))) (now (saves .entry))
-        (lentAt (now (variables .exit)) (now (cells .exit)) (now (pending .exit)) (now (observations .exit))) (now (saves .exit)) r ⌝ }
-{
-    let mut index = [0u16; MAX_NODES];
-    let found = read(table, &mut index);
-    match found {
-        Read::Refused { refusal } => Done::Refused { refusal },
-        Read::Accepted { declared } => run_read(
-            table,
-            &index,
-            declared,
-            directives,
-            board,
-            &mut *variables,
-            &mut *cells,
-            &mut *pending,
-            &mut *saves,
-            &mut *observations,
-            budget,
-        ),
-    }
-}
-
 // Runs a table on the plain machine.
 pub fn run_plain(
     table: &[u8],
@@ -176,7 +73,8 @@ pub fn run_plain(
     // the plain machine asks for no directives and saves nothing
     let none = &table[..0];
     let mut unused = [0u8; 1];
-    let done = read_and_run(
+    let done = run_in(
+        Class::Small,
         table,
         none,
         Board::Plain,
@@ -206,7 +104,8 @@ pub fn run_guessing(
         (lentAt (now (variables .exit)) (now (cells .exit)) (now (pending .exit)) (now (observations .exit))) (now (answer .exit)) ⌝ }
 {
     let mut unused = [0u8; 1];
-    let done = read_and_run(
+    let done = run_in(
+        Class::Small,
         table,
         directives,
         Board::Guessing,
@@ -236,7 +135,8 @@ pub fn run_rolling(
         (lentAt (now (variables .entry)) (now (cells .entry)) (now (pending .entry)) (now (observations .entry))) (now (saves .entry)) budget (now (answer .entry)) r
         (lentAt (now (variables .exit)) (now (cells .exit)) (now (pending .exit)) (now (observations .exit))) (now (saves .exit)) (now (answer .exit)) ⌝ }
 {
-    let done = read_and_run(
+    let done = run_in(
+        Class::Small,
         table,
         directives,
         Board::Rolling,

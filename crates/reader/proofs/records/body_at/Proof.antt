@@ -42,7 +42,7 @@ finish-requires c κs =
     let b = c .before .before .before .before .before .before .before .before .pre in
     let f = body-limits _ _ _ _ _ (b .walking) (b .isBody) in
     let k = after-arrays _ _ _ _ _ (b .walking) (b .isBody) (c .before .before .before .if1 .left) in
-    (f .hasNodes, end-heads _ _ _ _ _ (b .some) k (c .before .before .if2 .left) (f .nodesFit), omega arith)
+    (f .hasNodes, end-heads _ _ _ _ _ (b .some) k (c .before .before .if2 .left), k .long .longUses .holds _ (k .counted .declared .isHeader))
 
 returns-3 : tie.Need-returns-3
 returns-3 c =

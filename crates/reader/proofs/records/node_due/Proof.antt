@@ -11,7 +11,7 @@ use Rattle.reader.proofs.records.node_due.Tie as tie
 read-node-requires : tie.Need-read-node-requires
 read-node-requires c κs =
     let k = c .before .before .before .before .before .before .pre in
-    (omega (arith, offset-small _ _ _ _ _ _ (k .left)), heads-before _ _ _ _ _ _ (k .left) (omega (arith, k .more, k .few .0, k .long .longIndex)))
+    (omega (arith, offset-small _ _ _ _ _ _ (k .left)), heads-before _ _ _ _ _ _ (k .left) (omega (arith, k .more, k .longIndex)))
 
 cast-index : tie.Need-cast-index
 cast-index c = omega (arith, offset-small _ _ _ _ _ _ (c .before .before .before .before .before .before .before .before .before .before .pre .left))

@@ -6,7 +6,7 @@ use Rattle.run_entries.proofs.machines.run_guessing.Tie as tie
 
 returns : tie.Need-returns
 returns c =
-    let done = c .before .before .before .before .before .before .before .before .before .before .before .before .before .read-and-run in
+    let done = c .before .before .before .before .before .before .before .before .before .before .before .before .before .run-in in
     guess-promise _ _ _ _ _ _ _ _ _ (done .result) _ (c .before .before .answer-done .ensures) (done .ensures)
 
 pub run-guessing-spec : {M : Type 1} → statement M

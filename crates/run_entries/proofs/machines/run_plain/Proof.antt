@@ -7,7 +7,7 @@ use Rattle.run_entries.proofs.machines.run_plain.Tie as tie
 
 returns : tie.Need-returns
 returns c =
-    let done = c .before .before .before .before .before .before .before .before .before .before .before .before .before .read-and-run in
+    let done = c .before .before .before .before .before .before .before .before .before .before .before .before .before .run-in in
     run-promise _ _ _ _ _ _ _ _ _ (done .result) _ (c .before .before .answer-done .ensures) refl (done .ensures)
 
 pub run-plain-spec : {M : Type 1} → statement M

@@ -1,2 +1,0 @@
--- Laws of this crate.
-pub mod HardenedCalls

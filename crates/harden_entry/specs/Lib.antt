@@ -1,2 +1,0 @@
--- What the code of the hardening entry asks.
-pub mod Writes
