@@ -9,7 +9,7 @@ pub const MAX_NODES: usize = 4096;
 pub const MAX_CELLS: usize = 16384;
 
 // What a node stands for: a number, a truth value or a command.
-#[derive(Drop)]
+#[derive(Clone, Copy)]
 pub enum Sort {
     Numeric,
     Truth,
@@ -17,7 +17,7 @@ pub enum Sort {
 }
 
 // One record of a node, with its child, variable and array numbers.
-#[derive(Drop)]
+#[derive(Clone, Copy)]
 pub enum Node {
     Number {
         value: u32,
@@ -91,21 +91,21 @@ pub enum Node {
 }
 
 // What a kind and its fields decode to.
-#[derive(Drop)]
+#[derive(Clone, Copy)]
 pub enum Decoded {
     Known { node: Node },
     Unknown,
 }
 
 // The secret marks of variables and arrays: bit n is set where number n is secret.
-#[derive(Drop)]
+#[derive(Clone, Copy)]
 pub struct Labelling {
     pub variables: u64,
     pub arrays: u16,
 }
 
 // What a table's header says: its version, and how many variables, arrays and nodes there are.
-#[derive(Drop)]
+#[derive(Clone, Copy)]
 pub struct Header {
     pub version: usize,
     pub variables: usize,
@@ -114,7 +114,7 @@ pub struct Header {
 }
 
 // All that a table declares: its header, how many cells its arrays have together, and its labels.
-#[derive(Drop)]
+#[derive(Clone, Copy)]
 pub struct Declarations {
     pub header: Header,
     pub cells: usize,
@@ -122,7 +122,7 @@ pub struct Declarations {
 }
 
 // Why a call is refused, with the byte offset of the place where there is one.
-#[derive(Drop)]
+#[derive(Clone, Copy)]
 pub enum Refusal {
     // 1: the table ends inside a record
     Cut { at: usize },

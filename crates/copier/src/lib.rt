@@ -4,14 +4,14 @@ pub mod records;
 pub mod totals;
 
 // How much is written: so many nodes, in so many bytes.
-#[derive(Drop)]
+#[derive(Clone, Copy)]
 pub struct Size {
     pub nodes: usize,
     pub bytes: usize,
 }
 
 // Two copies, one behind the other: the numbers of their last nodes, and how much both take.
-#[derive(Drop)]
+#[derive(Clone, Copy)]
 pub struct Pair {
     pub left: usize,
     pub right: usize,
@@ -20,7 +20,7 @@ pub struct Pair {
 }
 
 // A node's record: its kind and up to three 2-byte fields.
-#[derive(Drop)]
+#[derive(Clone, Copy)]
 pub enum Record {
     Bare {
         kind: usize,

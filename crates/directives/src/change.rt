@@ -3,7 +3,7 @@ ghost use Rattle.std.specs.Prelude.{◌<◌, ◌≡◌};
 ghost use Rattle.directives.specs.Changes.{height_of};
 
 // What is put back on the pending list: nothing, a command, or a command below the next one.
-#[derive(Drop)]
+#[derive(Clone, Copy)]
 pub enum Back {
     Nothing,
     One { next: usize },
@@ -11,7 +11,7 @@ pub enum Back {
 }
 
 // What a step changes: the pending list, a variable or a cell.
-#[derive(Drop)]
+#[derive(Clone, Copy)]
 pub enum Change {
     PutBack { back: Back },
     Assign { variable: usize, value: u32 },
@@ -19,7 +19,7 @@ pub enum Change {
 }
 
 // What a step shows: a branch with its two sides, a read into a variable, or a write of a value.
-#[derive(Drop)]
+#[derive(Clone, Copy)]
 pub enum Shown {
     Fork {
         value: bool,

@@ -8,7 +8,7 @@ use bytes_le::get::u32_at;
 use machine::Directive;
 
 // The cell that a directive asks for: the program's own, another one by name, or none because it does not fit here.
-#[derive(Drop)]
+#[derive(Clone, Copy)]
 pub enum Target {
     Own,
     Named { array: usize, index: u32 },
@@ -16,7 +16,7 @@ pub enum Target {
 }
 
 // What a shown step does, if index and directive fit: a change, or a branch of this value that is forced the wrong way, with its right side.
-#[derive(Drop)]
+#[derive(Clone, Copy)]
 pub enum Fit {
     Goes {
         change: Change,

@@ -7,7 +7,7 @@ use bytes_le::get::u16_at;
 use machine::{Board, Directive};
 
 // The directive of the next shown step with the bytes and the directives that it uses up, or that none is left.
-#[derive(Drop)]
+#[derive(Clone, Copy)]
 pub enum Guided {
     By {
         directive: Directive,

@@ -8,7 +8,7 @@ use bytes_le::get::{u16_at, u32_at};
 use machine::{Board, Directive};
 
 // What stands at an offset of the list.
-#[derive(Drop)]
+#[derive(Clone, Copy)]
 pub enum Listed {
     One { directive: Directive },
     Nothing,

@@ -12,7 +12,7 @@ use record::layout::count_start;
 pub const STARTS: usize = MAX_ARRAYS + 1;
 
 // A cell's place among all cells, if it exists.
-#[derive(Drop)]
+#[derive(Clone, Copy)]
 pub enum Cell {
     At { place: u32 },
     Missing,

@@ -22,7 +22,7 @@ use stepping::state::MachineState;
 use stepping::step::next_step;
 
 // Why a run is over, and the state in which its last step left it.
-#[derive(Drop)]
+#[derive(Clone, Copy)]
 pub struct Stopped {
     pub end: End,
     pub state: MachineState,
@@ -123,7 +123,7 @@ fn go_on(
 }
 
 // The answer of a run: its end, steps, directives used, observation bytes, flag and next node.
-#[derive(Drop)]
+#[derive(Clone, Copy)]
 pub struct Report {
     pub end: End,
     pub steps: u32,

@@ -4,7 +4,7 @@
 pub const MAX_QUESTIONS: usize = 256;
 
 // What is asked: whether a variable is secret just before the command of a node.
-#[derive(Drop)]
+#[derive(Clone, Copy)]
 pub struct Question {
     pub node: usize,
     pub variable: usize,

@@ -2,7 +2,7 @@
 
 // The boards that a table runs on: the plain one takes every step as the program has it, the guessing one takes a directive for each shown step,
 // and the rolling one can go back on a wrong guess as well.
-#[derive(Drop)]
+#[derive(Clone, Copy)]
 pub enum Board {
     Plain,
     Guessing,
@@ -13,7 +13,7 @@ pub enum Board {
 pub const MAX_SAVES: usize = 8;
 
 // What the attacker picks for one shown step, or that the newest wrong guess is rolled back.
-#[derive(Drop)]
+#[derive(Clone, Copy)]
 pub enum Directive {
     Step,
     Force,
@@ -23,7 +23,7 @@ pub enum Directive {
 }
 
 // Why a run is over.
-#[derive(Drop)]
+#[derive(Clone, Copy)]
 pub enum End {
     Finished,
     Spent,

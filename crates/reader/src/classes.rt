@@ -6,7 +6,7 @@ ghost use Rattle.reader.specs.Classes.{holds_table, next_class};
 use bytes_le::get::u16_at;
 
 // Memory for SMALL_NODES, for MEDIUM_NODES, or for as many as a table can have.
-#[derive(Drop)]
+#[derive(Clone, Copy)]
 pub enum Class {
     Small,
     Medium,

@@ -8,7 +8,7 @@ pub mod records;
 pub mod tables;
 
 // What reading a table answers: why it is refused, or what it declares.
-#[derive(Drop)]
+#[derive(Clone, Copy)]
 pub enum Read {
     Refused { refusal: Refusal },
     Accepted { declared: Declarations },

@@ -1,14 +1,13 @@
 // A reader of a table: the slice and the offset of the record that it stands at, held together. It walks the table record by record,
 // and nothing else on the way keeps an offset.
-// The borrow checker covers no function over a struct that holds a slice. So there are two, short and proved by hand: `record` hands the
-// slice and the number to covered code, and `walk` moves the reader on by the length of the record that was read.
+// `record` hands the slice and the number on, and `walk` moves the reader on by the length of the record that was read.
 ghost use Rattle.std.specs.Prelude.{◌<◌};
 ghost use Rattle.reader.specs.Walk.{begun, Walking, Turned, Ends};
 
 use crate::records;
 use crate::records::Progress;
 
-#[derive(Drop)]
+#[derive(Clone, Copy)]
 pub struct Reader<'a> {
     pub table: &'a [u8],
     pub at: usize,

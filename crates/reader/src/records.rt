@@ -12,7 +12,7 @@ use record::node::NodeRead;
 use record::{declarations, node, uses};
 
 // What is due: the header, the labels, an array or node or the end, or nothing any more.
-#[derive(Drop)]
+#[derive(Clone, Copy)]
 pub enum Due {
     Header,
     Labels,
@@ -21,7 +21,7 @@ pub enum Due {
 }
 
 // What was read so far: how many records are left, the end counted as one; how long the last one was; and what they declare.
-#[derive(Drop)]
+#[derive(Clone, Copy)]
 pub struct Progress {
     pub left: usize,
     pub size: usize,

@@ -1,7 +1,7 @@
 -- Sorts and fields told apart: what the other way of a `let .. else` knows.
 use Prim.Native.Nat.{ℕ}
 use native.Mathlib.Omega.{arith}
-use mathlib.Core.Bool.{Bool, true, false, ◌&&◌, and_true}
+use mathlib.Core.Bool.{Bool, true, false, ◌&&◌, and-true}
 use mathlib.Core.Logic.{⊎_elim}
 use mathlib.Core.Path.{◌≡◌, refl, sym, ap, ◌∙◌}
 use mathlib.Core.List.{List, [], ◌∷◌}
@@ -177,7 +177,7 @@ module _ (s index : List ℕ) (at : ℕ) where
         is_then = λ vs arrs ns leads ranged.
             let below = ltb-true node (length ns) (all_head (field_in_range vs arrs (length ns)) (child wanted node) [] (ranged passed)) in
             let same : found ≡ sort_of (get_or ns node Skip) = there.is_sort (get_or ns node Skip) (leads.decoded node below) in
-            rw (passed, and_true, ← same) e;
+            rw (passed, and-true, ← same) e;
         passed = λ p. passed;
       }
 
@@ -191,7 +191,7 @@ module _ (s index : List ℕ) (at : ℕ) where
             let range = field_in_range vs arrs (length ns) in
             let one : a ≡ first_refusal earlier (tested (all (field_sorted ns) (f ∷ [])) (WrongSort at)) = h.is_then vs arrs ns leads (λ p. all_cons range f [] (all_head range f fs (ranged p)) refl) in
             rest.is_then vs arrs ns leads (λ p. all_tail range f fs (ranged (first_passed _ _ (sym one ∙ p))))
-            ∙ rw (one, and_true) (tests_joined earlier (field_sorted ns f) (all (field_sorted ns) fs) (WrongSort at));
+            ∙ rw (one, and-true) (tests_joined earlier (field_sorted ns f) (all (field_sorted ns) fs) (WrongSort at));
         passed = λ p. h.passed (rest.passed p);
       }
 

@@ -8,7 +8,7 @@ use awhile::Refusal;
 use bytes_le::get;
 
 // A check that refuses, or passes.
-#[derive(Drop)]
+#[derive(Clone, Copy)]
 pub enum Checked {
     Refused { refusal: Refusal },
     Passed,

@@ -11,7 +11,7 @@ use awhile::{Header, Labelling, MAX_ARRAYS, MAX_CELLS, MAX_NODES, Refusal};
 use bytes_le::get;
 
 // What reading the header answers.
-#[derive(Drop)]
+#[derive(Clone, Copy)]
 pub enum HeaderRead {
     Refused { refusal: Refusal },
     Header { header: Header },
@@ -74,7 +74,7 @@ pub fn read_header(table: &[u8], at: usize) -> HeaderRead
 }
 
 // What reading the labels record answers.
-#[derive(Drop)]
+#[derive(Clone, Copy)]
 pub enum LabelsRead {
     Refused { refusal: Refusal },
     Labels { labels: Labelling },
@@ -107,7 +107,7 @@ pub fn read_labels(table: &[u8], header: Header, at: usize) -> LabelsRead
 }
 
 // What reading one array record answers.
-#[derive(Drop)]
+#[derive(Clone, Copy)]
 pub enum CountRead {
     Refused { refusal: Refusal },
     Count { count: usize },

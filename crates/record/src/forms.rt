@@ -11,7 +11,7 @@ ghost use Rattle.record.specs.declared.forms.Fields.TheVariants.{One, Two, Three
 use awhile::{Node, Sort};
 
 // What a 2-byte field holds.
-#[derive(Drop)]
+#[derive(Clone, Copy)]
 pub enum Field {
     Constant { value: usize },
     Variable { variable: usize },
@@ -20,7 +20,7 @@ pub enum Field {
 }
 
 // The fields of a record: none, a 4-byte number, or up to three of 2 bytes.
-#[derive(Drop)]
+#[derive(Clone, Copy)]
 pub enum Fields {
     Nothing,
     Word {
@@ -41,7 +41,7 @@ pub enum Fields {
 }
 
 // A record's kind, the sort of what it stands for, and its fields.
-#[derive(Drop)]
+#[derive(Clone, Copy)]
 pub struct Form {
     pub kind: usize,
     pub sort: Sort,

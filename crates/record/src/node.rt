@@ -16,7 +16,7 @@ use awhile::{Decoded, Refusal, Sort};
 use bytes_le::get;
 
 // What reading one node record answers: why it is refused, or how long it is and what its fields hold.
-#[derive(Drop)]
+#[derive(Clone, Copy)]
 pub enum NodeRead {
     Refused { refusal: Refusal },
     Node { size: usize, fields: Fields },

@@ -44,7 +44,7 @@ pub fn count_fields(uses: &mut [u16], fields: Fields)
 }
 
 // The lowest-numbered node that is not in order, or that there is none.
-#[derive(Drop)]
+#[derive(Clone, Copy)]
 pub enum Broken {
     At { node: usize },
     Nowhere,

@@ -7,7 +7,7 @@ use directives::board::rolls;
 use machine::{Board, MAX_SAVES};
 
 // Whether slices can be lent for a run, or why not.
-#[derive(Drop)]
+#[derive(Clone, Copy)]
 pub enum Lengths {
     Right,
     Wrong { refusal: Refusal },

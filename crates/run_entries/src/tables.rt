@@ -13,7 +13,7 @@ use reader::Read;
 use reader::tables::read;
 
 // What a call that runs came to.
-#[derive(Drop)]
+#[derive(Clone, Copy)]
 pub enum Done {
     Refused { refusal: Refusal },
     Ended { report: Report },

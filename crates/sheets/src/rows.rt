@@ -14,7 +14,7 @@ use reader::lookup::{command_at, is_command};
 use record::mask::mask_bytes;
 use variables::meeting::named_label;
 
-#[derive(Drop)]
+#[derive(Clone, Copy)]
 pub enum Row {
     // a command that has no record, or no command
     Nothing,

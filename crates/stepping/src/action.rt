@@ -12,7 +12,7 @@ use awhile::Node;
 use directives::change::{Back, Change, Shown};
 use reader::lookup::command_at;
 
-#[derive(Drop)]
+#[derive(Clone, Copy)]
 pub enum Action {
     Quiet { change: Change },
     Show { shown: Shown },

@@ -24,7 +24,7 @@ fn difference(a: u32, b: u32) -> u32
 }
 
 // The values of two numeric nodes.
-#[derive(Drop)]
+#[derive(Clone, Copy)]
 struct Operands {
     left: u32,
     right: u32,

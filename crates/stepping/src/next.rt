@@ -4,13 +4,13 @@ use directives::change::{Back, Change, Shown};
 use machine::End;
 
 // What a step shows, if anything.
-#[derive(Drop)]
+#[derive(Clone, Copy)]
 pub enum Seen {
     Nothing,
     Observed { shown: Shown },
 }
 
-#[derive(Drop)]
+#[derive(Clone, Copy)]
 pub enum Next {
     Over {
         end: End,

@@ -4,7 +4,7 @@ ghost use Rattle.stepping.specs.Stepping.{start_state, Steppable, stepped_state,
 
 use directives::change::{Change, height};
 
-#[derive(Drop)]
+#[derive(Clone, Copy)]
 pub struct MachineState {
     // whether the machine has guessed wrong, and how many saves are open
     pub flag: bool,

@@ -8,7 +8,7 @@ pub mod memory;
 pub mod writing;
 
 // What is asked of a table: its label sheet, the answers to a list of questions, or its hardened form.
-#[derive(Drop)]
+#[derive(Clone, Copy)]
 pub enum Job {
     Sheet,
     Answers,
@@ -16,7 +16,7 @@ pub enum Job {
 }
 
 // What a call came to.
-#[derive(Drop)]
+#[derive(Clone, Copy)]
 pub enum Done {
     Refused { refusal: Refusal },
     Written { size: usize },

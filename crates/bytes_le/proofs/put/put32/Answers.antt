@@ -1,0 +1,17 @@
+-- `put32` stores the lower and the upper half.
+use Prim.Native.Nat.{◌+◌, ◌/◌, ◌^◌}
+use mathlib.Core.Path.{ap, ◌∙◌}
+use lib.Seq.{sets}
+use Rattle.bytes_le.specs.Numbers.{le}
+use Rattle.bytes_le.proofs.Stores.{store_parts}
+use borrow.Author.Rules.{rules}
+use Rattle.bytes_le.proofs.put.put32.Goals as goal
+
+pub returns : goal.returns
+returns c =
+    let l = c.args.out.now in
+    let at = c.args.at in
+    let v = c.args.v in
+    c.put16-2.ensures
+    ∙ ap (λ k. sets k (at + 2) (le 2 (v / 256 ^ 2))) c.put16.ensures
+    ∙ store_parts 2 2 v l at

@@ -1,0 +1,31 @@
+-- `check_two` tests the frame, then both ranges, then both sorts.
+use mathlib.Core.Path.{◌≡◌}
+use Rattle.record.specs.RecordRead.{fields_of}
+use Rattle.record.specs.declared.checks.Checked.TheVariants.{Passed}
+use Rattle.record.specs.declared.forms.Fields.TheVariants.{Two}
+use Rattle.record.proofs.Sorting.{ranges_then, AllThere, fields_there, sorts_then, record_checked}
+use borrow.Author.Rules.{rules}
+use Rattle.record.proofs.node.check_two.Goals as goal
+
+pub then_sort-sort-requires : goal.then_sort-sort-requires
+unfolding ranges_then
+then_sort-sort-requires c =
+    let there : c.then_range-ranges.result ≡ Passed → let a = c.args in AllThere a.table.now a.index.now (fields_of (Two a.first a.second)) = let a = c.args in
+    fields_there a.table.now a.index.now a.variables a.arrays a.n a.at c.requires.1 c.check_frame-whole.result c.then_range-ranges.result (fields_of (Two a.first a.second))
+    (rw (← c.then_range-range.ensures) c.then_range-ranges.ensures) in
+    λ p. (there p).0
+
+pub then_sort-requires : goal.then_sort-requires
+unfolding ranges_then
+then_sort-requires c =
+    let there : c.then_range-ranges.result ≡ Passed → let a = c.args in AllThere a.table.now a.index.now (fields_of (Two a.first a.second)) = let a = c.args in
+    fields_there a.table.now a.index.now a.variables a.arrays a.n a.at c.requires.1 c.check_frame-whole.result c.then_range-ranges.result (fields_of (Two a.first a.second))
+    (rw (← c.then_range-range.ensures) c.then_range-ranges.ensures) in
+    λ p. (there (c.then_sort-sort.ensures.passed p)).1.0
+
+pub returns : goal.returns
+unfolding ranges_then
+returns c =
+    record_checked _ _ _ _ _ _ _ _ _ _ c.check_frame-whole.ensures
+    (rw (← c.then_range-range.ensures) c.then_range-ranges.ensures)
+    (sorts_then _ _ _ _ _ _ _ _ c.then_sort-sort.ensures c.then_sort.ensures)
