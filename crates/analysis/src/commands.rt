@@ -111,7 +111,7 @@ fn after_single(named: &[u64], node: Node, context: bool, labels: Labelling) -> 
 
 // Settles a loop: "passes repeat until one adds no secret, and that labelling is the answer". The passes start from the entering labelling
 // joined with what the loop last settled at, which is noted for its body: nested loops then settle in few passes.
-#[cycle(analyse_analyse_if_analyse_loop_analyse_sequence_settle)]
+#[cycle(commands)]
 fn settle(
     table: &[u8],
     index: &[u16],
@@ -144,7 +144,7 @@ fn settle(
 }
 
 // A loop. Where it is entered as its note says that it last was, its body's note is the answer and no pass is made.
-#[cycle(analyse_analyse_if_analyse_loop_analyse_sequence_settle)]
+#[cycle(commands)]
 fn analyse_loop(
     table: &[u8],
     index: &[u16],
@@ -179,7 +179,7 @@ fn analyse_loop(
 }
 
 // A sequence: its second part is entered with what the first leaves.
-#[cycle(analyse_analyse_if_analyse_loop_analyse_sequence_settle)]
+#[cycle(commands)]
 fn analyse_sequence(
     table: &[u8],
     index: &[u16],
@@ -217,7 +217,7 @@ fn analyse_sequence(
 }
 
 // An if: both sides are entered with what enters it, in the context of its condition.
-#[cycle(analyse_analyse_if_analyse_loop_analyse_sequence_settle)]
+#[cycle(commands)]
 fn analyse_if(
     table: &[u8],
     index: &[u16],
@@ -246,7 +246,7 @@ fn analyse_if(
 }
 
 // The command of node n, in this context: the labelling that enters it is changed to the one after it.
-#[cycle(analyse_analyse_if_analyse_loop_analyse_sequence_settle)]
+#[cycle(commands)]
 pub fn analyse(
     table: &[u8],
     index: &[u16],

@@ -36,7 +36,7 @@ pub fn both(from: usize, first: Size, second: Size) -> Pair
 }
 
 // Copies a numeric node.
-#[cycle(copy_and_copy_binary_copy_choice_copy_numeric_copy_pair_copy_truth)]
+#[cycle(copies)]
 pub fn copy_numeric(table: &[u8], index: &[u16], n: usize, from: usize, out: &mut [u8]) -> Size
     requires of_sort { OfSort table.now index.now Numeric n }
     requires space_for { SpaceFor from (nodes_of_a (numeric_in table.now n)) (bytes_of_a (numeric_in table.now n)) out.old }
@@ -58,7 +58,7 @@ pub fn copy_numeric(table: &[u8], index: &[u16], n: usize, from: usize, out: &mu
 }
 
 // Copies a truth node.
-#[cycle(copy_and_copy_binary_copy_choice_copy_numeric_copy_pair_copy_truth)]
+#[cycle(copies)]
 pub fn copy_truth(table: &[u8], index: &[u16], n: usize, from: usize, out: &mut [u8]) -> Size
     requires of_sort { OfSort table.now index.now Truth n }
     requires space_for { SpaceFor from (nodes_of_b (truth_in table.now n)) (bytes_of_b (truth_in table.now n)) out.old }
@@ -81,7 +81,7 @@ pub fn copy_truth(table: &[u8], index: &[u16], n: usize, from: usize, out: &mut 
 }
 
 // Copies two numeric nodes, the second from the byte where the first ended.
-#[cycle(copy_and_copy_binary_copy_choice_copy_numeric_copy_pair_copy_truth)]
+#[cycle(copies)]
 fn copy_pair(
     table: &[u8],
     index: &[u16],
@@ -104,7 +104,7 @@ fn copy_pair(
 }
 
 // Copies two numeric nodes and behind them the node over both.
-#[cycle(copy_and_copy_binary_copy_choice_copy_numeric_copy_pair_copy_truth)]
+#[cycle(copies)]
 fn copy_binary(
     table: &[u8],
     index: &[u16],
@@ -127,7 +127,7 @@ fn copy_binary(
 }
 
 // Copies a choice: its condition, its two sides, and the node over them.
-#[cycle(copy_and_copy_binary_copy_choice_copy_numeric_copy_pair_copy_truth)]
+#[cycle(copies)]
 fn copy_choice(
     table: &[u8],
     index: &[u16],
@@ -160,7 +160,7 @@ fn copy_choice(
 }
 
 // Copies two truth nodes, the second from the byte where the first ended, and the `and` over both.
-#[cycle(copy_and_copy_binary_copy_choice_copy_numeric_copy_pair_copy_truth)]
+#[cycle(copies)]
 fn copy_and(
     table: &[u8],
     index: &[u16],

@@ -88,7 +88,7 @@ fn harden_single(
 }
 
 // Hardens a command.
-#[cycle(harden_command_harden_if_harden_loop_harden_sequence_harden_side_harden_sides_harden_while)]
+#[cycle(commands)]
 pub fn harden_command(
     table: &[u8],
     index: &[u16],
@@ -127,7 +127,7 @@ pub fn harden_command(
 }
 
 // A sequence: both commands, one behind the other, and the node.
-#[cycle(harden_command_harden_if_harden_loop_harden_sequence_harden_side_harden_sides_harden_while)]
+#[cycle(commands)]
 fn harden_sequence(
     table: &[u8],
     index: &[u16],
@@ -161,7 +161,7 @@ fn harden_sequence(
 }
 
 // A side of an if, or a loop's body: it begins with the flag's update.
-#[cycle(harden_command_harden_if_harden_loop_harden_sequence_harden_side_harden_sides_harden_while)]
+#[cycle(commands)]
 fn harden_side(
     table: &[u8],
     index: &[u16],
@@ -197,7 +197,7 @@ fn harden_side(
 }
 
 // Both sides of an if, one behind the other.
-#[cycle(harden_command_harden_if_harden_loop_harden_sequence_harden_side_harden_sides_harden_while)]
+#[cycle(commands)]
 fn harden_sides(
     table: &[u8],
     index: &[u16],
@@ -244,7 +244,7 @@ fn harden_sides(
 }
 
 // An if: its condition, masked or not, both sides from the byte where that ended, and the node.
-#[cycle(harden_command_harden_if_harden_loop_harden_sequence_harden_side_harden_sides_harden_while)]
+#[cycle(commands)]
 fn harden_if(
     table: &[u8],
     index: &[u16],
@@ -293,7 +293,7 @@ fn harden_if(
 }
 
 // A loop without what stands after it.
-#[cycle(harden_command_harden_if_harden_loop_harden_sequence_harden_side_harden_sides_harden_while)]
+#[cycle(commands)]
 fn harden_loop(
     table: &[u8],
     index: &[u16],
@@ -340,7 +340,7 @@ fn harden_loop(
 }
 
 // A loop, and after it the flag's update.
-#[cycle(harden_command_harden_if_harden_loop_harden_sequence_harden_side_harden_sides_harden_while)]
+#[cycle(commands)]
 fn harden_while(
     table: &[u8],
     index: &[u16],

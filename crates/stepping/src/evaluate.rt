@@ -30,7 +30,7 @@ struct Operands {
     right: u32,
 }
 
-#[cycle(both_true_both_values_chosen_is_false_truth_value)]
+#[cycle(values)]
 fn both_values(table: &[u8], index: &[u16], variables: &[u8], left: usize, right: usize) -> Operands
     requires { NodeOf Numeric table.now index.now variables.now left × NodeOf Numeric table.now index.now variables.now right }
     ensures { (result.left ≡ value_in table.now variables.now left) × (result.right ≡ value_in table.now variables.now right) }
@@ -41,7 +41,7 @@ fn both_values(table: &[u8], index: &[u16], variables: &[u8], left: usize, right
 }
 
 // The value of one of two numeric nodes, as a truth node chooses.
-#[cycle(both_true_both_values_chosen_is_false_truth_value)]
+#[cycle(values)]
 fn chosen(
     table: &[u8],
     index: &[u16],
@@ -63,7 +63,7 @@ fn chosen(
 }
 
 // The value of a numeric node.
-#[cycle(both_true_both_values_chosen_is_false_truth_value)]
+#[cycle(values)]
 pub fn value(table: &[u8], index: &[u16], variables: &[u8], n: usize) -> u32
     requires { NodeOf Numeric table.now index.now variables.now n }
     ensures { result ≡ value_in table.now variables.now n }
@@ -91,7 +91,7 @@ pub fn value(table: &[u8], index: &[u16], variables: &[u8], n: usize) -> u32
 }
 
 // Whether a truth node is false.
-#[cycle(both_true_both_values_chosen_is_false_truth_value)]
+#[cycle(values)]
 fn is_false(table: &[u8], index: &[u16], variables: &[u8], part: usize) -> bool
     requires { NodeOf Truth table.now index.now variables.now part }
     ensures { result ≡ not (holds_in table.now variables.now part) }
@@ -101,7 +101,7 @@ fn is_false(table: &[u8], index: &[u16], variables: &[u8], part: usize) -> bool
 }
 
 // Whether two truth nodes are both true.
-#[cycle(both_true_both_values_chosen_is_false_truth_value)]
+#[cycle(values)]
 fn both_true(table: &[u8], index: &[u16], variables: &[u8], left: usize, right: usize) -> bool
     requires { NodeOf Truth table.now index.now variables.now left × NodeOf Truth table.now index.now variables.now right }
     ensures { result ≡ (holds_in table.now variables.now left && holds_in table.now variables.now right) }
@@ -114,7 +114,7 @@ fn both_true(table: &[u8], index: &[u16], variables: &[u8], left: usize, right: 
 }
 
 // The value of a truth node.
-#[cycle(both_true_both_values_chosen_is_false_truth_value)]
+#[cycle(values)]
 pub fn truth(table: &[u8], index: &[u16], variables: &[u8], n: usize) -> bool
     requires { NodeOf Truth table.now index.now variables.now n }
     ensures { result ≡ holds_in table.now variables.now n }

@@ -33,16 +33,16 @@ digit_and (suc zero) (suc (suc s)) h k = absurd (omega arith)
 digit_and (suc (suc r)) s h k = absurd (omega arith)
 
 -- a digit is common to two masks where it is set in both
-bit_and : (a b n : ℕ) → bit (bit_and a b) n ≡ (bit a n && bit b n)
+bit-bit_and : (a b n : ℕ) → bit (bit_and a b) n ≡ (bit a n && bit b n)
 unfolding bit
-bit_and a b zero =
+bit-bit_and a b zero =
     ap (λ (m : ℕ). eqb (m % 2) 1) (and_step a b)
     ∙ ap (λ (d : ℕ). eqb d 1) (last (bit_and (a / 2) (b / 2)) (min (a % 2) (b % 2)) (omega arith))
     ∙ digit_and (a % 2) (b % 2) (omega arith) (omega arith)
-bit_and a b (suc n) =
+bit-bit_and a b (suc n) =
     ap (λ (m : ℕ). bit (m / 2) n) (and_step a b)
     ∙ ap (λ (m : ℕ). bit m n) (half (bit_and (a / 2) (b / 2)) (min (a % 2) (b % 2)) (omega arith))
-    ∙ bit_and (a / 2) (b / 2) n
+    ∙ bit-bit_and (a / 2) (b / 2) n
 
 both_or : (a b c : Bool) → (a && (b || c)) ≡ ((a && b) || (a && c))
 both_or true b c = refl
@@ -53,10 +53,10 @@ and_or : (m a b : ℕ) → bit_and m (bit_or a b) ≡ bit_or (bit_and m a) (bit_
 and_or m a b =
     bit_ext (bit_and m (bit_or a b)) (bit_or (bit_and m a) (bit_and m b))
     (λ n.
-    bit_and m (bit_or a b) n
+    bit-bit_and m (bit_or a b) n
     ∙ ap (λ c. bit m n && c) (bit-bit_or a b n)
     ∙ both_or (bit m n) (bit a n) (bit b n)
-    ∙ sym (bit-bit_or (bit_and m a) (bit_and m b) n ∙ ap₂ ◌||◌ (bit_and m a n) (bit_and m b n)))
+    ∙ sym (bit-bit_or (bit_and m a) (bit_and m b) n ∙ ap₂ ◌||◌ (bit-bit_and m a n) (bit-bit_and m b n)))
 
 -- ---- masks that meet
 meet_nothing : (m : ℕ) → meet m 0 ≡ false

@@ -13,7 +13,7 @@ use awhile::Node;
 use reader::lookup::{numeric_at, truth_at};
 
 // The variables in a numeric node.
-#[cycle(and_variables_both_variables_choice_variables_not_variables_numeric_variables_product_variables_truth_variables)]
+#[cycle(expressions)]
 pub fn numeric_variables(table: &[u8], index: &[u16], n: usize) -> u64
     requires { OfSort table.now index.now Numeric n }
     ensures { result ≡ variables_of_a (numeric_in table.now n) }
@@ -31,7 +31,7 @@ pub fn numeric_variables(table: &[u8], index: &[u16], n: usize) -> u64
 }
 
 // The variables in a truth node.
-#[cycle(and_variables_both_variables_choice_variables_not_variables_numeric_variables_product_variables_truth_variables)]
+#[cycle(expressions)]
 pub fn truth_variables(table: &[u8], index: &[u16], n: usize) -> u64
     requires { OfSort table.now index.now Truth n }
     ensures { result ≡ variables_of_b (truth_in table.now n) }
@@ -48,7 +48,7 @@ pub fn truth_variables(table: &[u8], index: &[u16], n: usize) -> u64
 }
 
 // The variables in two numeric nodes.
-#[cycle(and_variables_both_variables_choice_variables_not_variables_numeric_variables_product_variables_truth_variables)]
+#[cycle(expressions)]
 fn both_variables(table: &[u8], index: &[u16], left: usize, right: usize) -> u64
     requires { OfSort table.now index.now Numeric left × OfSort table.now index.now Numeric right }
     ensures { result ≡ bit_or (variables_of_a (numeric_in table.now left)) (variables_of_a (numeric_in table.now right)) }
@@ -59,7 +59,7 @@ fn both_variables(table: &[u8], index: &[u16], left: usize, right: usize) -> u64
 }
 
 // The variables in a product; none where a number node of value 0 is an operand.
-#[cycle(and_variables_both_variables_choice_variables_not_variables_numeric_variables_product_variables_truth_variables)]
+#[cycle(expressions)]
 fn product_variables(table: &[u8], index: &[u16], left: usize, right: usize) -> u64
     requires { OfSort table.now index.now Numeric left × OfSort table.now index.now Numeric right }
     ensures { result ≡ variables_of_a (multiply (numeric_in table.now left) (numeric_in table.now right)) }
@@ -71,7 +71,7 @@ fn product_variables(table: &[u8], index: &[u16], left: usize, right: usize) -> 
 }
 
 // The variables in a choice.
-#[cycle(and_variables_both_variables_choice_variables_not_variables_numeric_variables_product_variables_truth_variables)]
+#[cycle(expressions)]
 fn choice_variables(table: &[u8], index: &[u16], condition: usize, yes: usize, no: usize) -> u64
     requires { OfSort table.now index.now Truth condition × OfSort table.now index.now Numeric yes × OfSort table.now index.now Numeric no }
     ensures { result ≡ bit_or (variables_of_b (truth_in table.now condition))
@@ -83,7 +83,7 @@ fn choice_variables(table: &[u8], index: &[u16], condition: usize, yes: usize, n
 }
 
 // The variables in the truth under a not.
-#[cycle(and_variables_both_variables_choice_variables_not_variables_numeric_variables_product_variables_truth_variables)]
+#[cycle(expressions)]
 fn not_variables(table: &[u8], index: &[u16], truth: usize) -> u64
     requires { OfSort table.now index.now Truth truth }
     ensures { result ≡ variables_of_b (truth_in table.now truth) }
@@ -92,7 +92,7 @@ fn not_variables(table: &[u8], index: &[u16], truth: usize) -> u64
 }
 
 // The variables in two truth nodes.
-#[cycle(and_variables_both_variables_choice_variables_not_variables_numeric_variables_product_variables_truth_variables)]
+#[cycle(expressions)]
 fn and_variables(table: &[u8], index: &[u16], left: usize, right: usize) -> u64
     requires { OfSort table.now index.now Truth left × OfSort table.now index.now Truth right }
     ensures { result ≡ bit_or (variables_of_b (truth_in table.now left)) (variables_of_b (truth_in table.now right)) }
