@@ -1,11 +1,11 @@
 -- Where the costs entry answers 0, what stands in the buffer are the marks that cost; and a table is refused as hardening refuses it.
-use Prim.Native.Nat.{ℕ, ◌+◌, ◌*◌, ◌<◌}
+use Prim.Native.Nat.{ℕ, ◌*◌, ◌<◌}
 use native.Mathlib.Omega.{arith}
 use mathlib.Core.Bool.{Bool, true, false}
 use mathlib.Core.List.{List, [], ◌∷◌, flat_map}
 use mathlib.Core.Logic.{◌↔◌}
 use mathlib.Core.Path.{◌≡◌, refl, sym, ap, subst, ◌∙◌}
-use lib.ListN.{length, take, length-append}
+use lib.ListN.{length, take}
 use lib.Dec.{leb, ltb}
 use Rattle.bytes_le.specs.Numbers.{le}
 use Rattle.bytes_le.proofs.Numbers.{Below}
@@ -17,10 +17,10 @@ use Rattle.awhile.proofs.Accepted.{check_got, then_got, accepted_well_formed}
 use Rattle.awhile.proofs.VersionOne.{reads_as_before}
 use Rattle.labels.specs.Labellings.{Mark}
 use Rattle.masks.specs.Hardening.{hardened_table, max_hardened}
-use Rattle.masks.specs.Costs.{marks_of, costing, mark_number, marks_bytes, cost_bytes}
+use Rattle.masks.specs.Costs.{marks_of, costing, marks_bytes, cost_bytes}
 use Rattle.masks.proofs.Costs.{list_tells}
 use Rattle.entries.specs.Answers.{answered}
-use Rattle.entries.specs.Writing.{Written, not_written, written_all, writing, if_hardens, hardened_in, harden_entry, costs_in, costs_entry}
+use Rattle.entries.specs.Writing.{Written, not_written, written_all, writing, hardened_in, harden_entry, costs_in, costs_entry}
 use Rattle.entries.specs.Promises.{written_at, CostsInto, ListsCosts}
 use Rattle.entries.proofs.Written.{front, writing_zero, answers_zero}
 

@@ -1,5 +1,5 @@
 -- Demand 3 carried over to the entries that take a list of directives.
-use Prim.Native.Nat.{ℕ, ◌+◌}
+use Prim.Native.Nat.{ℕ}
 use mathlib.Core.List.{List, [], ◌∷◌, ◌++◌, append_assoc, flat_map}
 use mathlib.Core.Bool.{cond}
 use mathlib.Core.Logic.{⊎_map}

@@ -1,6 +1,6 @@
--- WHAT THE SEVEN ENTRIES PROMISE, on any bytes: the result, each lent slice and the answer slice at exit, by an equation with the entry's
--- definition; of a label sheet and of answers to questions, that the labels are the least; of a table that was hardened, the demands; of a list of
--- marks that cost, that it has those whose lifting changes the hardened nodes; and of a run that rolls back, which saves are open. Each says besides that a file which does not say version 2 reads as document 01 has it (`older`).
+-- WHAT THE SIX ENTRIES PROMISE, on any bytes: the result, each lent slice and the answer slice at exit, by an equation with the entry's
+-- definition; of a label sheet and of answers to questions, that the labels are the least; of a table that was hardened, the demands; and of a run
+-- that rolls back, which saves are open. Each says besides that a file which does not say version 2 reads as document 01 has it (`older`).
 -- Nothing is left free, the place of a refusal by 6 no more than any other (awhile/proofs/Lowest says whose record it is).
 use Rattle.std.specs.Prelude.{ℕ, ◌*◌, ◌<◌, ◌≤◌, false, cond, List, [], ◌∷◌, ◌↔◌, ◌≡◌, length, get_or, take}
 use Rattle.std.proofs.Math.Option.{some}

@@ -1,4 +1,4 @@
--- The entries that write bytes into a lent buffer: the label sheet, the answers to label questions, the hardened table and the marks that cost.
+-- The entries that write bytes into a lent buffer: the label sheet, the answers to label questions and the hardened table.
 use Rattle.std.specs.Prelude.{ℕ, cond, List, [], ◌∷◌, length, leb, ltb}
 use Rattle.awhile.specs.Refusals.{Answer, refused, got, check, and_then, refusal_number}
 use Rattle.awhile.specs.Tables.{Table, read_table, max_variables}
@@ -27,8 +27,7 @@ unfoldable pub written_all : List ℕ → (buffer answer : List ℕ) → Written
 written_all out buffer answer =
     record { result = 0; buffer = written_over out buffer; answer = answered (0 ∷ length out ∷ []) answer }
 
--- 23: "sheet or hardened table longer than its buffer. Exact length suffices"; "An answer buffer too short is 23"; "23 where the list is longer than
--- its buffer"
+-- 23: "sheet or hardened table longer than its buffer. Exact length suffices"; "An answer buffer too short is 23"
 unfoldable pub writing : Answer (List ℕ) → (buffer answer : List ℕ) → Written
 writing (refused r) buffer answer = not_written r buffer answer
 writing (got out) buffer answer =
@@ -47,21 +46,24 @@ asked_in s t = check (answerable t s) BadQuestions (got (answer_bytes t t.labels
 unfoldable pub questions_entry : (table questions labels answer : List ℕ) → Written
 questions_entry table questions labels answer = writing (and_then (read_table table) (asked_in questions)) labels answer
 
--- 8: hardening with N above 512; 9: hardening with V = 64 ("Refusal 9 now means 64 variables"); otherwise these bytes
+-- 8: hardening with N above 512; 9: hardening with V = 64 ("Refusal 9 now means 64 variables")
+unfoldable pub hardened_in : Table → Answer (List ℕ)
+hardened_in t =
+    check (leb (length t.nodes) max_hardened) TooManyNodes
+    (check (ltb t.variables max_variables) NoFreeVariable
+    (got (table_bytes (hardened_table t))))
+
+-- flow_harden(table, out, answer)
+unfoldable pub harden_entry : (table out answer : List ℕ) → Written
+harden_entry table out answer = writing (and_then (read_table table) hardened_in) out answer
+
+-- "Refusals 8 and 9 are given as in hardening"; otherwise these bytes
 abbrev pub if_hardens : Table → List ℕ → Answer (List ℕ)
 if_hardens t bytes =
     check (leb (length t.nodes) max_hardened) TooManyNodes
     (check (ltb t.variables max_variables) NoFreeVariable
     (got bytes))
 
-unfoldable pub hardened_in : Table → Answer (List ℕ)
-hardened_in t = if_hardens t (table_bytes (hardened_table t))
-
--- flow_harden(table, out, answer)
-unfoldable pub harden_entry : (table out answer : List ℕ) → Written
-harden_entry table out answer = writing (and_then (read_table table) hardened_in) out answer
-
--- "Refusals 8 and 9 are given as in hardening"
 unfoldable pub costs_in : Table → Answer (List ℕ)
 costs_in t = if_hardens t (cost_bytes t)
 

@@ -1,12 +1,12 @@
 -- A closed relation pulled back along a change of notes is closed, and the pending lists are then equal with the notes that they had before
 -- the change: a relation on programs with origins gives one on programs with node numbers, and the next nodes are the same.
 use Prim.Native.Nat.{ℕ}
-use mathlib.Core.Bool.{Bool, true, false, true≢false}
+use mathlib.Core.Bool.{Bool, true, false, cond, true≢false}
 use mathlib.Core.List.{List, [], ◌∷◌, map}
 use mathlib.Core.Path.{◌≡◌, refl, sym, ap, ap₂, subst, subst₂, ◌∙◌}
 use Rattle.awhile.specs.Language.{Com, skip, assign, sequence, if, while, read, write, map_notes}
 use Rattle.machine.specs.Look.{Look, quiet, fork, get, put, look}
-use Rattle.machine.specs.Steps.{State, quietly, turned, loaded, stored}
+use Rattle.machine.specs.Steps.{State, inside, cell_place, quietly, turned, loaded, stored}
 use Rattle.machine.proofs.Notes.{map_pending, map_look, map_state, cond_mapped, look_mapped}
 use Rattle.machine.proofs.Closed.{Alike, quiet_alike, fork_alike, get_alike, put_alike, get_out_left, get_out_right, put_out_left, put_out_right}
 use Rattle.machine.proofs.Closed.{OneStep, over_alike, next_alike, Closed}
@@ -32,6 +32,41 @@ is_empty : {A : Type 0} → List A → Bool
 is_empty [] = true
 is_empty (x ∷ xs) = false
 
+-- What looks of one form that are alike give, with the parts of either side apart: a part that stands on both sides is not taken apart twice.
+module _ {Note : Type 0} (counts : List ℕ) (R : State Note → State Note → Type 0) (s t : State Note) where
+  quiet_parts : (p q : List (Com Note)) (vs ws : List ℕ) → Alike counts R s t (quiet p vs) (quiet q ws) → R (quietly s p vs) (quietly t q ws)
+  quiet_parts p q vs ws (quiet_alike n us zs r) = r
+
+  get_parts : (p q : List (Com Note)) (P : (x a i y b j : ℕ) → Type 0)
+      → ((x a i : ℕ)
+      → (inside counts a i ≡ true → R (loaded s x (cell_place counts a i) p) (loaded t x (cell_place counts a i) q))
+      → ((place : ℕ) → s.flag ≡ true → R (loaded s x place p) (loaded t x place q))
+      → P x a i x a i)
+      → ((x a i j : ℕ) → inside counts a i ≡ false → s.flag ≡ false → P x a i x a j)
+      → ((x a i j : ℕ) → inside counts a j ≡ false → t.flag ≡ false → P x a i x a j)
+      → (x a i y b j : ℕ) → Alike counts R s t (get x a i p) (get y b j q) → P x a i y b j
+  get_parts p q P in_both left right x a i y b j (get_alike z c k n own any) = in_both z c k own any
+  get_parts p q P in_both left right x a i y b j (get_out_left z c k m n out clear) = left z c k m out clear
+  get_parts p q P in_both left right x a i y b j (get_out_right z c k m n out clear) = right z c k m out clear
+
+  put_parts : (p q : List (Com Note)) (P : (a i v b j w : ℕ) → Type 0)
+      → ((a i v w : ℕ)
+      → (inside counts a i ≡ true → R (stored s (cell_place counts a i) v p) (stored t (cell_place counts a i) w q))
+      → ((place : ℕ) → s.flag ≡ true → R (stored s place v p) (stored t place w q))
+      → P a i v a i w)
+      → ((a i j v w : ℕ) → inside counts a i ≡ false → s.flag ≡ false → P a i v a j w)
+      → ((a i j v w : ℕ) → inside counts a j ≡ false → t.flag ≡ false → P a i v a j w)
+      → (a i v b j w : ℕ) → Alike counts R s t (put a i v p) (put b j w q) → P a i v b j w
+  put_parts p q P in_both left right a i v b j w (put_alike c k y z n own any) = in_both c k y z own any
+  put_parts p q P in_both left right a i v b j w (put_out_left c k m y z n out clear) = left c k m y z out clear
+  put_parts p q P in_both left right a i v b j w (put_out_right c k m y z n out clear) = right c k m y z out clear
+
+fork_parts : {Note : Type 0} (counts : List ℕ) (R : State Note → State Note → Type 0) (s t : State Note) (x y x' y' : List (Com Note))
+    (P : (v w : Bool) → Type 0)
+    → ((v : Bool) → R (turned s (cond v x y) s.flag) (turned t (cond v x' y') t.flag) → R (turned s (cond v y x) true) (turned t (cond v y' x') true) → P v v)
+    → (v w : Bool) → Alike counts R s t (fork v x y) (fork w x' y') → P v w
+fork_parts counts R s t x y x' y' P given v w (fork_alike u n k r g) = given u r g
+
 module _ {A B : Type 0} (f : A → B) (counts : List ℕ) (R : State B → State B → Type 0) where
   -- states that are related with their notes changed, and have one pending list before the change
   pub record Pulled (s t : State A) : Type 0 where
@@ -40,19 +75,29 @@ module _ {A B : Type 0} (f : A → B) (counts : List ℕ) (R : State B → State
 
   alike_pulled : (s t : State A) (l l' : Look A) → SameShape l l' → Alike counts R (map_state f s) (map_state f t) (map_look f l) (map_look f l') → Alike counts Pulled s t l l'
   unfolding map_look map_state quietly turned loaded stored
-  alike_pulled s t l l' (quiets p vs ws) (quiet_alike n us zs r) = quiet_alike p vs ws (record { same = refl; related = r })
-  alike_pulled s t l l' (forks v w x y) (fork_alike u n k r g) =
-      fork_alike u x y
+  alike_pulled s t l l' (quiets p vs ws) al =
+      quiet_alike p vs ws (record { same = refl; related = quiet_parts counts R (map_state f s) (map_state f t) (map_pending f p) (map_pending f p) vs ws al })
+  alike_pulled s t l l' (forks v w x y) al =
+      fork_parts counts R (map_state f s) (map_state f t) (map_pending f x) (map_pending f y) (map_pending f x) (map_pending f y)
+      (λ b c. Alike counts Pulled s t (fork b x y) (fork c x y))
+      (λ u r g. fork_alike u x y
       (record { same = refl; related = subst (λ (q : List (Com B)). R (turned (map_state f s) q s.flag) (turned (map_state f t) q t.flag)) (cond_mapped (map_pending f) u x y) r })
-      (record { same = refl; related = subst (λ (q : List (Com B)). R (turned (map_state f s) q true) (turned (map_state f t) q true)) (cond_mapped (map_pending f) u y x) g })
-  alike_pulled s t l l' (gets x a i j p) (get_alike y b k n own any) =
-      get_alike x a i p (λ h. record { same = refl; related = own h }) (λ place set. record { same = refl; related = any place set })
-  alike_pulled s t l l' (gets x a i j p) (get_out_left y b k m n out clear) = get_out_left x a i j p out clear
-  alike_pulled s t l l' (gets x a i j p) (get_out_right y b k m n out clear) = get_out_right x a i j p out clear
-  alike_pulled s t l l' (puts a i j v w p) (put_alike b k y z n own any) =
-      put_alike a i v w p (λ h. record { same = refl; related = own h }) (λ place set. record { same = refl; related = any place set })
-  alike_pulled s t l l' (puts a i j v w p) (put_out_left b k m y z n out clear) = put_out_left a i j v w p out clear
-  alike_pulled s t l l' (puts a i j v w p) (put_out_right b k m y z n out clear) = put_out_right a i j v w p out clear
+      (record { same = refl; related = subst (λ (q : List (Com B)). R (turned (map_state f s) q true) (turned (map_state f t) q true)) (cond_mapped (map_pending f) u y x) g }))
+      v w al
+  alike_pulled s t l l' (gets x a i j p) al =
+      get_parts counts R (map_state f s) (map_state f t) (map_pending f p) (map_pending f p)
+      (λ y b k z c m. Alike counts Pulled s t (get y b k p) (get z c m p))
+      (λ y b k own any. get_alike y b k p (λ h. record { same = refl; related = own h }) (λ place set. record { same = refl; related = any place set }))
+      (λ y b k m out clear. get_out_left y b k m p out clear)
+      (λ y b k m out clear. get_out_right y b k m p out clear)
+      x a i x a j al
+  alike_pulled s t l l' (puts a i j v w p) al =
+      put_parts counts R (map_state f s) (map_state f t) (map_pending f p) (map_pending f p)
+      (λ b k y c m z. Alike counts Pulled s t (put b k y p) (put c m z p))
+      (λ b k y z own any. put_alike b k y z p (λ h. record { same = refl; related = own h }) (λ place set. record { same = refl; related = any place set }))
+      (λ b k m y z out clear. put_out_left b k m y z p out clear)
+      (λ b k m y z out clear. put_out_right b k m y z p out clear)
+      a i v a j w al
 
   step_pulled : (s t : State A) → OneStep counts R (map_state f s) (map_state f t) → (cs : List (Com A)) → s.pending ≡ cs → t.pending ≡ cs → OneStep counts Pulled s t
   unfolding map_state map_pending is_empty

@@ -48,7 +48,6 @@ refused_run number at lent answer = record { result = number; lent = lent; answe
 abbrev pub AllRefuse : (table : List ℕ) → (number at : ℕ) → Type 0
 AllRefuse table number at =
     Refuses sheet_entry table number at × ((questions : List ℕ) → Refuses (λ t. questions_entry t questions) table number at) × Refuses harden_entry table number at
-    × Refuses costs_entry table number at
     × ((lent : Lent) (budget : ℕ) (answer : List ℕ) → run_entry table lent budget answer ≡ refused_run number at lent answer)
     × ((directives : List ℕ) (lent : Lent) (budget : ℕ) (answer : List ℕ) → guess_entry table directives lent budget answer ≡ refused_run number at lent answer)
     × ((directives : List ℕ) (lent : Lent) (saves : List ℕ) (budget : ℕ) (answer : List ℕ) →

@@ -31,7 +31,6 @@ first_of_eleven = (
   λ buffer answer. refl,
   λ questions buffer answer. refl,
   λ buffer answer. refl,
-  λ buffer answer. refl,
   λ lent budget answer. refl,
   λ directives lent budget answer. refl,
   λ directives lent saves budget answer. refl,

@@ -11,7 +11,6 @@ no_bytes = (
   λ buffer answer. refl,
   λ questions buffer answer. refl,
   λ buffer answer. refl,
-  λ buffer answer. refl,
   λ lent budget answer. refl,
   λ directives lent budget answer. refl,
   λ directives lent saves budget answer. refl,

@@ -23,7 +23,7 @@ use Rattle.labels.proofs.Masks.{bit_above}
 use Rattle.labels.proofs.Order.{equal_labels, label_set, label_set_other, mark_discrete}
 use Rattle.masks.specs.Decisions.{decide, decisions_of}
 use Rattle.masks.specs.Hardening.{hardened_program, table_of_hardened, hardened_table}
-use Rattle.masks.specs.Costs.{lifted, changes, costs, marks_below, marks_of, costing, mark_number, Rising, DeclaresMark, TellsCosts}
+use Rattle.masks.specs.Costs.{lifted, costs, marks_below, marks_of, costing, mark_number, Rising, DeclaresMark, TellsCosts}
 use Rattle.masks.proofs.Telling.{OfOne, decide_one, changes_tell, changes_none}
 
 module _ (t : Table) where

@@ -1,9 +1,9 @@
 -- Hardened nodes tell the decisions on one program apart, and so do the numbers of these decisions.
 use Prim.Native.Nat.{ℕ, ◌+◌}
 use native.Mathlib.Omega.{arith}
-use mathlib.Core.Bool.{Bool, true, false, ◌&&◌, true≢false}
+use mathlib.Core.Bool.{Bool, true, false, true≢false}
 use mathlib.Core.Bool.{not as negated}
-use mathlib.Core.List.{List, [], ◌∷◌, ◌++◌, map, map-append, append_assoc}
+use mathlib.Core.List.{List, [], ◌∷◌, ◌++◌, map, map-append}
 use mathlib.Core.Logic.{◌↔◌}
 use mathlib.Core.Path.{◌≡◌, refl, sym, ap, ap₂, ◌∙◌}
 use lib.ListN.{length, length-append}
@@ -19,7 +19,7 @@ use Rattle.awhile.proofs.Writing.{written_root}
 use Rattle.labels.specs.Annotation.{annotate, parts}
 use Rattle.labels.specs.Masks.{bit}
 use Rattle.masks.specs.Decisions.{Decision, decision, decide, mask_digits}
-use Rattle.masks.specs.Hardening.{Origin, harden, masked_condition, masked_index, zero_if_guessing, flag_if_true, flag_if_false, mask_value_of, table_of_hardened}
+use Rattle.masks.specs.Hardening.{Origin, harden, masked_condition, masked_index, zero_if_guessing, table_of_hardened}
 use Rattle.masks.specs.Costs.{masks_of, same_numbers, changes}
 
 -- ---- decisions for one program: they differ in masks alone, and only in those that a command has

@@ -5,7 +5,8 @@ use Rattle.awhile.specs.Language.{AExp, number, variable, choice, BExp, equal, a
 use Rattle.awhile.specs.Language.{Com, skip, assign, sequence, if, while, read, write}
 use Rattle.awhile.specs.Tables.{Table}
 use Rattle.awhile.specs.Encoding.{write_c}
-use Rattle.masks.specs.Decisions.{Decision, decisions_of}
+use Rattle.labels.specs.Sheet.{annotated}
+use Rattle.masks.specs.Decisions.{Decision, decide}
 
 -- "A secret condition c becomes (f = 0) and c"
 unfoldable pub masked_condition : (f : ℕ) → (mask : Bool) → BExp → BExp
@@ -56,7 +57,7 @@ harden f (write n a i e) = write (some n.node) a (masked_index f n.mask_index i)
 
 -- the hardened program of a table, by the decisions that the labels give
 unfoldable pub hardened_program : Table → Com Origin
-hardened_program t = harden t.variables (decisions_of t)
+hardened_program t = harden t.variables (decide (annotated t t.labels))
 
 -- "A hardened table is version 2 where its input is, or where it declares 33 variables; otherwise it stays version 1."
 unfoldable pub version_for : (version variables : ℕ) → ℕ
