@@ -1,0 +1,6 @@
+-- `after_assign` labels the variable.
+use borrow.Author.Rules.{rules}
+use Rattle.analysis.proofs.commands.after_assign.Goals as goal
+
+pub returns : goal.returns
+returns c = rw (c.label_variable.ensures, c.either-secret.ensures, c.named_label.ensures)

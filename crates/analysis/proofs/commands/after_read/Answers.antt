@@ -1,0 +1,6 @@
+-- `after_read` labels the variable.
+use borrow.Author.Rules.{rules}
+use Rattle.analysis.proofs.commands.after_read.Goals as goal
+
+pub returns : goal.returns
+returns c = rw (c.label_variable.ensures, c.read_label-secret.ensures)
