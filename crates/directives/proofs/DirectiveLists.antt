@@ -150,10 +150,12 @@ first_kind s d e = go (directive_of (le_at 2 s 2) (le_at 2 s 4) (le_at 4 s 6)) r
 module _ (most : ℕ) where
   directives_first : (s : List ℕ) (d : Directive) → 0 < length s → first_directive s ≡ some d → directives_in (suc most) s ≡ before d (directives_in most (drop (directive_size d) s))
   unfolding directives_in
+  directives_first [] d h e = elim h [ ]
   directives_first (b ∷ bs) d h e = rw (e, directives_in)
 
   directives_bad : (s : List ℕ) → 0 < length s → first_directive s ≡ none → directives_in (suc most) s ≡ none
   unfolding directives_in
+  directives_bad [] h e = elim h [ ]
   directives_bad (b ∷ bs) h e = rw (e, directives_in)
 
 -- with as much fuel as there are bytes, no more is needed
@@ -185,6 +187,7 @@ reads_none_left (b ∷ bs) h = absurd (omega arith)
 
 pub reads_first : (s : List ℕ) (d : Directive) → 0 < length s → first_directive s ≡ some d → read_rolling_directives s ≡ before d (read_rolling_directives (drop (directive_size d) s))
 unfolding read_rolling_directives
+reads_first [] d h e = elim h [ ]
 reads_first (b ∷ bs) d h e =
     let positive = size_some d in
     let less = length-drop (directive_size d) (b ∷ bs) in
@@ -193,6 +196,7 @@ reads_first (b ∷ bs) d h e =
 
 pub reads_bad : (s : List ℕ) → 0 < length s → first_directive s ≡ none → read_rolling_directives s ≡ none
 unfolding read_rolling_directives
+reads_bad [] h e = elim h [ ]
 reads_bad (b ∷ bs) h e = directives_bad (length bs) (b ∷ bs) h e
 
 -- one record further on, the rest reads if the list does; at a record that is refused it does not

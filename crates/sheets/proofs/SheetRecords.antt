@@ -10,7 +10,7 @@ use borrow.Author.Tests.{eq-eqb, ne_eqb}
 use Rattle.reader.specs.Index.{command_in}
 use Rattle.awhile.specs.Language.{Com, skip, assign, sequence, if, while, read, write, note_of, map_notes}
 use Rattle.awhile.proofs.Lists.{flat_map_append}
-use Rattle.labels.specs.Annotation.{parts}
+use Rattle.labels.specs.Annotation.{Entry, parts}
 use Rattle.labels.specs.Sheet.{SheetRecord, command_records, records_at}
 use Rattle.analysis.specs.Notes.{note_in}
 use Rattle.awhile.specs.Standing.{standing}
@@ -63,11 +63,11 @@ module _ (table : List ℕ) where
     records_copied (skip k) p = rw append-nil (copies_own n k (records_in table ns n) (own_record k (skip k) p))
     records_copied (assign k v e) p = rw append-nil (copies_own n k (records_in table ns n) (own_record k (assign k v e) p))
     records_copied (sequence k c d) p =
-        rw flat_map_append
+        rw (flat_map_append (λ (q : Com Entry). cond (eqb (note_of q).node n) (command_records q) []))
         (copies_three (cond (eqb n k) 1 0) (standing n c) (standing n d) (records_in table ns n) (copies_own n k (records_in table ns n) (own_record k (sequence k c d) p.0))
         (records_copied c p.1) (records_copied d p.2))
     records_copied (if k b c d) p =
-        rw flat_map_append
+        rw (flat_map_append (λ (q : Com Entry). cond (eqb (note_of q).node n) (command_records q) []))
         (copies_three (cond (eqb n k) 1 0) (standing n c) (standing n d) (records_in table ns n) (copies_own n k (records_in table ns n) (own_record k (if k b c d) p.0))
         (records_copied c p.1) (records_copied d p.2))
     records_copied (while k b c) p =
