@@ -1,4 +1,4 @@
--- The one_step lemma: locked configurations take the same kind of step, show the same and are locked again, at a branch for both
+-- The one-step lemma: locked configurations take the same kind of step, show the same and are locked again, at a branch for both
 -- continuations; or, with the flag clear, an index is out of bounds in at least one of the two.
 use Prim.Native.Nat.{ℕ, ◌<◌}
 use native.Mathlib.Omega.{arith}
