@@ -8,7 +8,7 @@ returns-then-list-at c = runs_out _ _ c.requires c.if-list-at.true
 
 pub returns-in-One : goal.returns-in-One
 returns-in-One c =
-    goes_by _ _ c.requires c.if-list-at.false _ c.directive_at-found.ensures _ c.in-One.is _ c.size_of.ensures
+    goes_by _ _ c.requires c.if-list-at.false _ c.directive_at-found.ensures _ c.in-One.is _ c.size_of-size.ensures
 
 pub returns-in-Nothing : goal.returns-in-Nothing
 returns-in-Nothing c =
