@@ -1,0 +1,10 @@
+-- `put_labels` stores the fields, one behind the other.
+use Rattle.hardener.proofs.TableWrites.{labels_stored}
+use borrow.Author.Rules.{rules}
+use Rattle.hardener.proofs.tables.put_labels.Goals as goal
+
+pub returns : goal.returns
+returns c =
+    let args = c.args in
+    labels_stored args.labels args.version _ _ args.at args.out.now c.labels_bytes.ensures.0 c.mask_bytes.ensures.0
+    c.put16.ensures c.put16-2.ensures c.put_mask.ensures c.put16-3.ensures
