@@ -183,7 +183,7 @@ module _ (table list : List ℕ) (board : Board) (budget room : ℕ) (st : Machi
             → next (table_of table).counts (bytes room) (machine ss os)
             ≡ step_of (table_of table).counts (bytes room) (machine ss os) (look command below (variables_in table m.variables))
         unfolding next_of machine_of
-        next_looks ss os = next_onward (table_of table).counts (bytes room) (machine ss os) forward ∙ rw (pending_next, next_of)
+        next_looks ss os = next_onward (table_of table).counts (bytes room) (machine ss os) forward ∙ ap (next_of (table_of table).counts (bytes room) (machine ss os)) pending_next
 
         -- a silent step
         quiet_stepped : (c : Change) (ss : List (State ℕ)) (os : List Observation) → QuietFits table c

@@ -38,6 +38,7 @@ le_at_stored width n l at fits inside =
 -- word n of the words in bytes
 pub word_at : (count : ℕ) (bs : List ℕ) (n : ℕ) → n < count → get_or (from_words count bs) n 0 ≡ le_at 4 bs (4 * n)
 unfolding from_words le_at
+word_at zero bs n h = elim h [ ]
 word_at (suc count) bs zero h = refl
 word_at (suc count) bs (suc n) h =
     let next : 4 + 4 * n ≡ 4 * suc n = omega arith in
