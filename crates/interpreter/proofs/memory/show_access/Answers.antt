@@ -1,0 +1,7 @@
+-- `show_access` writes a read's or a write's record.
+use Rattle.interpreter.proofs.Effects.{stored_access}
+use borrow.Author.Rules.{rules}
+use Rattle.interpreter.proofs.memory.show_access.Goals as goal
+
+pub returns : goal.returns
+returns c = stored_access _ _ _ _ _ _ _ _ _ c.put16.ensures c.put16-2.ensures c.put16-3.ensures c.put32.ensures
