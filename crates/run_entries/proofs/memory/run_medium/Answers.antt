@@ -1,0 +1,13 @@
+-- `run_medium` lends memory that was just made, for 512 nodes.
+use Rattle.reader.specs.Classes.{class_nodes}
+use Rattle.reader.proofs.Rooms.{fresh_memory}
+use borrow.Author.Rules.{rules}
+use Rattle.run_entries.proofs.memory.run_medium.Goals as goal
+
+pub read_and_run-requires : goal.read_and_run-requires
+unfolding class_nodes
+read_and_run-requires c = fresh_memory 512 c.requires
+
+pub returns : goal.returns
+unfolding class_nodes
+returns c = search rules
