@@ -5,13 +5,7 @@ use write_entries::Job;
 use write_entries::entry::answer_job;
 
 // Answers a list of questions, each a node and a variable, by a byte each in a lent buffer.
-#[unsafe(no_mangle)]
-pub extern "C" fn flow_questions(
-    table: &[u8],
-    questions: &[u8],
-    labels: &mut [u8],
-    answer: &mut [u8],
-) -> u64
+pub fn flow_questions(table: &[u8], questions: &[u8], labels: &mut [u8], answer: &mut [u8]) -> u64
     ensures { AnswersQuestions table.now questions.now labels.old answer.old
         result labels.new answer.new }
 {

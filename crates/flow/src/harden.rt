@@ -5,8 +5,7 @@ use write_entries::Job;
 use write_entries::entry::answer_job;
 
 // Writes the hardened form of a table into a lent buffer.
-#[unsafe(no_mangle)]
-pub extern "C" fn flow_harden(table: &[u8], out: &mut [u8], answer: &mut [u8]) -> u64
+pub fn flow_harden(table: &[u8], out: &mut [u8], answer: &mut [u8]) -> u64
     ensures { Hardens table.now out.old answer.old result out.new answer.new }
 {
     // this job has no list

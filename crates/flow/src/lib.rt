@@ -1,4 +1,6 @@
-// The exported entries, and nothing else.
+// The entries, and nothing else. `flow_c` exports them under the same names.
+#![tactic(auto)]
+
 pub mod ask;
 pub mod harden;
 pub mod machines;

@@ -4,8 +4,7 @@ ghost use Rattle.entries.specs.Promises.{lent_at, Runs, Guesses, RollsBack};
 use run_entries::machines::{run_guessing, run_plain, run_rolling};
 
 // Runs a table on the plain machine.
-#[unsafe(no_mangle)]
-pub extern "C" fn flow_run(
+pub fn flow_run(
     table: &[u8],
     variables: &mut [u8],
     cells: &mut [u8],
@@ -30,8 +29,7 @@ pub extern "C" fn flow_run(
 }
 
 // Runs a table on the guessing machine, under a list of directives.
-#[unsafe(no_mangle)]
-pub extern "C" fn flow_guess(
+pub fn flow_guess(
     table: &[u8],
     directives: &[u8],
     variables: &mut [u8],
@@ -58,8 +56,7 @@ pub extern "C" fn flow_guess(
 }
 
 // Runs a table on the machine that rolls wrong guesses back, under a list of directives.
-#[unsafe(no_mangle)]
-pub extern "C" fn flow_rollback(
+pub fn flow_rollback(
     table: &[u8],
     directives: &[u8],
     variables: &mut [u8],

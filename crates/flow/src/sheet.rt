@@ -5,8 +5,7 @@ use write_entries::Job;
 use write_entries::entry::answer_job;
 
 // Writes the label sheet of a table into a lent buffer.
-#[unsafe(no_mangle)]
-pub extern "C" fn flow_sheet(table: &[u8], sheet: &mut [u8], answer: &mut [u8]) -> u64
+pub fn flow_sheet(table: &[u8], sheet: &mut [u8], answer: &mut [u8]) -> u64
     ensures { Sheets table.now sheet.old answer.old result sheet.new answer.new }
 {
     // this job has no list
