@@ -3,9 +3,13 @@
 //
 // The input is the number of calls and then the calls. A call is the entry, the budget and eight slices, in the order of `call`'s
 // parameters. A slice is its length, how many of its bytes are given, and these; the others are 170. Numbers take 4 bytes.
-ghost use Rattle.io.specs.Counts.{IsPrefixLen};
+#![tactic(auto)]
 
-use libc::{STDIN_FILENO, STDOUT_FILENO};
+ghost use Rattle.std.specs.Io.{ReadsAtMost};
+
+use std::io;
+use std::io::{BufReader, BufWriter, Read, Write};
+use streams::read_full;
 
 // The entries' numbers; any other is flow_guess. The list of a call holds directives or, for flow_questions, questions.
 const SHEET: u32 = 1;
@@ -19,47 +23,44 @@ const QUESTIONS: u32 = 5;
 const ROLLBACK: u32 = 6;
 
 // The next number of the input.
-fn number() -> u32 {
+fn number<R: Read>(input: &mut R) -> io::Result<u32> {
     let mut word = [0u8; 4];
-    io::read_full(STDIN_FILENO, &mut word);
-    bytes_le::get::u32_at(&word, 0)
+    read_full(input, &mut word)?;
+    Ok(bytes_le::get::u32_at(&word, 0))
 }
 
 // The next slice of the input, at the start of a buffer that holds 170 in every byte, and cut where that ends. Answers its length.
-fn fill(buffer: &mut [u8]) -> usize
-    ensures { IsPrefixLen result buffer.new }
+fn fill<R: Read>(input: &mut R, buffer: &mut [u8]) -> io::Result<usize>
+    ensures { ReadsAtMost result buffer.new }
 {
-    let length = number() as isize;
-    let given = io::count(number() as isize, buffer);
-    io::read_full(STDIN_FILENO, &mut buffer[..given]);
-    io::count(length, buffer)
+    let length = number(input)? as usize;
+    let given = (number(input)? as usize).min(buffer.len());
+    read_full(input, &mut buffer[..given])?;
+    Ok(length.min(buffer.len()))
 }
 
 // Ends a line of the output.
-fn end_line() {
-    io::write_all(STDOUT_FILENO, b"\n");
+fn end_line<W: Write>(out: &mut W) -> io::Result<()> {
+    out.write_all(b"\n")
 }
 
 // A line of hexadecimal.
-fn print_bytes(bytes: &[u8]) {
-    let mut i = 0;
-    while i < bytes.len() {
-        let byte = bytes_le::get::byte_at(bytes, i);
-        io::print_hex(STDOUT_FILENO, byte as u64, 2);
-        i += 1;
+fn print_bytes<W: Write>(out: &mut W, bytes: &[u8]) -> io::Result<()> {
+    for byte in bytes {
+        write!(out, "{byte:02x}")?;
     }
-    end_line();
+    end_line(out)
 }
 
 // A line with a name and a number.
-fn print_result(name: &[u8], res: u64) {
-    io::write_all(STDOUT_FILENO, name);
-    io::print_decimal(STDOUT_FILENO, res);
-    end_line();
+fn print_result<W: Write>(out: &mut W, name: &str, res: u64) -> io::Result<()> {
+    write!(out, "{name}{res}")?;
+    end_line(out)
 }
 
 // Calls an entry, and prints its name and its result.
-fn enter(
+fn enter<W: Write>(
+    out: &mut W,
     entry: u32,
     budget: u32,
     table: &[u8],
@@ -70,26 +71,38 @@ fn enter(
     saves: &mut [u8],
     output: &mut [u8],
     answer: &mut [u8],
-) {
+) -> io::Result<()> {
     match entry {
-        SHEET => print_result(b"sheet ", flow::sheet::flow_sheet(table, output, answer)),
-        HARDEN => print_result(b"harden ", flow::harden::flow_harden(table, output, answer)),
+        SHEET => print_result(
+            out,
+            "sheet ",
+            flow::sheet::flow_sheet(table, output, answer),
+        ),
+        HARDEN => print_result(
+            out,
+            "harden ",
+            flow::harden::flow_harden(table, output, answer),
+        ),
         RUN => print_result(
-            b"run ",
+            out,
+            "run ",
             flow::machines::flow_run(table, variables, cells, pending, output, budget, answer),
         ),
         QUESTIONS => print_result(
-            b"questions ",
+            out,
+            "questions ",
             flow::ask::flow_questions(table, list, output, answer),
         ),
         ROLLBACK => print_result(
-            b"rollback ",
+            out,
+            "rollback ",
             flow::machines::flow_rollback(
                 table, list, variables, cells, pending, saves, output, budget, answer,
             ),
         ),
         _ => print_result(
-            b"guess ",
+            out,
+            "guess ",
             flow::machines::flow_guess(
                 table, list, variables, cells, pending, output, budget, answer,
             ),
@@ -98,15 +111,16 @@ fn enter(
 }
 
 // A line for the save words, where the entry has any.
-fn print_saves(entry: u32, saves: &[u8]) {
+fn print_saves<W: Write>(out: &mut W, entry: u32, saves: &[u8]) -> io::Result<()> {
     match entry {
-        ROLLBACK => print_bytes(saves),
-        _ => {}
+        ROLLBACK => print_bytes(out, saves),
+        _ => Ok(()),
     }
 }
 
 // A call, and what it leaves in each slice.
-fn call(
+fn call<W: Write>(
+    out: &mut W,
     entry: u32,
     budget: u32,
     table: &[u8],
@@ -117,8 +131,9 @@ fn call(
     saves: &mut [u8],
     output: &mut [u8],
     answer: &mut [u8],
-) {
+) -> io::Result<()> {
     enter(
+        out,
         entry,
         budget,
         table,
@@ -129,36 +144,37 @@ fn call(
         &mut *saves,
         &mut *output,
         &mut *answer,
-    );
-    print_bytes(answer);
-    print_bytes(variables);
-    print_bytes(cells);
-    print_bytes(pending);
-    print_saves(entry, saves);
-    print_bytes(output);
+    )?;
+    print_bytes(out, answer)?;
+    print_bytes(out, variables)?;
+    print_bytes(out, cells)?;
+    print_bytes(out, pending)?;
+    print_saves(out, entry, saves)?;
+    print_bytes(out, output)
 }
 
 // The next call of the input.
-fn play() {
-    let entry = number();
-    let budget = number();
+fn play<R: Read, W: Write>(input: &mut R, out: &mut W) -> io::Result<()> {
+    let entry = number(input)?;
+    let budget = number(input)?;
     let mut table = [170u8; 65536];
-    let table_length = fill(&mut table);
+    let table_length = fill(input, &mut table)?;
     let mut list = [170u8; 4096];
-    let list_length = fill(&mut list);
+    let list_length = fill(input, &mut list)?;
     let mut variables = [170u8; 320];
-    let variables_length = fill(&mut variables);
+    let variables_length = fill(input, &mut variables)?;
     let mut cells = [170u8; 65600];
-    let cells_length = fill(&mut cells);
+    let cells_length = fill(input, &mut cells)?;
     let mut pending = [170u8; 16448];
-    let pending_length = fill(&mut pending);
+    let pending_length = fill(input, &mut pending)?;
     let mut saves = [170u8; 16384];
-    let saves_length = fill(&mut saves);
+    let saves_length = fill(input, &mut saves)?;
     let mut output = [170u8; 65536];
-    let output_length = fill(&mut output);
+    let output_length = fill(input, &mut output)?;
     let mut answer = [170u8; 64];
-    let answer_length = fill(&mut answer);
+    let answer_length = fill(input, &mut answer)?;
     call(
+        out,
         entry,
         budget,
         &table[..table_length],
@@ -169,13 +185,14 @@ fn play() {
         &mut saves[..saves_length],
         &mut output[..output_length],
         &mut answer[..answer_length],
-    );
+    )
 }
 
-fn main() {
-    let mut left = number();
-    while 0 < left {
-        play();
-        left -= 1;
+fn main(rt: HostRuntime) -> io::Result<()> {
+    let mut input = BufReader::new(rt.alloc(), rt.stdin())?;
+    let mut out = BufWriter::new(rt.alloc(), rt.stdout())?;
+    for _ in 0..number(&mut input)? {
+        play(&mut input, &mut out)?;
     }
+    out.flush()
 }
