@@ -4,7 +4,7 @@
 #   make            build/flow
 #   make demo       a program of examples/, from its text to an attack before and after hardening
 #   make test       all tests: rt ci, make edits, then make check
-#   make edits      says of each must-fail edit, by the logs of rt ci, at which fact it was refused first
+#   make edits      says of each must-fail edit, by rt must-fail, at which fact it was refused first
 #   make check      every test of the command (SEED=..)
 #   make costs      what each command costs, as Markdown
 #   make install    to $(DESTDIR)$(PREFIX): the command, its man page, flow.h, flow_words.h, libflow.a, libflow.so.1 and flow.pc
@@ -32,7 +32,7 @@ $(BUILD)/flow: $(call objects,$(SOURCES)) $(LIBRARY)
 demo: $(BUILD)/flow
 	@sh tools/demo.sh $(BUILD)
 
-# rt ci removes target/, and so the library: a make of its own sees that after it.
+# In this order: the command is tested over crates that are proved, and a make of its own sees what rt ci left.
 test:
 	$(want_rt)
 	rt ci
@@ -40,6 +40,7 @@ test:
 	$(MAKE) check
 
 edits:
+	$(want_rt)
 	python3 tools/test/edits.py
 
 # Tests: programs of tools/test over the command's own parts and the bench's generator.

@@ -3,8 +3,8 @@
 LIBRARY = $(ROOT)/target/staticlib/libflow.a
 
 # Every source, spec and proof of the crates.  Their folders too: a file that is deleted, or moved in with an old time, makes its
-# folder newer and nothing else.
-CRATES := $(ROOT)/crates.txt $(shell find $(ROOT)/crates -name must-fail -prune -o \
+# folder newer and nothing else.  What rt makes stands in crates/NAME/out, and making that makes crates/NAME newer: both are left out.
+CRATES := $(ROOT)/crates.txt $(shell find $(ROOT)/crates -mindepth 2 \( -name must-fail -o -name out \) -prune -o \
 	\( -type d -o -type f -name '*.rt' -o -type f -name '*.antt' \) -print)
 
 # For the first line of a recipe that calls rt: without it, make stops before it begins anything.

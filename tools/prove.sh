@@ -16,15 +16,16 @@ show() {
     done 5> "$log"
 }
 
+# rt puts the archive of the crate into its own folder.
 prove() {
-    (cd "$root" && rt staticlib flow 2>&1)
+    (cd "$root/crates/flow_c" && rt lib && mkdir -p ../../target/staticlib && cp out/libflow_c.a ../../target/staticlib/libflow.a) 2>&1
 }
 
 # The status of a pipe is that of its last part: rt's own comes by file 4.
 exec 3>&1
 status=$({ { prove 3>&- 4>&-; echo $? >&4; } | show >&3; } 4>&1)
 if [ "$status" != 0 ]; then
-    echo "rt staticlib flow failed with status $status; $log ends with:" >&2
+    echo "rt lib of flow_c failed with status $status; $log ends with:" >&2
     tail -n 20 "$log" >&2
 fi
 exit "${status:-1}"
