@@ -1,21 +1,25 @@
 #!/usr/bin/env python3
-"""Says of each must-fail edit what refused it first, from the logs of `rt ci` or `rt must-fail`: edits.py
+"""Says of each must-fail edit what refused it first, by what `rt must-fail` says of it: edits.py
 
 An edit shows something only where it is refused at a fact: something that no longer holds of the code or the definitions as
 edited. A proof may also be refused for how it is written, as where a path in it leads to another place than before; then no fact
 was looked at, and the edit shows nothing. The comment of an edit names the fact, or the function whose contract it is. Exits
-with 1 where an edit was refused otherwise, or elsewhere than its comment says, or has no log.
+with 1 where an edit was refused otherwise, or elsewhere than its comment says, or was not tried.
+
+What has not changed since `rt ci` or `rt must-fail` tried it is not tried again. rt says of an edit the place of its first
+refusal and how the message begins. It passes over messages of proof files in which a name is missing.
 """
 import glob
 import os
 import re
+import subprocess
 import sys
 
 # What antt and rattle say where a statement does not hold.
 FACTS = (
     "the two types",  # .. differ, as printed or computed: this is proved, and that is asked
     "the two indices",
-    "does not hold (this comparison",
+    "` ≟ `",  # two terms that would have to be one, and are not
     "lands at index",
     "expected type",
     "`omega`: the goal does not follow",
@@ -26,43 +30,50 @@ FACTS = (
 )
 
 
-def first_error(log):
-    """(place, message) of the first refusal of a log, or None; a message goes on in lines that are indented."""
-    refusal = r"^(?:note: )?\S+?/((?:src|specs|proofs)/\S+:\d+:\d+): (?:error: |(?=it is not proved that))(.*(?:\n  .*)*)"
-    found = re.search(refusal, log, re.M)
-    return found and (found[1], found[2])
+def function_at(crate, path, line):
+    """The function of the crate's sources in which a line stands. An edit changes no line's number."""
+    with open(f"crates/{crate}/{path}") as file:
+        before = file.read().split("\n")[:line]
+    return re.findall(r"^\s*(?:pub(?:\([^)]*\))? )?(?:const )?(?:unsafe )?(?:extern \"C\" )?fn (\w+)", "\n".join(before), re.M)[-1:]
 
 
-def is_named(comment, place, message):
+def is_named(crate, comment, place, message):
     """Does the comment name the declaration or the function, or one of a cycle's functions, where the first error is?"""
-    names = set(re.findall(r"`([^`]+)`", comment))
-    refused = re.findall(r"`([^`]+)`", message)[:1] + place.split("/")[-2].split("+")
-    return not names.isdisjoint(refused)
+    path, line, _ = place.split(":")
+    folder = path.split("/")[-2]
+    refused = re.findall(r"`([^`]+)`", message)[:1]
+    if path.startswith("src/"):
+        refused += function_at(crate, path, int(line))
+    elif folder.startswith("+"):
+        # a goal is named after its function there
+        refused += [name.split("-")[0] for name in refused]
+    else:
+        refused.append(folder)
+    return not set(re.findall(r"`([^`]+)`", comment)).isdisjoint(refused)
 
 
-def judged(crate, name, comment):
+def judged(crate, comment, said):
     """(is it in order?, what to print)"""
-    path = f"target/must-fail/{crate}/{name}/.log"
-    if not os.path.exists(path):
-        return False, "no log: it was not tried"
-    with open(path) as file:
-        error = first_error(file.read())
-    if error is None:
-        return False, "its log has no error"
-    place, message = error
-    fact, named = any(words in message for words in FACTS), is_named(comment, place, message)
+    first = re.fullmatch(r"refused, as it must be: (?:note: )?(?:\./)?((?:src|specs|proofs)/\S+:\d+:\d+): (?:error: )?(.*)", said)
+    if first is None:
+        return False, said
+    place, message = first[1], first[2]
+    fact, named = any(words in message for words in FACTS), is_named(crate, comment, place, message)
     kind = "NO FACT" if not fact else "a fact" if named else "a fact that its comment does not name"
-    return fact and named, f"{kind}: {place}: {message.split(chr(10))[0][:100]}"
+    return fact and named, f"{kind}: {place}: {message[:100]}"
 
 
 def main():
     os.chdir(os.path.dirname(os.path.abspath(__file__)) + "/../..")
     edits = sorted(glob.glob("crates/*/must-fail/*.edit"))
+    tried = subprocess.run(["rt", "must-fail"], stdin=subprocess.DEVNULL, stdout=subprocess.PIPE, text=True)
+    said = dict(re.findall(r"^rt: must-fail (\S+)\.edit: (.*)$", tried.stdout, re.M))
     good = 0
     for edit in edits:
         crate, name = edit.split("/")[1], os.path.basename(edit).removesuffix(".edit")
         with open(edit) as file:
-            in_order, words = judged(crate, name, file.read().split("\nfile: ")[0])
+            comment = file.read().split("\nfile: ")[0]
+        in_order, words = judged(crate, comment, said.get(f"{crate}/{name}", "rt must-fail does not say that it was tried"))
         good += in_order
         print(f"{crate}/{name}: {words}")
     print(f"edits: {good} refused first at the fact that the comment names, {len(edits) - good} not")
