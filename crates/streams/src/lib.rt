@@ -29,3 +29,51 @@ pub fn read_full<R: Read>(input: &mut R, buffer: &mut [u8]) -> io::Result<usize>
     }
     Ok(done)
 }
+
+#[cfg(test)]
+mod tests {
+    use super::*;
+    use std::io::{Error, ErrorKind};
+    use std::test::Fail;
+
+    // Gives as many zeros as it has, one by one, and then fails.
+    #[derive(Drop)]
+    struct Broken(u8);
+
+    impl Read for Broken {
+        fn read(&mut self, buf: &mut [u8]) -> io::Result<usize> {
+            if self.0 == 0 {
+                return Err(Error::from(ErrorKind::PermissionDenied));
+            }
+            if buf.is_empty() {
+                return Ok(0);
+            }
+            self.0 -= 1;
+            buf[0] = 0;
+            Ok(1)
+        }
+    }
+
+    #[test]
+    fn fills_over_many_reads(rt: HostRuntime) -> Result<(), Fail> {
+        let mut input = b"ab".as_slice().chain(b"cde".as_slice());
+        let mut buffer = [0u8; 4];
+        assert_eq!(rt; read_full(&mut input, &mut buffer)?, 4);
+        assert_eq!(rt; buffer, *b"abcd");
+        assert_eq!(rt; read_full(&mut input, &mut buffer)?, 1);
+        assert_eq!(rt; buffer, *b"ebcd");
+        assert_eq!(rt; read_full(&mut input, &mut buffer)?, 0);
+        Ok(())
+    }
+
+    #[test]
+    fn tells_a_failed_read(rt: HostRuntime) -> Result<(), Fail> {
+        let mut input = Broken(3);
+        let mut buffer = [1u8; 4];
+        let failed = read_full(&mut input, &mut buffer);
+        assert!(rt; failed.is_err_and(|e| e.kind() == ErrorKind::PermissionDenied));
+        assert_eq!(rt; buffer, [0, 0, 0, 1]);
+        assert_eq!(rt; read_full(&mut Broken(4), &mut buffer)?, 4);
+        Ok(())
+    }
+}
