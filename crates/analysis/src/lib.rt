@@ -1,4 +1,6 @@
 // Follows secret and public labels through a table.
+#![tactic(auto)]
+
 pub mod commands;
 pub mod holding;
 pub mod labelling;

@@ -1,2 +1,4 @@
 // What an entry answers.
+#![tactic(auto)]
+
 pub mod slice;

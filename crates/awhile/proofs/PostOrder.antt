@@ -7,7 +7,6 @@ use mathlib.Core.List.{List, [], ◌∷◌, ◌++◌, map}
 use Rattle.awhile.specs.Language.{AExp, number, variable, add, subtract, multiply, choice}
 use Rattle.awhile.specs.Language.{BExp, constant, equal, less, not, and}
 use Rattle.awhile.specs.Language.{Com, skip, assign, sequence, if, while, read, write, map_notes}
-use Rattle.awhile.specs.Lists.{all}
 use Rattle.awhile.specs.Nodes.{Field, form, sort_of}
 use Rattle.awhile.specs.Nodes.{word as word_field, constant as constant_field, variable as variable_field, array as array_field, child as child_field}
 use Rattle.awhile.specs.Trees.{Tree, numeric, truth, command, as_numeric, as_truth, as_command, tree_of}

@@ -1,3 +1,5 @@
+#![tactic(auto)]
+
 // The language AWHILE as a table of records: what a record can be, and why a table is refused.
 // The limits of document 01, and of document 02 on variables: a version 1 table declares fewer.
 pub const MAX_VARIABLES: usize = 64;

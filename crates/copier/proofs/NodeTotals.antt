@@ -17,7 +17,7 @@ use Rattle.awhile.specs.declared.Sort.TheVariants.{Numeric, Truth, Command}
 use Rattle.reader.specs.Index.{node_in, numeric_in, truth_in, Indexed}
 use Rattle.reader.proofs.Index.{indexed_few, numeric_size, truth_size}
 use Rattle.copier.specs.Sizes.{bytes_of_a, bytes_of_b}
-use Rattle.copier.specs.Totals.{total, total_of_a, total_of_b, Totals, OverOne, OverTwo, OverThree}
+use Rattle.copier.specs.Totals.{total, total_of_a, total_of_b, OverOne, OverTwo, OverThree}
 use Rattle.copier.specs.Totals.{NumericTotal, TruthTotal, NodeTotal, AllTotals, Tells, EveryCopy}
 use Rattle.copier.proofs.Lengths.{Counted, Short, counted_a, counted_b, over_one, over_two, over_three, bytes_a, bytes_b}
 

@@ -1,4 +1,6 @@
 // Copies expressions of a table into another, renumbered, and adds up how much copies take.
+#![tactic(auto)]
+
 pub mod copies;
 pub mod records;
 pub mod totals;

@@ -1,4 +1,6 @@
 // Writes the hardened table: commands by their decisions, the whole sized first.
+#![tactic(auto)]
+
 pub mod commands;
 pub mod sizes;
 pub mod tables;

@@ -1,4 +1,5 @@
 // Secret and public labels: the definitions and their theorems. The code is crate `analysis`.
+#![tactic(auto)]
 
 // The most questions in one list.
 pub const MAX_QUESTIONS: usize = 256;

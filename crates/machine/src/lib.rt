@@ -1,4 +1,5 @@
 // One machine for all boards: the definitions and their theorems. The code is crates `directives`, `stepping` and `interpreter`.
+#![tactic(auto)]
 
 // The boards that a table runs on: the plain one takes every step as the program has it, the guessing one takes a directive for each shown step,
 // and the rolling one can go back on a wrong guess as well.

@@ -1,4 +1,6 @@
 // Reads a table of records: the refusal and its place, or what the table declares and an index of its records.
+#![tactic(auto)]
+
 use awhile::{Declarations, Refusal};
 
 pub mod classes;

@@ -1,4 +1,6 @@
 // One record of a table: where it stands and how long it is, what it holds, and why it is refused; and how often each node is a child.
+#![tactic(auto)]
+
 pub mod checks;
 pub mod declarations;
 pub mod decode;

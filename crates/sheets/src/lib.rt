@@ -1,4 +1,6 @@
 // Writes the label sheet of a table that was labelled.
+#![tactic(auto)]
+
 pub mod fields;
 pub mod rows;
 pub mod sheet;

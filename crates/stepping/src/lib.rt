@@ -1,4 +1,6 @@
 // The next step of a table in memory, on any board: decided before anything is changed.
+#![tactic(auto)]
+
 pub mod action;
 pub mod evaluate;
 pub mod guess;

@@ -1,5 +1,7 @@
 // Labels a table and writes what is asked of it into a lent buffer: the whole of the entries that write, below their exported wrappers. They differ by
 // their job alone: what it refuses of a table that was read (`granting`), and what it writes of one that is labelled (`writing`).
+#![tactic(auto)]
+
 use awhile::Refusal;
 
 pub mod entry;

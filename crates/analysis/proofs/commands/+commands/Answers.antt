@@ -1,5 +1,4 @@
 -- The analysis of commands: the answer and the notes of each are built from those of its parts, and a loop's passes settle.
-use borrow.Author.Rules.{rules}
 use mathlib.Core.Bool.{◌||◌}
 use mathlib.Core.Path.{◌≡◌, refl, sym, ap, ap₂, subst, ◌∙◌}
 use native.Mathlib.Omega.{arith}
@@ -8,7 +7,7 @@ use Rattle.awhile.specs.Nodes.{sort_of}
 use Rattle.reader.specs.Index.{truth_in, command_in}
 use Rattle.reader.proofs.Index.{indexed_note}
 use Rattle.labels.specs.Labellings.{label_of_b, join}
-use Rattle.labels.specs.Rules.{public_among, declared_marks, LabelsWithin}
+use Rattle.labels.specs.Rules.{LabelsWithin}
 use Rattle.analysis.specs.Notes.{note_in}
 use Rattle.analysis.specs.Warm.{kept_in}
 use Rattle.analysis.specs.Held.{held_in}
@@ -19,7 +18,7 @@ use Rattle.analysis.proofs.CommandNotes.{NotedAt}
 use Rattle.analysis.proofs.CommandCases.{own_room, entry_noted, single_fits, single_answers, single_analysed, same_room}
 use Rattle.analysis.proofs.CommandCases.{sequence_first, sequence_second, sequence_left, if_named, if_first, if_second, if_left}
 use Rattle.analysis.proofs.CommandCases.{body_below, body_room, loop_settleable, loop_settled, loop_remembered, parts_of}
-use Rattle.analysis.proofs.Settling.{Passing, passing_starts, passing_next, passing_falls, passing_ends, warm_answer}
+use Rattle.analysis.proofs.Settling.{passing_starts, passing_next, passing_falls, passing_ends, warm_answer}
 use Prim.Native.Nat.{ℕ, ◌+◌, ◌*◌, ◌<◌}
 use borrow.Enum.Refused.{opened}
 use Rattle.analysis.proofs.commands.+commands.Goals as goal

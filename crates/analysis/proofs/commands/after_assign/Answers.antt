@@ -1,5 +1,4 @@
 -- `after_assign` labels the variable.
-use borrow.Author.Rules.{rules}
 use Rattle.analysis.proofs.commands.after_assign.Goals as goal
 
 pub returns : goal.returns

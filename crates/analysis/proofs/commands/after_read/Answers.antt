@@ -1,5 +1,4 @@
 -- `after_read` labels the variable.
-use borrow.Author.Rules.{rules}
 use Rattle.analysis.proofs.commands.after_read.Goals as goal
 
 pub returns : goal.returns

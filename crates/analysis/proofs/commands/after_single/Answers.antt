@@ -1,6 +1,5 @@
 -- `after_single` sets the label that the command sets.
 use Rattle.analysis.proofs.CommandCases.{unnamed_after, assign_after, read_after, write_after}
-use borrow.Author.Rules.{rules}
 use borrow.Enum.Refused.{opened}
 use Rattle.analysis.proofs.commands.after_single.Goals as goal
 

@@ -1,5 +1,4 @@
 -- `after_write` labels the array: its label, index, value and context are joined.
-use borrow.Author.Rules.{rules}
 use Rattle.analysis.proofs.commands.after_write.Goals as goal
 
 pub returns : goal.returns

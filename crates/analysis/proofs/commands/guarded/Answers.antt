@@ -1,5 +1,4 @@
 -- `guarded` joins the condition's label to the context.
-use borrow.Author.Rules.{rules}
 use Rattle.analysis.proofs.commands.guarded.Goals as goal
 
 pub returns : goal.returns

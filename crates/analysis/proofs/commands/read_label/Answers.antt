@@ -1,5 +1,4 @@
 -- `read_label` joins index, array and context.
-use borrow.Author.Rules.{rules}
 use Rattle.analysis.proofs.commands.read_label.Goals as goal
 
 pub returns : goal.returns

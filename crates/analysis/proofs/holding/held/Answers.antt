@@ -1,7 +1,6 @@
 -- `held` reads the two masks.
 use mathlib.Core.Path.{refl}
 use Rattle.analysis.specs.Held.{held_in}
-use borrow.Author.Rules.{rules}
 use Rattle.analysis.proofs.holding.held.Goals as goal
 
 pub returns : goal.returns

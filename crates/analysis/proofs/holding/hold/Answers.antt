@@ -1,7 +1,6 @@
 -- `hold` stores the two masks.
 use native.Mathlib.Omega.{arith}
 use Rattle.analysis.proofs.Held.{held_stored}
-use borrow.Author.Rules.{rules}
 use Rattle.analysis.proofs.holding.hold.Goals as goal
 
 pub returns : goal.returns

@@ -1,6 +1,5 @@
 -- `label_variable` puts one digit of the variable mask.
 use Rattle.labels.specs.Labellings.{set_label}
-use borrow.Author.Rules.{rules}
 use Rattle.analysis.proofs.labelling.label_variable.Goals as goal
 
 pub returns : goal.returns

@@ -1,7 +1,6 @@
 -- `put_digit` joins in a power of two, and takes it away again to clear the digit.
 use native.Mathlib.Omega.{arith}
 use Rattle.labels.proofs.Masks.{put_true, put_false, put_difference, shifted_one}
-use borrow.Author.Rules.{rules}
 use Rattle.analysis.proofs.labelling.put_digit.Goals as goal
 
 pub overflow_sub-result : goal.overflow_sub-result

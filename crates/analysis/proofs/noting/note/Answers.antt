@@ -1,6 +1,5 @@
 -- `note` stores two words.
 use Rattle.analysis.specs.Notes.{second_word}
-use borrow.Author.Rules.{rules}
 use Rattle.analysis.proofs.noting.note.Goals as goal
 
 pub returns : goal.returns

@@ -1,7 +1,6 @@
 -- `noted_labelling` reads the two masks.
 use mathlib.Core.Path.{refl}
 use Rattle.analysis.specs.Notes.{note_in}
-use borrow.Author.Rules.{rules}
 use Rattle.analysis.proofs.noting.noted_labelling.Goals as goal
 
 pub returns : goal.returns

@@ -1,6 +1,5 @@
 -- `second_word` is the array mask doubled, and the context as its lowest digit.
 use native.Mathlib.Omega.{arith}
-use borrow.Author.Rules.{rules}
 use Rattle.analysis.proofs.noting.second_word.Goals as goal
 
 pub returns-then-context : goal.returns-then-context

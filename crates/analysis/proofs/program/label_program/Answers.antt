@@ -5,7 +5,6 @@ use Rattle.bytes_le.proofs.Numbers.{slice_bytes}
 use Rattle.reader.proofs.Index.{indexed_some}
 use Rattle.analysis.proofs.Held.{analysable_as, analysed_as}
 use Rattle.analysis.proofs.WholeProgram.{root_analysable, root_answer, root_labelled}
-use borrow.Author.Rules.{rules}
 use Rattle.analysis.proofs.program.label_program.Goals as goal
 
 pub hold-requires : goal.hold-requires

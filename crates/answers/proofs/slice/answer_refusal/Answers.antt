@@ -1,5 +1,4 @@
 -- `answer_refusal` puts a refusal's number and place.
-use borrow.Author.Rules.{rules}
 use Rattle.answers.proofs.Numbers.{refusal_answered}
 use Rattle.answers.proofs.slice.answer_refusal.Goals as goal
 

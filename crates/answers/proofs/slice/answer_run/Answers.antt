@@ -1,5 +1,4 @@
 -- `answer_run` puts seven numbers one after the other.
-use borrow.Author.Rules.{rules}
 use Rattle.answers.proofs.Numbers.{put_first, put_more, put_answered}
 use Rattle.answers.proofs.slice.answer_run.Goals as goal
 

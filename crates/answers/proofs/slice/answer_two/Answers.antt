@@ -1,5 +1,4 @@
 -- `answer_two` puts two numbers one after the other.
-use borrow.Author.Rules.{rules}
 use Rattle.answers.proofs.Numbers.{put_first, put_more, put_answered}
 use Rattle.answers.proofs.slice.answer_two.Goals as goal
 

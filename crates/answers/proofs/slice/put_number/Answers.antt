@@ -1,5 +1,4 @@
 -- `put_number` puts a number that fits whole, and drops one that does not.
-use borrow.Author.Rules.{rules}
 use mathlib.Core.Path.{sym, ◌∙◌}
 use Rattle.answers.proofs.Numbers.{number_fits, number_dropped}
 use Rattle.answers.proofs.slice.put_number.Goals as goal

@@ -1,9 +1,9 @@
 -- `clear`: at every turn the words from the first on are zeros so far, and the others as they were.
-use Prim.Native.Nat.{◌*◌, ◌-◌, ◌≤◌}
+use Prim.Native.Nat.{◌*◌, ◌-◌}
 use native.Mathlib.Omega.{arith}
 use mathlib.Core.Path.{◌≡◌, ap, ◌∙◌}
 use lib.ListN.{length, replicate}
-use lib.Seq.{sets, length-sets}
+use lib.Seq.{length-sets}
 use Rattle.bytes_le.specs.Numbers.{words}
 use Rattle.bytes_le.proofs.Zeros.{cleared_none, cleared_more}
 use Rattle.bytes_le.proofs.clear.clear.Goals as goal

@@ -1,9 +1,9 @@
 -- `copy`: at every turn the bytes passed so far stand in their place, and the others are as they were.
-use Prim.Native.Nat.{◌+◌, ◌-◌, ◌≤◌, ◌<◌}
+use Prim.Native.Nat.{◌+◌, ◌<◌}
 use native.Mathlib.Omega.{arith}
 use mathlib.Core.Path.{◌≡◌, refl, ap, ◌∙◌}
 use lib.ListN.{length, take, drop}
-use lib.Seq.{sets, length-sets}
+use lib.Seq.{length-sets}
 use Rattle.bytes_le.proofs.Copies.{copied_more}
 use Rattle.bytes_le.proofs.copy.copy.Goals as goal
 

@@ -1,7 +1,6 @@
 -- `byte_at` is the byte, or 0 past the end.
 use native.Mathlib.Omega.{arith}
 use Rattle.bytes_le.proofs.Loads.{le_at_one, le_at_past}
-use borrow.Author.Rules.{rules}
 use Rattle.bytes_le.proofs.get.byte_at.Goals as goal
 
 pub overflow_cast-result : goal.overflow_cast-result

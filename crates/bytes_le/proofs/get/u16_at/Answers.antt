@@ -3,7 +3,6 @@ use Prim.Native.Nat.{◌+◌}
 use native.Mathlib.Omega.{arith}
 use lib.ListN.{get_or-eq_default}
 use Rattle.bytes_le.proofs.Loads.{le_at_one, le_at_two}
-use borrow.Author.Rules.{rules}
 use Rattle.bytes_le.proofs.get.u16_at.Goals as goal
 
 pub returns-then-bytes_from-ge2 : goal.returns-then-bytes_from-ge2

@@ -3,7 +3,6 @@ use Prim.Native.Nat.{◌+◌}
 use native.Mathlib.Omega.{arith}
 use lib.ListN.{get_or-eq_default}
 use Rattle.bytes_le.proofs.Loads.{le_at_two, le_at_four}
-use borrow.Author.Rules.{rules}
 use Rattle.bytes_le.proofs.get.u32_at.Goals as goal
 
 pub returns-then-n-ge4 : goal.returns-then-n-ge4

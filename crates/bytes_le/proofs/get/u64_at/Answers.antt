@@ -1,7 +1,6 @@
 -- `u64_at` is the sum of two halves.
 use native.Mathlib.Omega.{arith}
 use Rattle.bytes_le.proofs.Loads.{le_at_parts}
-use borrow.Author.Rules.{rules}
 use Rattle.bytes_le.proofs.get.u64_at.Goals as goal
 
 pub returns : goal.returns

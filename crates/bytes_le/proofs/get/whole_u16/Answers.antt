@@ -1,7 +1,6 @@
 -- `whole_u16` is the sum of two bytes.
 use native.Mathlib.Omega.{arith}
 use Rattle.bytes_le.proofs.Loads.{le_at_two}
-use borrow.Author.Rules.{rules}
 use Rattle.bytes_le.proofs.get.whole_u16.Goals as goal
 
 pub returns : goal.returns

@@ -1,7 +1,6 @@
 -- `whole_u32` is the sum of four bytes.
 use native.Mathlib.Omega.{arith}
 use Rattle.bytes_le.proofs.Loads.{le_at_four}
-use borrow.Author.Rules.{rules}
 use Rattle.bytes_le.proofs.get.whole_u32.Goals as goal
 
 pub returns : goal.returns

@@ -3,7 +3,6 @@ use native.Mathlib.Omega.{arith}
 use native.Mathlib.Numerals.{add-one}
 use lib.ListN.{length-set}
 use Rattle.bytes_le.specs.Numbers.{le}
-use borrow.Author.Rules.{rules}
 use Rattle.bytes_le.proofs.put.put16.Goals as goal
 
 pub bounds-out-at-2 : goal.bounds-out-at-2

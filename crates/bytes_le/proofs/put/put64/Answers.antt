@@ -4,7 +4,6 @@ use mathlib.Core.Path.{ap, ◌∙◌}
 use lib.Seq.{sets}
 use Rattle.bytes_le.specs.Numbers.{le}
 use Rattle.bytes_le.proofs.Stores.{store_parts}
-use borrow.Author.Rules.{rules}
 use Rattle.bytes_le.proofs.put.put64.Goals as goal
 
 pub returns : goal.returns

@@ -1,7 +1,6 @@
 -- `put8` stores one byte.
 use mathlib.Core.Path.{refl}
 use Rattle.bytes_le.specs.Numbers.{le}
-use borrow.Author.Rules.{rules}
 use Rattle.bytes_le.proofs.put.put8.Goals as goal
 
 pub returns : goal.returns

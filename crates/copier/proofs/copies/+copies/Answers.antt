@@ -1,5 +1,5 @@
 -- Copies of expressions: each function writes its children behind each other, whose numbers are lower, and the node behind them.
-use Prim.Native.Nat.{ℕ, ◌+◌, ◌*◌, ◌<◌, max}
+use Prim.Native.Nat.{◌+◌, max}
 use native.Mathlib.Omega.{arith}
 use mathlib.Core.Path.{◌≡◌, refl, sym, ap, ◌∙◌}
 use Rattle.bytes_le.proofs.Numbers.{slice_bytes}
@@ -24,7 +24,6 @@ use Rattle.copier.proofs.ExpressionWrites.{wrote_a, wrote_b, room_a, room_b, pai
 use Rattle.copier.proofs.ExpressionWrites.{and_few, and_room, wrote_and, not_last, not_room, wrote_not, choice_last, choice_few, choice_room, wrote_choice, constant_value}
 use Rattle.reader.proofs.NodeKinds.{node_parts}
 use Rattle.copier.proofs.Descents.{lower, call_binary, call_choice, call_truth, first_of_pair, second_of_pair, pair_of_binary, pair_of_choice}
-use borrow.Author.Rules.{rules}
 use borrow.Enum.Refused.{opened}
 use Rattle.copier.proofs.copies.+copies.Goals as goal
 

@@ -4,7 +4,6 @@ use mathlib.Core.Path.{ap}
 use Rattle.copier.specs.Records.{record_size}
 use Rattle.copier.proofs.NodeRecords.{node_size}
 use Rattle.copier.proofs.Writers.{appended_node}
-use borrow.Author.Rules.{rules}
 use Rattle.copier.proofs.records.append.Goals as goal
 
 pub append_record-requires : goal.append_record-requires

@@ -6,7 +6,6 @@ use borrow.Rule.Slice.PartMut.{put_mid}
 use Rattle.copier.specs.Records.{record_bytes}
 use Rattle.copier.proofs.NodeRecords.{record_length}
 use Rattle.copier.proofs.Parts.{sets_rest}
-use borrow.Author.Rules.{rules}
 use Rattle.copier.proofs.records.append_record.Goals as goal
 
 pub returns : goal.returns

@@ -2,7 +2,6 @@
 use mathlib.Core.Path.{ap, ◌∙◌}
 use lib.Seq.{sets}
 use Rattle.bytes_le.specs.Numbers.{le}
-use borrow.Author.Rules.{rules}
 use Rattle.copier.proofs.records.put_head.Goals as goal
 
 pub returns : goal.returns

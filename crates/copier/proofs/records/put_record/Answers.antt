@@ -4,7 +4,6 @@ use mathlib.Core.Path.{refl, ap, ◌∙◌}
 use lib.Seq.{sets}
 use Rattle.bytes_le.specs.Numbers.{le}
 use Rattle.copier.specs.Records.{record_size, record_bytes}
-use borrow.Author.Rules.{rules}
 use Rattle.copier.proofs.records.put_record.Goals as goal
 
 pub put_head-requires : goal.put_head-requires

@@ -1,5 +1,4 @@
 -- `record_of` is `record_of`, shape by shape: first what each arm asks, then what each arm answers.
-use borrow.Author.Rules.{rules}
 use Rattle.copier.proofs.records.record_of.Goals as goal
 
 pub returns-in-Nothing : goal.returns-in-Nothing

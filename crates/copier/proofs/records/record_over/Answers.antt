@@ -1,6 +1,5 @@
 -- `record_over` keeps the kind of a node's record.
 use mathlib.Core.Path.{ap}
-use borrow.Author.Rules.{rules}
 use Rattle.copier.specs.declared.Record.TheVariants.{Two}
 use Rattle.copier.proofs.records.record_over.Goals as goal
 

@@ -1,5 +1,4 @@
 -- `over_one` adds its own record to one total.
-use borrow.Author.Rules.{rules}
 use Rattle.copier.proofs.NodeTotals.{total_over_one}
 use Rattle.copier.proofs.totals.over_one.Goals as goal
 

@@ -1,5 +1,4 @@
 -- `over_three` adds its own record to three totals.
-use borrow.Author.Rules.{rules}
 use Rattle.copier.proofs.NodeTotals.{total_over_three}
 use Rattle.copier.proofs.totals.over_three.Goals as goal
 

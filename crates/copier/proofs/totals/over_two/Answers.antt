@@ -1,5 +1,4 @@
 -- `over_two` adds its own record to two totals.
-use borrow.Author.Rules.{rules}
 use Rattle.copier.proofs.NodeTotals.{total_over_two}
 use Rattle.copier.proofs.totals.over_two.Goals as goal
 

@@ -6,7 +6,6 @@ use lib.Dec.{eqb}
 use lib.ListN.{get_or}
 use Rattle.labels.specs.Masks.{bit}
 use Rattle.deciding.specs.Deciding.{decision_in}
-use borrow.Author.Rules.{rules}
 use Rattle.deciding.proofs.decisions.masks_value.Goals as goal
 
 quarter : (m : ℕ) → m / 4 ≡ m / 2 / 2

@@ -1,16 +1,8 @@
 -- `decide_all` decides on one command after the other; the commands passed stay decided.
-use Prim.Native.Nat.{◌≤◌, ◌<◌, ◌-◌}
-use native.Mathlib.Omega.{arith}
-use mathlib.Core.Logic.{⊎_elim}
-use mathlib.Core.Path.{◌≡◌, refl, sym, ap, ◌∙◌}
-use lib.ListN.{length, length-set}
-use Rattle.bytes_le.proofs.Numbers.{slice_bytes}
-use Rattle.awhile.proofs.Children.{same_sort_true}
-use Rattle.awhile.specs.Nodes.{sort_of}
-use Rattle.awhile.specs.declared.Sort.TheVariants.{Command}
-use Rattle.reader.specs.Index.{nodes_in, node_in}
+use Prim.Native.Nat.{◌≤◌, ◌-◌}
+use mathlib.Core.Path.{◌≡◌}
+use lib.ListN.{length}
 use Rattle.deciding.specs.Deciding.{DecidedBelow}
-use Rattle.deciding.proofs.DecidedBytes.{next_decided, next_passed}
 use Rattle.deciding.proofs.program.decide_all.Given as goal
 
 abbrev pub invariant-loop-n : goal.invariant-loop-n

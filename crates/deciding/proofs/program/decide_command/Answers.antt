@@ -8,7 +8,6 @@ use Rattle.reader.specs.Index.{node_in}
 use Rattle.reader.proofs.Index.{Parts}
 use Rattle.reader.proofs.NodeKinds.{node_parts}
 use Rattle.deciding.proofs.DecidedBytes.{child_asked, digits_fit, if_digits, while_digits, read_digits, write_digits, unnamed_digits}
-use borrow.Author.Rules.{rules}
 use borrow.Enum.Refused.{opened}
 use Rattle.deciding.proofs.program.decide_command.Goals as goal
 

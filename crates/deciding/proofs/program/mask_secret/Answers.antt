@@ -1,7 +1,6 @@
 -- `mask_secret` is the label of the expression where its command is entered.
 use mathlib.Core.Path.{ap, ◌∙◌}
 use Rattle.analysis.specs.Conditions.{label_at}
-use borrow.Author.Rules.{rules}
 use Rattle.deciding.proofs.program.mask_secret.Goals as goal
 
 pub returns : goal.returns

@@ -8,7 +8,6 @@ use Rattle.labels.specs.Labellings.{array_mark, label_of}
 use Rattle.analysis.specs.Conditions.{label_at}
 use Rattle.analysis.specs.Notes.{note_in}
 use Rattle.deciding.proofs.NotedLabels.{index_secret, array_secret, both_public}
-use borrow.Author.Rules.{rules}
 use Rattle.deciding.proofs.program.mask_value.Goals as goal
 
 -- labels found under the labelling that was noted

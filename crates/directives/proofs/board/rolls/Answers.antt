@@ -1,6 +1,5 @@
 -- `rolls` tells the board that rolls back from the others.
 use Rattle.directives.proofs.Boards.{rolls_not}
-use borrow.Author.Rules.{rules}
 use borrow.Enum.Refused.{opened}
 use Rattle.directives.proofs.board.rolls.Goals as goal
 

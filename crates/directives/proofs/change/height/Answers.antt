@@ -1,6 +1,5 @@
 -- `height` counts what a change leaves pending.
 use Rattle.directives.specs.Changes.{height_of}
-use borrow.Author.Rules.{rules}
 use Rattle.directives.proofs.change.height.Goals as goal
 
 pub returns-in-Nothing : goal.returns-in-Nothing

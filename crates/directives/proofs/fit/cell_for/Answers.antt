@@ -2,7 +2,6 @@
 use mathlib.Core.Path.{◌∙◌}
 use Rattle.directives.specs.Fitting.{found, cell_for}
 use Rattle.directives.proofs.CellPlaces.{used_guessing, used_clear}
-use borrow.Author.Rules.{rules}
 use Rattle.directives.proofs.fit.cell_for.Goals as goal
 
 pub returns-in-Own : goal.returns-in-Own

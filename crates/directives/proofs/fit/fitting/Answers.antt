@@ -1,6 +1,5 @@
 -- `fitting` tells branches, reads and writes apart.
 use Rattle.directives.specs.Fitting.{fit_of}
-use borrow.Author.Rules.{rules}
 use Rattle.directives.proofs.fit.fitting.Goals as goal
 
 pub returns-in-Fork : goal.returns-in-Fork

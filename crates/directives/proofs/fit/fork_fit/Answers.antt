@@ -1,6 +1,5 @@
 -- `fork_fit` takes a branch as the program has it, or is forced the other way.
 use Rattle.directives.specs.Fitting.{fork_fit}
-use borrow.Author.Rules.{rules}
 use Rattle.directives.proofs.fit.fork_fit.Goals as goal
 
 pub returns-in-Step : goal.returns-in-Step

@@ -1,6 +1,5 @@
 -- `load_fit` gives the variable the word of the cell, or nothing fits.
 use Rattle.directives.specs.Fitting.{load_fit}
-use borrow.Author.Rules.{rules}
 use Rattle.directives.proofs.fit.load_fit.Goals as goal
 
 pub returns-in-At : goal.returns-in-At

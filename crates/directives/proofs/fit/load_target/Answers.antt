@@ -1,6 +1,5 @@
 -- `load_target` tells the directives apart as a read sees them.
 use Rattle.directives.specs.Fitting.{load_target}
-use borrow.Author.Rules.{rules}
 use Rattle.directives.proofs.fit.load_target.Goals as goal
 
 pub returns-in-Step : goal.returns-in-Step

@@ -1,6 +1,5 @@
 -- `own_or` gives another cell only where the own one is missing.
 use Rattle.directives.specs.Fitting.{own_or}
-use borrow.Author.Rules.{rules}
 use Rattle.directives.proofs.fit.own_or.Goals as goal
 
 pub returns-in-At : goal.returns-in-At

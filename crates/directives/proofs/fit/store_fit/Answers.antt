@@ -1,6 +1,5 @@
 -- `store_fit` stores the value in the cell, or nothing fits.
 use Rattle.directives.specs.Fitting.{store_fit}
-use borrow.Author.Rules.{rules}
 use Rattle.directives.proofs.fit.store_fit.Goals as goal
 
 pub returns-in-At : goal.returns-in-At

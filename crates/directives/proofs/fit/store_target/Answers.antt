@@ -1,6 +1,5 @@
 -- `store_target` tells the directives apart as a write sees them.
 use Rattle.directives.specs.Fitting.{store_target}
-use borrow.Author.Rules.{rules}
 use Rattle.directives.proofs.fit.store_target.Goals as goal
 
 pub returns-in-Step : goal.returns-in-Step

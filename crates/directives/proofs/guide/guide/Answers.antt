@@ -1,6 +1,5 @@
 -- `guide` gives a step as the program has it on the plain board, and what the list has on the others.
 use Rattle.directives.proofs.Guides.{goes_plainly, guided_elsewhere}
-use borrow.Author.Rules.{rules}
 use borrow.Enum.Refused.{opened}
 use Rattle.directives.proofs.guide.guide.Goals as goal
 

@@ -1,6 +1,5 @@
 -- `next_listed` gives the next directive, or says that there is none left.
 use Rattle.directives.proofs.Guides.{runs_out, goes_by, never_refused}
-use borrow.Author.Rules.{rules}
 use Rattle.directives.proofs.guide.next_listed.Goals as goal
 
 pub returns-then-list-at : goal.returns-then-list-at

@@ -1,7 +1,6 @@
 -- `rollback_next` tells a rollback by its kind.
 use Rattle.directives.proofs.Guides.{rolls_elsewhere, rolls_by_kind}
 use native.Mathlib.Omega.{arith}
-use borrow.Author.Rules.{rules}
 use borrow.Enum.Refused.{opened}
 use Rattle.directives.proofs.guide.rollback_next.Goals as goal
 

@@ -1,7 +1,6 @@
 -- `directive_at` decodes a record of the list that is whole.
 use Rattle.directives.proofs.DirectiveLists.{first_known, first_unknown}
 use mathlib.Core.Path.{refl}
-use borrow.Author.Rules.{rules}
 use Rattle.directives.proofs.list.directive_at.Goals as goal
 
 pub returns-in-One : goal.returns-in-One

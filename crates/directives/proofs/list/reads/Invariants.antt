@@ -1,13 +1,8 @@
 -- `reads`: at every turn the rest of the list reads exactly when the whole list does.
-use Prim.Native.Nat.{◌+◌, ◌-◌, ◌≤◌, ◌<◌}
-use native.Mathlib.Omega.{arith}
-use mathlib.Core.Path.{◌≡◌, refl, sym, ◌∙◌}
-use borrow.Author.Rules.{rules}
-use borrow.Author.Tests.{not-true, not-false}
+use Prim.Native.Nat.{◌-◌, ◌≤◌}
+use mathlib.Core.Path.{◌≡◌}
 use lib.ListN.{length, drop}
 use Rattle.directives.specs.Listed.{is_some, read_on}
-use Rattle.directives.proofs.DirectiveLists.{size_some, listed_within}
-use Rattle.directives.proofs.Boards.{on_end, on_taken, on_not_taken, on_refused}
 use Rattle.directives.proofs.list.reads.Given as goal
 
 abbrev pub invariant-loop-at : goal.invariant-loop-at

@@ -1,6 +1,5 @@
 -- `takes` passes any directive but a rollback, and a rollback on the rolling board.
 use Rattle.directives.proofs.Boards.{takes_other, takes_rollback}
-use borrow.Author.Rules.{rules}
 use borrow.Enum.Refused.{opened}
 use Rattle.directives.proofs.list.takes.Goals as goal
 

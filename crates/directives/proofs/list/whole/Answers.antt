@@ -1,6 +1,5 @@
 -- `whole` passes a record of the right length that is all there.
 use Rattle.directives.proofs.DirectiveLists.{not_its_length, cut, all_there}
-use borrow.Author.Rules.{rules}
 use Rattle.directives.proofs.list.whole.Goals as goal
 
 pub returns-then-length-size : goal.returns-then-length-size

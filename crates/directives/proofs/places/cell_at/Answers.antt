@@ -2,7 +2,6 @@
 use Prim.Native.Nat.{◌+◌}
 use Rattle.directives.proofs.CellPlaces.{cell_undeclared, cell_found, cell_missing}
 use native.Mathlib.Omega.{arith}
-use borrow.Author.Rules.{rules}
 use Rattle.directives.proofs.places.cell_at.Goals as goal
 
 pub returns-then-array-ge-MAX_ARRAYS : goal.returns-then-array-ge-MAX_ARRAYS

@@ -7,7 +7,6 @@ use Rattle.bytes_le.proofs.Numbers.{slice_bytes}
 use Rattle.awhile.proofs.Versions.{mask_most}
 use Rattle.reader.proofs.Ready.{header_few_arrays, header_count}
 use Rattle.directives.proofs.CellPlaces.{undeclared_count}
-use borrow.Author.Rules.{rules}
 use Rattle.directives.proofs.places.count_of.Goals as goal
 
 pub count_start-requires : goal.count_start-requires

@@ -1,5 +1,5 @@
 -- `find_starts`: at every turn the starts noted so far are the sums of the counts before them.
-use Prim.Native.Nat.{ℕ, ◌+◌, ◌-◌, ◌≤◌}
+use Prim.Native.Nat.{ℕ, ◌+◌, ◌≤◌}
 use native.Mathlib.Numerals.{add-one}
 use native.Mathlib.Omega.{arith}
 use mathlib.Core.List.{List}
@@ -9,7 +9,7 @@ use Rattle.bytes_le.proofs.Numbers.{slice_bytes}
 use Rattle.awhile.specs.Lists.{sum as total}
 use Rattle.reader.specs.Index.{table_of}
 use Rattle.directives.proofs.Counts.{starts_next}
-use Rattle.directives.proofs.CellPlaces.{StartsTo, starts_none, starts_more, starts_all, starts_small, counts_few}
+use Rattle.directives.proofs.CellPlaces.{starts_none, starts_more, starts_all, starts_small, counts_few}
 use Rattle.directives.proofs.places.find_starts.Goals as goal
 
 -- the sum after one array more

@@ -26,16 +26,6 @@ use Rattle.masking.proofs.TwoParts.{rest_number, rest_begins, rest_room, first_l
 use Rattle.hardener.proofs.CommandParts.{sides_nodes, sides_bytes, sides_asks, sides_wrote}
 use Rattle.hardener.proofs.PartWrites.{sequence_asks, sequence_whole, if_asks, if_whole, while_asks, while_whole}
 use Prim.Native.Nat.{ℕ, ◌+◌, ◌*◌, ◌<◌, max}
-use borrow.Author.Rules.{rules}
-use borrow.Fn.Kinds.{In}
-use borrow.Fn.PlainCycle.{Measures, is, falls, and}
-use Rattle.hardener.proofs.commands.harden_command.Kinds as harden-command-kinds
-use Rattle.hardener.proofs.commands.harden_if.Kinds as harden-if-kinds
-use Rattle.hardener.proofs.commands.harden_loop.Kinds as harden-loop-kinds
-use Rattle.hardener.proofs.commands.harden_sequence.Kinds as harden-sequence-kinds
-use Rattle.hardener.proofs.commands.harden_side.Kinds as harden-side-kinds
-use Rattle.hardener.proofs.commands.harden_sides.Kinds as harden-sides-kinds
-use Rattle.hardener.proofs.commands.harden_while.Kinds as harden-while-kinds
 
 pub harden_command-command_at-node-requires : goal.harden_command-command_at-node-requires
 harden_command-command_at-node-requires t c =

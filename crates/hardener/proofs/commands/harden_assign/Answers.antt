@@ -11,7 +11,6 @@ use Rattle.copier.proofs.Lengths.{counted_a, some_a}
 use Rattle.copier.proofs.Writers.{room_first, room_parent}
 use Rattle.copier.proofs.Joins.{one_parent, one_last}
 use Rattle.hardener.specs.Forms.{assign_in}
-use borrow.Author.Rules.{rules}
 use Rattle.hardener.proofs.commands.harden_assign.Goals as goal
 
 pub copy_numeric-part-requires : goal.copy_numeric-part-requires

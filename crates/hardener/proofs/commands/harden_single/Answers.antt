@@ -11,7 +11,6 @@ use Rattle.reader.proofs.Index.{Parts}
 use Rattle.reader.proofs.NodeKinds.{node_parts, unnamed_single, unnamed_skip}
 use Rattle.hardener.proofs.CommandWrites.{own_decision}
 use Rattle.hardener.proofs.PartWrites.{skip_asks, skip_wrote, assign_asks, assign_wrote, read_asks, read_wrote, write_asks, write_wrote}
-use borrow.Author.Rules.{rules}
 use borrow.Enum.Refused.{opened}
 use Rattle.hardener.proofs.commands.harden_single.Goals as goal
 

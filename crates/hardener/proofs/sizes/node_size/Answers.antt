@@ -17,7 +17,6 @@ use Rattle.copier.proofs.NodeTotals.{total_constant, total_equal, total_less, to
 use Rattle.hardener.specs.Sizes.{NodeSize}
 use Rattle.hardener.proofs.PartSizes.{part_a, part_b, holds_a, holds_b, holds_c, numeric_sized, truth_sized, command_sized}
 use Rattle.hardener.proofs.PartSizes.{skip_sized, assign_sized, sequence_sized, if_sized, while_sized, read_sized, write_sized}
-use borrow.Author.Rules.{rules}
 use Rattle.hardener.proofs.sizes.node_size.Goals as goal
 
 pub over_two-requires : goal.over_two-requires

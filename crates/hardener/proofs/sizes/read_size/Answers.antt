@@ -2,7 +2,6 @@
 use native.Mathlib.Omega.{arith}
 use mathlib.Core.Bool.{cond}
 use mathlib.Core.Path.{ap}
-use borrow.Author.Rules.{rules}
 use Rattle.deciding.specs.Deciding.{decision_in}
 use Rattle.copier.specs.Totals.{total}
 use Rattle.hardener.proofs.CommandSizes.{mask_most}

@@ -1,8 +1,7 @@
 -- `size_all` fills in the total of one node after the other.
-use Prim.Native.Nat.{◌-◌, ◌≤◌}
 use native.Mathlib.Omega.{arith}
-use mathlib.Core.Path.{◌≡◌, refl, subst}
-use lib.ListN.{length, length-set}
+use mathlib.Core.Path.{refl, subst}
+use lib.ListN.{length-set}
 use Rattle.bytes_le.proofs.Numbers.{slice_bytes}
 use Rattle.hardener.specs.Sizes.{SizesBelow}
 use Rattle.hardener.proofs.PartSizes.{sizes_next, all_sized}

@@ -1,11 +1,8 @@
 -- `size_all` fills in the total of one node after the other.
 use Prim.Native.Nat.{◌-◌, ◌≤◌}
-use native.Mathlib.Omega.{arith}
-use mathlib.Core.Path.{◌≡◌, refl, subst}
-use lib.ListN.{length, length-set}
-use Rattle.bytes_le.proofs.Numbers.{slice_bytes}
+use mathlib.Core.Path.{◌≡◌}
+use lib.ListN.{length}
 use Rattle.hardener.specs.Sizes.{SizesBelow}
-use Rattle.hardener.proofs.PartSizes.{sizes_next, all_sized}
 use Rattle.hardener.proofs.sizes.size_all.Given as goal
 
 abbrev pub invariant-loop-n : goal.invariant-loop-n

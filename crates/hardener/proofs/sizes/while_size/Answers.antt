@@ -1,6 +1,5 @@
 -- `while_size` counts the condition three times, with the mask that is decided.
 use native.Mathlib.Omega.{arith}
-use borrow.Author.Rules.{rules}
 use Rattle.deciding.specs.Deciding.{decision_in}
 use Rattle.copier.specs.Totals.{total}
 use Rattle.hardener.proofs.CommandSizes.{mask_most}

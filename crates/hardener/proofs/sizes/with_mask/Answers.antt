@@ -1,6 +1,5 @@
 -- `with_mask` adds where something is masked.
 use native.Mathlib.Omega.{arith}
-use borrow.Author.Rules.{rules}
 use Rattle.hardener.proofs.sizes.with_mask.Goals as goal
 
 pub returns-then-mask : goal.returns-then-mask

@@ -1,6 +1,5 @@
 -- `write_size` adds an index, a value, and the write's own record.
 use native.Mathlib.Omega.{arith}
-use borrow.Author.Rules.{rules}
 use Rattle.deciding.specs.Deciding.{decision_in}
 use Rattle.copier.specs.Totals.{total}
 use Rattle.hardener.proofs.CommandSizes.{mask_most}

@@ -7,7 +7,6 @@ use Rattle.awhile.proofs.Versions.{mask_most}
 use Rattle.hardener.specs.Output.{hardened_header}
 use lib.ListN.{length}
 use lib.Dec.{leb}
-use borrow.Author.Rules.{rules}
 use borrow.Author.Tests.{le-leb}
 use Rattle.bytes_le.proofs.Numbers.{Below, slice_bytes}
 use Rattle.awhile.specs.Encoding.{table_bytes}

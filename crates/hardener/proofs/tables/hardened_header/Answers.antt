@@ -2,7 +2,6 @@
 use mathlib.Core.Path.{ap}
 use Prim.Native.Nat.{◌+◌}
 use native.Mathlib.Omega.{arith}
-use borrow.Author.Rules.{rules}
 use Rattle.hardener.proofs.tables.hardened_header.Goals as goal
 
 pub overflow_add-variables : goal.overflow_add-variables

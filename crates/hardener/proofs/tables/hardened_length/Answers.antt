@@ -8,7 +8,6 @@ use Rattle.hardener.specs.Output.{hardened_header}
 use Rattle.bytes_le.proofs.Numbers.{Below, slice_bytes}
 use Rattle.reader.proofs.Ready.{ready_nodes}
 use Rattle.hardener.proofs.TableWrites.{measured_some, measured_nodes, measured_arrays, measured_sizable, measured_variables, measured_total, measured_short}
-use borrow.Author.Rules.{rules}
 use Rattle.hardener.proofs.tables.hardened_length.Goals as goal
 
 pub size_all-requires : goal.size_all-requires

@@ -1,11 +1,10 @@
 -- `put_counts` stores the array records that are done so far.
-use Prim.Native.Nat.{◌+◌, ◌-◌, ◌≤◌, ◌<◌}
+use Prim.Native.Nat.{◌+◌, ◌≤◌, ◌<◌}
 use native.Mathlib.Omega.{arith}
 use mathlib.Core.List.{flat_map}
-use mathlib.Core.Path.{◌≡◌, refl, ap, ◌∙◌}
+use mathlib.Core.Path.{refl, ap, ◌∙◌}
 use lib.ListN.{length, take, length-take, length-drop}
 use lib.Seq.{sets, length-sets, take_all}
-use borrow.Author.Rules.{rules}
 use Rattle.bytes_le.proofs.Numbers.{Below, slice_bytes}
 use Rattle.awhile.specs.Encoding.{count_bytes}
 use Rattle.awhile.specs.Tables.{max_arrays, array_size, counts_start, count_start}

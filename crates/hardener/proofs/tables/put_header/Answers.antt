@@ -3,7 +3,6 @@ use mathlib.Core.Path.{ap, ◌∙◌}
 use lib.Seq.{sets}
 use Rattle.bytes_le.specs.Numbers.{le}
 use Rattle.awhile.specs.Encoding.{header_bytes}
-use borrow.Author.Rules.{rules}
 use Rattle.hardener.proofs.tables.put_header.Goals as goal
 
 pub returns : goal.returns

@@ -1,6 +1,5 @@
 -- `put_labels` stores the fields, one behind the other.
 use Rattle.hardener.proofs.TableWrites.{labels_stored}
-use borrow.Author.Rules.{rules}
 use Rattle.hardener.proofs.tables.put_labels.Goals as goal
 
 pub returns : goal.returns

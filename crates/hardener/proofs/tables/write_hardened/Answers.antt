@@ -12,7 +12,6 @@ use Rattle.reader.proofs.Ready.{ready_header}
 use Rattle.copier.proofs.Writers.{wrote_sized}
 use Rattle.copier.proofs.Lengths.{counted_c}
 use Rattle.hardener.proofs.TableWrites.{measured_some, measured_arrays, root_hardenable, measured_variables, whole_fits, nodes_room, header_room, whole_written}
-use borrow.Author.Rules.{rules}
 use Rattle.hardener.proofs.tables.write_hardened.Goals as goal
 
 pub hardened_header-to-requires : goal.hardened_header-to-requires

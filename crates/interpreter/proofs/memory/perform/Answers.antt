@@ -1,7 +1,6 @@
 -- `perform` leaves the state's bytes that the change defines.
 use Rattle.interpreter.proofs.Effects.{performed_back, performed_assign, performed_store}
 use native.Mathlib.Omega.{arith}
-use borrow.Author.Rules.{rules}
 use Rattle.interpreter.proofs.memory.perform.Goals as goal
 
 pub push-requires : goal.push-requires

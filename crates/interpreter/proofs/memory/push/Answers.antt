@@ -1,6 +1,5 @@
 -- `push` writes the entries that are put back, the next one topmost.
 use native.Mathlib.Omega.{arith}
-use borrow.Author.Rules.{rules}
 use Rattle.interpreter.specs.Effects.{pushed}
 use Rattle.interpreter.proofs.Effects.{pushed_two}
 use Rattle.interpreter.proofs.memory.push.Goals as goal

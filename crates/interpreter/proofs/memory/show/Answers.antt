@@ -1,6 +1,5 @@
 -- `show` writes behind the observations so far.
 use Rattle.interpreter.specs.Effects.{seen_bytes}
-use borrow.Author.Rules.{rules}
 use Rattle.interpreter.proofs.memory.show.Goals as goal
 
 pub show_record-requires : goal.show_record-requires

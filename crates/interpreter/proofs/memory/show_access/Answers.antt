@@ -1,6 +1,5 @@
 -- `show_access` writes a read's or a write's record.
 use Rattle.interpreter.proofs.Effects.{stored_access}
-use borrow.Author.Rules.{rules}
 use Rattle.interpreter.proofs.memory.show_access.Goals as goal
 
 pub returns : goal.returns

@@ -1,6 +1,5 @@
 -- `show_branch` writes a branch's record.
 use Rattle.interpreter.proofs.Effects.{stored_record}
-use borrow.Author.Rules.{rules}
 use Rattle.interpreter.proofs.memory.show_branch.Goals as goal
 
 pub returns : goal.returns

@@ -2,7 +2,6 @@
 use Rattle.bytes_le.specs.Numbers.{le}
 use Rattle.stepping.specs.Actions.{observation_of}
 use Rattle.machine.specs.Observations.{observation_bytes}
-use borrow.Author.Rules.{rules}
 use Rattle.interpreter.proofs.memory.show_record.Goals as goal
 
 pub show_branch-requires : goal.show_branch-requires

@@ -1,7 +1,6 @@
 -- `show_rollback` writes a rollback's record.
 use Rattle.interpreter.proofs.Effects.{stored_then}
 use mathlib.Core.Path.{refl, ◌∙◌}
-use borrow.Author.Rules.{rules}
 use Rattle.interpreter.proofs.memory.show_rollback.Goals as goal
 
 pub returns : goal.returns

@@ -2,7 +2,6 @@
 use Prim.Native.Nat.{◌-◌, ◌<◌}
 use native.Mathlib.Omega.{arith}
 use mathlib.Core.Path.{◌≡◌, ap}
-use borrow.Author.Rules.{rules}
 use lib.ListN.{length}
 use Rattle.bytes_le.proofs.Numbers.{Below, slice_bytes}
 use Rattle.stepping.specs.Stepping.{undone_state, Memory, memory_at, RunEnds, Advances, SavesRight, GoesBack}

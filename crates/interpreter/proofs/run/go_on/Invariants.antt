@@ -1,22 +1,9 @@
 -- The run goes on until one of the five ends: what is left to run is always the whole run.
-use Prim.Native.Nat.{◌-◌, ◌<◌}
-use native.Mathlib.Omega.{arith}
-use mathlib.Core.Path.{◌≡◌, ap}
-use borrow.Author.Rules.{rules}
+use Prim.Native.Nat.{◌-◌}
 use lib.ListN.{length}
-use Rattle.bytes_le.proofs.Numbers.{Below, slice_bytes}
-use Rattle.stepping.specs.Stepping.{undone_state, Memory, memory_at, RunEnds, Advances, SavesRight, GoesBack}
+use Rattle.stepping.specs.Stepping.{memory_at}
 use Rattle.interpreter.specs.Running.{run_of}
-use Rattle.machine.specs.declared.End.{End}
-use Rattle.directives.specs.declared.change.Back.{Back}
-use Rattle.directives.specs.declared.change.Change.{Change}
-use Rattle.stepping.specs.declared.state.MachineState.{MachineState}
-use Rattle.stepping.specs.declared.next.Seen.{Seen}
-use Rattle.stepping.specs.declared.next.Next.TheVariants.{Over, Goes, Saves, Undoes}
-use mathlib.Core.Bool.{Bool}
-use Rattle.interpreter.proofs.Underway.{Underway, underway_start, underway_over, underway_room, few_nodes_lem}
-use Rattle.interpreter.proofs.ProgramSteps.{perform_fits, show_fits, underway_next}
-use Rattle.interpreter.proofs.SavedSteps.{place_offset, place_within, save_fits, branch_fits, underway_saved, newest_there, height_few, rollback_fits, restore_fits, undoable, underway_back}
+use Rattle.interpreter.proofs.Underway.{Underway}
 use Rattle.interpreter.proofs.run.go_on.Given as goal
 
 abbrev pub invariant-loop-end : goal.invariant-loop-end

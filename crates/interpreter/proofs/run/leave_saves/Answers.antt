@@ -1,5 +1,4 @@
 -- `leave_saves` leaves the places of the board that rolls back.
-use borrow.Author.Rules.{rules}
 use Rattle.interpreter.proofs.run.leave_saves.Goals as goal
 
 pub leave-requires : goal.leave-requires

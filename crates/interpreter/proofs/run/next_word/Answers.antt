@@ -1,6 +1,5 @@
 -- `next_word` is the topmost pending node, or 0.
 use Rattle.interpreter.proofs.Leavings.{next_none, next_some}
-use borrow.Author.Rules.{rules}
 use Rattle.interpreter.proofs.run.next_word.Goals as goal
 
 pub returns-then-count-eq0 : goal.returns-then-count-eq0

@@ -5,7 +5,6 @@ use native.Mathlib.Omega.{arith}
 use lib.ListN.{length}
 use Rattle.bytes_le.proofs.Numbers.{slice_bytes}
 use Rattle.interpreter.proofs.WholeRuns.{asked_header, root_below, size_asked, places_asked, begun_at_root, pending_within, leave_asked, saves_kept, run_leaves}
-use borrow.Author.Rules.{rules}
 use Rattle.interpreter.proofs.run.run.Goals as goal
 
 pub find_starts-requires : goal.find_starts-requires

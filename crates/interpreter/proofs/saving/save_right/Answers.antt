@@ -3,7 +3,6 @@ use Rattle.interpreter.proofs.Effects.{right_saved}
 use Rattle.interpreter.proofs.Changing.{height_above}
 use mathlib.Core.Path.{refl}
 use native.Mathlib.Omega.{arith}
-use borrow.Author.Rules.{rules}
 use Rattle.interpreter.proofs.saving.save_right.Goals as goal
 
 pub height-high-requires : goal.height-high-requires

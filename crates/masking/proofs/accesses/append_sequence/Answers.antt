@@ -3,7 +3,6 @@ use native.Mathlib.Omega.{arith}
 use Rattle.awhile.specs.Lists.{sum}
 use Rattle.awhile.specs.Nodes.{size_of, form, field_size}
 use Rattle.copier.proofs.Joins.{appended_pair}
-use borrow.Author.Rules.{rules}
 use Rattle.masking.proofs.accesses.append_sequence.Goals as goal
 
 pub append-requires : goal.append-requires

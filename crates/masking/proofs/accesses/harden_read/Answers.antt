@@ -9,7 +9,6 @@ use Rattle.copier.proofs.Lengths.{some_a}
 use Rattle.masking.proofs.TwoParts.{rest_number, rest_begins, rest_room, joined_asks}
 use Rattle.masking.proofs.AppendedNodes.{node_asks, last_asks}
 use Rattle.masking.proofs.AccessWrites.{ReadBegun, ReadWritten, read_index_room, read_begun, read_written, wrote_hidden, wrote_shown}
-use borrow.Author.Rules.{rules}
 use Rattle.masking.proofs.accesses.harden_read.Goals as goal
 
 pub copy_index-part-requires : goal.copy_index-part-requires

@@ -7,7 +7,6 @@ use Rattle.reader.specs.Index.{numeric_in}
 use Rattle.masks.specs.Hardening.{masked_index}
 use Rattle.masking.proofs.TwoParts.{rest_number, rest_begins, rest_room, both_few, parent_room}
 use Rattle.masking.proofs.AccessWrites.{IndexWritten, write_index_room, index_written, wrote_write}
-use borrow.Author.Rules.{rules}
 use Rattle.masking.proofs.accesses.harden_write.Goals as goal
 
 -- the index has room, masked where the decision is to mask

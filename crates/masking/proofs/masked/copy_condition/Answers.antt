@@ -12,7 +12,6 @@ use Rattle.copier.specs.declared.Size.{Size}
 use Rattle.copier.proofs.ExpressionWrites.{wrote_b, room_b}
 use Rattle.masking.proofs.TwoParts.{rest_number, rest_begins, rest_room, both_few, parent_room}
 use Rattle.masking.proofs.Masking.{condition_plain, TestWritten, test_room, test_written, wrote_condition}
-use borrow.Author.Rules.{rules}
 use Rattle.masking.proofs.masked.copy_condition.Goals as goal
 
 pub put_test-test-requires : goal.put_test-test-requires

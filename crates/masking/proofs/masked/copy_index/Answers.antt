@@ -12,7 +12,6 @@ use Rattle.copier.specs.declared.Size.{Size}
 use Rattle.copier.proofs.ExpressionWrites.{wrote_a, room_a}
 use Rattle.masking.proofs.TwoParts.{rest_number, rest_begins, rest_room, both_few, parent_room}
 use Rattle.masking.proofs.Masking.{index_plain, GuardWritten, guard_room, guard_written, wrote_index}
-use borrow.Author.Rules.{rules}
 use Rattle.masking.proofs.masked.copy_index.Goals as goal
 
 pub put_guard-guard-requires : goal.put_guard-guard-requires

@@ -13,7 +13,6 @@ use Rattle.copier.proofs.Lengths.{counted_b, some_b}
 use Rattle.copier.proofs.Writers.{wrote_length, wrote_as, appended_as, room_first}
 use Rattle.masking.proofs.AppendedNodes.{node_asks, node_begun, last_asks, last_is}
 use Rattle.masking.proofs.Masking.{TestBegun, YesBegun, NoBegun, ChoiceBegun, update_room, update_nodes}
-use borrow.Author.Rules.{rules}
 use Rattle.masking.proofs.masked.put_flag_update.Goals as goal
 
 pub copy_condition-test-requires : goal.copy_condition-test-requires

@@ -5,7 +5,6 @@ use Rattle.awhile.specs.Nodes.{size_of, form, field_size}
 use Rattle.masking.specs.InMemory.{guard_nodes}
 use Rattle.copier.proofs.Writers.{wrote_parent, room_parent}
 use Rattle.masking.proofs.Masking.{counted_test}
-use borrow.Author.Rules.{rules}
 use Rattle.masking.proofs.masked.put_guard.Goals as goal
 
 pub append-requires : goal.append-requires

@@ -5,7 +5,6 @@ use Rattle.awhile.specs.Nodes.{size_of, form, field_size}
 use Rattle.copier.proofs.Writers.{wrote_as}
 use Rattle.masking.proofs.AppendedNodes.{first_begun, node_asks, node_begun}
 use Rattle.masking.proofs.Masking.{test_nodes}
-use borrow.Author.Rules.{rules}
 use Rattle.masking.proofs.masked.put_test.Goals as goal
 
 pub append-first-requires : goal.append-first-requires

@@ -5,7 +5,6 @@ use Rattle.awhile.specs.Nodes.{size_of, form, field_size}
 use Rattle.copier.proofs.Writers.{wrote_as}
 use Rattle.masking.proofs.AppendedNodes.{node_asks, node_begun}
 use Rattle.masking.proofs.Masking.{guard_begun, value_nodes}
-use borrow.Author.Rules.{rules}
 use Rattle.masking.proofs.masked.put_value_mask.Goals as goal
 
 pub append-value-requires : goal.append-value-requires

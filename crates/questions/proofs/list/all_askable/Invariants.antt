@@ -1,12 +1,9 @@
 -- `all_askable` stops at the first question that cannot be asked.
 use Prim.Native.Nat.{◌-◌, ◌≤◌}
-use native.Mathlib.Omega.{arith}
 use mathlib.Core.Bool.{true}
-use mathlib.Core.Path.{◌≡◌, refl, sym, ap, ◌∙◌}
-use borrow.Author.Tests.{not-true, not-false}
+use mathlib.Core.Path.{◌≡◌}
 use Rattle.reader.specs.Index.{table_of}
-use Rattle.labels.specs.Questions.{askable, all_askable}
-use Rattle.questions.proofs.Lists.{one_more, spoilt}
+use Rattle.labels.specs.Questions.{all_askable}
 use Rattle.questions.proofs.list.all_askable.Given as goal
 
 abbrev pub invariant-loop-i : goal.invariant-loop-i

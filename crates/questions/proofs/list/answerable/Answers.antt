@@ -2,7 +2,6 @@
 use native.Mathlib.Omega.{arith}
 use Rattle.reader.specs.Index.{table_of}
 use Rattle.questions.proofs.Lists.{too_long, cut_inside, by_questions}
-use borrow.Author.Rules.{rules}
 use Rattle.questions.proofs.list.answerable.Goals as goal
 
 pub returns-then-length : goal.returns-then-length

@@ -1,6 +1,5 @@
 -- `question_at` reads the two fields of a pair.
 use Rattle.labels.specs.Questions.{question_at}
-use borrow.Author.Rules.{rules}
 use Rattle.questions.proofs.list.question_at.Goals as goal
 
 pub returns : goal.returns

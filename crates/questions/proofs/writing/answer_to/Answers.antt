@@ -1,6 +1,5 @@
 -- `answer_to` looks the variable up in what is noted for the command.
 use Rattle.questions.specs.Noted.{noted_answer}
-use borrow.Author.Rules.{rules}
 use Rattle.questions.proofs.writing.answer_to.Goals as goal
 
 pub returns-then-variable_label : goal.returns-then-variable_label

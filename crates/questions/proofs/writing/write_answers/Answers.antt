@@ -1,8 +1,8 @@
 -- `write_answers` writes one answer behind the other.
-use Prim.Native.Nat.{ℕ, ◌-◌, ◌≤◌}
+use Prim.Native.Nat.{ℕ}
 use native.Mathlib.Omega.{arith}
 use mathlib.Core.Path.{◌≡◌, refl, ap, ◌∙◌}
-use lib.ListN.{length, length-set}
+use lib.ListN.{length-set}
 use lib.Seq.{sets}
 use Rattle.questions.specs.Noted.{noted_answer, noted_answers}
 use Rattle.questions.proofs.NotedAnswers.{reaches, none_yet, one_more_written}

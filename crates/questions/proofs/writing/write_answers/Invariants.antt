@@ -1,11 +1,9 @@
 -- `write_answers` writes one answer behind the other.
-use Prim.Native.Nat.{ℕ, ◌-◌, ◌≤◌}
-use native.Mathlib.Omega.{arith}
-use mathlib.Core.Path.{◌≡◌, refl, ap, ◌∙◌}
-use lib.ListN.{length, length-set}
+use Prim.Native.Nat.{◌-◌, ◌≤◌}
+use mathlib.Core.Path.{◌≡◌}
+use lib.ListN.{length}
 use lib.Seq.{sets}
-use Rattle.questions.specs.Noted.{noted_answer, noted_answers}
-use Rattle.questions.proofs.NotedAnswers.{reaches, none_yet, one_more_written}
+use Rattle.questions.specs.Noted.{noted_answers}
 use Rattle.questions.proofs.writing.write_answers.Given as goal
 
 abbrev pub invariant-loop-i : goal.invariant-loop-i

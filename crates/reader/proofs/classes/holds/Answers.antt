@@ -1,6 +1,5 @@
 -- `holds` compares the node count in the header's bytes with the nodes of a class.
 use Rattle.reader.specs.Classes.{class_nodes, holds_table}
-use borrow.Author.Rules.{rules}
 use Rattle.reader.proofs.classes.holds.Goals as goal
 
 pub returns-in-Small : goal.returns-in-Small

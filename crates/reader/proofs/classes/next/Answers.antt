@@ -1,6 +1,5 @@
 -- `next` names the next larger class.
 use Rattle.reader.specs.Classes.{next_class}
-use borrow.Author.Rules.{rules}
 use Rattle.reader.proofs.classes.next.Goals as goal
 
 pub returns-in-Small : goal.returns-in-Small

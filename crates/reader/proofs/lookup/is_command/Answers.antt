@@ -1,7 +1,6 @@
 -- `is_command` compares the kind of the node's record: commands have the highest kinds.
 use native.Mathlib.Omega.{arith}
 use lib.ListN.{get_or}
-use borrow.Author.Rules.{rules}
 use Rattle.bytes_le.proofs.Numbers.{slice_bytes}
 use Rattle.awhile.proofs.Records.{NodeAt}
 use Rattle.reader.specs.Index.{node_in}

@@ -1,6 +1,5 @@
 -- `node_at` looks a node up by its sort.
-use mathlib.Core.Path.{◌≡◌, sym, ◌∙◌}
-use borrow.Author.Rules.{rules}
+use mathlib.Core.Path.{sym, ◌∙◌}
 use Rattle.reader.proofs.lookup.node_at.Goals as goal
 
 pub numeric_at-requires : goal.numeric_at-requires

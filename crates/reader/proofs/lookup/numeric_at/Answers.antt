@@ -2,7 +2,6 @@
 use native.Mathlib.Omega.{arith}
 use mathlib.Core.Path.{◌≡◌, refl}
 use lib.ListN.{get_or}
-use borrow.Author.Rules.{rules}
 use Rattle.bytes_le.proofs.Numbers.{slice_bytes}
 use Rattle.awhile.specs.Lists.{sum}
 use Rattle.awhile.specs.Nodes.{form, field_size, size_of, node_of}

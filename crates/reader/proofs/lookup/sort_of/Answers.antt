@@ -1,7 +1,6 @@
 -- `sort_of` compares the kind of the node's record with the first kinds of the sorts.
 use native.Mathlib.Omega.{arith}
 use lib.ListN.{get_or}
-use borrow.Author.Rules.{rules}
 use Rattle.bytes_le.proofs.Numbers.{slice_bytes}
 use Rattle.awhile.proofs.Records.{NodeAt}
 use Rattle.awhile.specs.declared.Sort.TheVariants.{Numeric, Truth, Command}

@@ -4,7 +4,6 @@ use mathlib.Core.Path.{sym, ap, ◌∙◌}
 use Rattle.reader.specs.Walk.{count_due}
 use Rattle.awhile.proofs.Accepted.{count_fits}
 use Rattle.record.proofs.Declaring.{count_got}
-use borrow.Author.Rules.{rules}
 use Rattle.reader.proofs.records.array_due.Goals as goal
 
 -- the cells stay within the limit

@@ -1,6 +1,5 @@
 -- `begin` is the progress before the first record.
 use Rattle.reader.specs.Walk.{begun}
-use borrow.Author.Rules.{rules}
 use Rattle.reader.proofs.records.begin.Goals as goal
 
 pub returns : goal.returns

@@ -2,7 +2,6 @@
 use native.Mathlib.Omega.{arith}
 use mathlib.Core.Path.{refl}
 use Rattle.reader.proofs.Turns.{array_ready, after_arrays, array_small, array_turn, node_turn, end_heads, end_turn, body_limits, node_ready}
-use borrow.Author.Rules.{rules}
 use Rattle.reader.proofs.records.body_at.Goals as goal
 
 pub overflow_add-nodes : goal.overflow_add-nodes

@@ -1,6 +1,5 @@
 -- `done` is the progress after the last record.
 use Rattle.reader.specs.Walk.{done_with}
-use borrow.Author.Rules.{rules}
 use Rattle.reader.proofs.records.done.Goals as goal
 
 pub returns : goal.returns

@@ -3,7 +3,6 @@ use native.Mathlib.Omega.{arith}
 use mathlib.Core.Path.{sym, ap, ◌∙◌}
 use Rattle.reader.specs.Walk.{header_due}
 use Rattle.reader.proofs.Answering.{header_limits}
-use borrow.Author.Rules.{rules}
 use Rattle.reader.proofs.records.header_due.Goals as goal
 
 -- so many records fit a machine's number

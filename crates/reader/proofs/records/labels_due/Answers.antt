@@ -1,7 +1,6 @@
 -- `labels_due` reads the labels.
 use mathlib.Core.Path.{sym, ap, ◌∙◌}
 use Rattle.reader.specs.Walk.{labels_due}
-use borrow.Author.Rules.{rules}
 use Rattle.reader.proofs.records.labels_due.Goals as goal
 
 pub returns-in-Refused : goal.returns-in-Refused

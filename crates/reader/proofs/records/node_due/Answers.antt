@@ -4,7 +4,6 @@ use mathlib.Core.Path.{refl}
 use Rattle.bytes_le.proofs.Numbers.{slice_bytes}
 use Rattle.reader.specs.Walk.{node_due, node_refused, node_read}
 use Rattle.reader.proofs.Walking.{offset_small, heads_before, uses_small, nodes_stop, children_inside, nodes_more}
-use borrow.Author.Rules.{rules}
 use Rattle.reader.proofs.records.node_due.Goals as goal
 
 pub read_node-requires : goal.read_node-requires

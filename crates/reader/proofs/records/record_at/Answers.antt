@@ -3,7 +3,6 @@ use mathlib.Core.Path.{refl}
 use Rattle.awhile.proofs.Accepted.{header_fits}
 use Rattle.awhile.proofs.Versions.{variables_most}
 use Rattle.reader.proofs.Turns.{header_ready, labels_ready, header_turn, labels_turn, never_done}
-use borrow.Author.Rules.{rules}
 use Rattle.reader.proofs.records.record_at.Goals as goal
 
 pub header_due-requires : goal.header_due-requires

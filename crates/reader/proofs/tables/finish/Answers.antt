@@ -1,7 +1,6 @@
 -- `finish` looks for a node that is not in order, then for bytes after the last.
 use native.Mathlib.Omega.{arith}
 use Rattle.reader.proofs.Answering.{finish_broken, finish_extra, finish_accepted}
-use borrow.Author.Rules.{rules}
 use Rattle.reader.proofs.tables.finish.Goals as goal
 
 pub sort_at-root-requires : goal.sort_at-root-requires

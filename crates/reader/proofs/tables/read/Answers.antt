@@ -2,7 +2,6 @@
 use mathlib.Core.Path.{refl}
 use Rattle.reader.specs.Walk.{at_header}
 use Rattle.reader.proofs.Turns.{ends_answers, never_due}
-use borrow.Author.Rules.{rules}
 use borrow.Enum.Refused.{opened}
 use Rattle.reader.proofs.tables.read.Goals as goal
 

@@ -5,7 +5,6 @@ use Rattle.awhile.specs.Refusals.{check}
 use Rattle.awhile.specs.Tables.{framed}
 use Rattle.record.specs.RecordRead.{checked_as}
 use Rattle.record.proofs.Passing.{some_positive}
-use borrow.Author.Rules.{rules}
 use Rattle.record.proofs.checks.frame.Goals as goal
 
 pub returns-then-n-at : goal.returns-then-n-at

@@ -2,7 +2,6 @@
 use mathlib.Core.Path.{sym, ◌∙◌}
 use borrow.Author.Tests.{eq-eqb, ne_eqb}
 use Rattle.awhile.specs.Tables.{length_of_kind}
-use borrow.Author.Rules.{rules}
 use Rattle.record.proofs.checks.frame_of_kind.Goals as goal
 
 pub returns-then-u16_at-kind : goal.returns-then-u16_at-kind

@@ -5,7 +5,6 @@ use borrow.Author.Tests.{lt-ltb, le-ltb, le-leb, lt-leb}
 use Rattle.awhile.specs.Refusals.{check}
 use Rattle.record.specs.RecordRead.{count_as}
 use Rattle.record.proofs.Declaring.{count_refused, count_tested}
-use borrow.Author.Rules.{rules}
 use Rattle.record.proofs.declarations.read_count.Goals as goal
 
 pub returns-in-Refused : goal.returns-in-Refused

@@ -7,7 +7,6 @@ use Rattle.record.specs.RecordRead.{header_as}
 use Rattle.record.proofs.Declaring.{header_refused, header_tested}
 use Rattle.awhile.specs.declared.Header.{Header}
 use Rattle.awhile.specs.declared.Refusal.TheVariants.{BeyondLimit}
-use borrow.Author.Rules.{rules}
 use Rattle.record.proofs.declarations.read_header.Goals as goal
 
 pub returns-in-Refused : goal.returns-in-Refused

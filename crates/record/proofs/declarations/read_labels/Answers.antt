@@ -8,7 +8,6 @@ use Rattle.awhile.specs.Tables.{read_labels}
 use Rattle.record.specs.RecordRead.{labels_as}
 use Rattle.record.proofs.Declaring.{labels_refused, labels_tested}
 use Rattle.awhile.specs.declared.Refusal.TheVariants.{BeyondLimit}
-use borrow.Author.Rules.{rules}
 use Rattle.record.proofs.declarations.read_labels.Goals as goal
 
 pub returns-in-Refused : goal.returns-in-Refused

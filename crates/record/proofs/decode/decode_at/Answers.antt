@@ -1,6 +1,5 @@
 -- `decode_at` reads all fields, with a test for each or with one for all, then decodes them.
 use Rattle.awhile.specs.Nodes.{decode_at}
-use borrow.Author.Rules.{rules}
 use Rattle.record.proofs.decode.decode_at.Goals as goal
 
 pub returns-then-bytes_from-ge10 : goal.returns-then-bytes_from-ge10

@@ -1,6 +1,5 @@
 -- `form_of` lists kind, sort and fields of each node as `form` does: first what each row's calls ask, then what each row is.
 use Rattle.awhile.specs.Nodes.{form}
-use borrow.Author.Rules.{rules}
 use Rattle.record.proofs.forms.form_of.Goals as goal
 
 pub returns-in-Number : goal.returns-in-Number

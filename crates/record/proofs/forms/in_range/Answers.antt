@@ -1,6 +1,5 @@
 -- `in_range` makes the test that each field asks for.
 use Rattle.awhile.specs.Nodes.{field_in_range}
-use borrow.Author.Rules.{rules}
 use Rattle.record.proofs.forms.in_range.Goals as goal
 
 pub returns-in-Constant : goal.returns-in-Constant

@@ -2,7 +2,6 @@
 use Rattle.awhile.specs.Lists.{sum}
 use Rattle.awhile.specs.Nodes.{field_size}
 use Rattle.record.proofs.RecordForms.{two_bytes}
-use borrow.Author.Rules.{rules}
 use Rattle.record.proofs.forms.record_size.Goals as goal
 
 pub returns-in-Nothing : goal.returns-in-Nothing

@@ -1,6 +1,5 @@
 -- `mask_at` reads four bytes or eight.
 use Rattle.awhile.proofs.Versions.{mask_one, mask_other}
-use borrow.Author.Rules.{rules}
 use Rattle.record.proofs.mask.mask_at.Goals as goal
 
 pub returns-then-version-eq1 : goal.returns-then-version-eq1

@@ -2,7 +2,6 @@
 use Prim.Native.Nat.{◌/◌}
 use Rattle.record.proofs.Declaring.{shifted_twice}
 use native.Mathlib.Omega.{arith}
-use borrow.Author.Rules.{rules}
 use Rattle.record.proofs.mask.mask_fits.Goals as goal
 
 pub returns : goal.returns

@@ -4,7 +4,6 @@ use mathlib.Core.Path.{ap, ◌∙◌}
 use lib.Seq.{sets}
 use Rattle.awhile.proofs.Versions.{mask_one, mask_other}
 use Rattle.bytes_le.proofs.Stores.{le_four}
-use borrow.Author.Rules.{rules}
 use Rattle.record.proofs.mask.put_mask.Goals as goal
 
 pub put32-requires : goal.put32-requires

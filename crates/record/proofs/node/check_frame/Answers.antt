@@ -1,7 +1,6 @@
 -- `check_frame` takes a record's length off its fields.
 use native.Mathlib.Omega.{arith}
 use Rattle.record.proofs.RecordForms.{fields_short}
-use borrow.Author.Rules.{rules}
 use Rattle.record.proofs.node.check_frame.Goals as goal
 
 pub frame-requires : goal.frame-requires

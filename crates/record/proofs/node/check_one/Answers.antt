@@ -4,7 +4,6 @@ use Rattle.record.specs.RecordRead.{fields_of}
 use Rattle.record.specs.declared.checks.Checked.TheVariants.{Passed}
 use Rattle.record.specs.declared.forms.Fields.TheVariants.{One}
 use Rattle.record.proofs.Sorting.{ranges_then, AllThere, fields_there, record_checked}
-use borrow.Author.Rules.{rules}
 use Rattle.record.proofs.node.check_one.Goals as goal
 
 pub then_sort-requires : goal.then_sort-requires

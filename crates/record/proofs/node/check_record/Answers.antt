@@ -1,6 +1,5 @@
 -- `check_record` makes the tests that as many fields ask for.
 use Rattle.record.proofs.Sorting.{nothing_checked, word_checked}
-use borrow.Author.Rules.{rules}
 use Rattle.record.proofs.node.check_record.Goals as goal
 
 pub returns-in-Nothing : goal.returns-in-Nothing

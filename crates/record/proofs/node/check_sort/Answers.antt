@@ -3,7 +3,6 @@ use Rattle.awhile.specs.Refusals.{check}
 use Rattle.awhile.specs.Nodes.{same_sort}
 use Rattle.record.specs.RecordRead.{checked_as}
 use Rattle.record.proofs.Sorting.{not_numeric_lem, not_truth_lem, not_command_lem}
-use borrow.Author.Rules.{rules}
 use borrow.Enum.Refused.{opened}
 use Rattle.record.proofs.node.check_sort.Goals as goal
 

@@ -4,7 +4,6 @@ use Rattle.record.specs.RecordRead.{fields_of}
 use Rattle.record.specs.declared.checks.Checked.TheVariants.{Passed}
 use Rattle.record.specs.declared.forms.Fields.TheVariants.{Two}
 use Rattle.record.proofs.Sorting.{ranges_then, AllThere, fields_there, sorts_then, record_checked}
-use borrow.Author.Rules.{rules}
 use Rattle.record.proofs.node.check_two.Goals as goal
 
 pub then_sort-sort-requires : goal.then_sort-sort-requires

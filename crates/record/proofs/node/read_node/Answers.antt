@@ -5,7 +5,6 @@ use Rattle.awhile.specs.Nodes.{size_of}
 use Rattle.record.specs.RecordRead.{passed_node, NodeChecked}
 use Rattle.record.proofs.RecordForms.{same_fields, same_size}
 use Rattle.record.proofs.Sorting.{unknown_read, record_read}
-use borrow.Author.Rules.{rules}
 use Rattle.record.proofs.node.read_node.Goals as goal
 
 pub returns-in_default : goal.returns-in_default

@@ -2,7 +2,6 @@
 use borrow.Author.Tests.{lt-leb, le-leb}
 use Rattle.awhile.specs.Refusals.{check}
 use Rattle.awhile.specs.Tables.{framed}
-use borrow.Author.Rules.{rules}
 use Rattle.record.proofs.node.refuse_kind.Goals as goal
 
 pub returns-then-table-at : goal.returns-then-table-at

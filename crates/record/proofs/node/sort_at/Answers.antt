@@ -1,7 +1,6 @@
 -- `sort_at` takes the sort of the record's kind: its fields have no say in it.
 use Rattle.record.proofs.RecordKinds.{sort_by_kind, no_sort}
 use Rattle.record.proofs.RecordForms.{same_sort_lem}
-use borrow.Author.Rules.{rules}
 use Rattle.record.proofs.node.sort_at.Goals as goal
 
 pub returns-in_default : goal.returns-in_default

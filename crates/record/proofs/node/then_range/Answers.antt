@@ -2,7 +2,6 @@
 use Rattle.awhile.specs.Refusals.{check}
 use Rattle.record.specs.RecordRead.{checked_as, first_refusal}
 use Rattle.record.proofs.Sorting.{refused_first}
-use borrow.Author.Rules.{rules}
 use Rattle.record.proofs.node.then_range.Goals as goal
 
 pub returns-in_default : goal.returns-in_default

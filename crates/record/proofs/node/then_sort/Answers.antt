@@ -5,7 +5,6 @@ use mathlib.Core.Path.{ap}
 use lib.ListN.{length, get_or}
 use Rattle.record.specs.RecordRead.{field_of}
 use Rattle.record.proofs.Sorting.{refused_then, none_then, child_then}
-use borrow.Author.Rules.{rules}
 use borrow.Enum.Refused.{opened}
 use Rattle.record.proofs.node.then_sort.Goals as goal
 

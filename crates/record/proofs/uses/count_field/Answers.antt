@@ -4,7 +4,6 @@ use native.Mathlib.Omega.{arith}
 use lib.ListN.{length}
 use Rattle.record.proofs.Sorting.{no_children}
 use Rattle.record.proofs.Tally.{child_inside, count_child, count_none}
-use borrow.Author.Rules.{rules}
 use borrow.Enum.Refused.{opened}
 use Rattle.record.proofs.uses.count_field.Goals as goal
 

@@ -9,7 +9,6 @@ use Rattle.awhile.specs.Nodes.{field_children}
 use Rattle.record.specs.RecordRead.{fields_of, all_below, CountsBelow}
 use Rattle.record.specs.declared.forms.Fields.{Fields}
 use Rattle.record.proofs.Tally.{CountsFor, tally_first, tally_rest, tally_fields, tally_no_fields, tally_word}
-use borrow.Author.Rules.{rules}
 use Rattle.record.proofs.uses.count_fields.Goals as goal
 
 -- room for all fields

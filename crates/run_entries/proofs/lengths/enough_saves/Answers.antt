@@ -1,6 +1,5 @@
 -- `enough_saves` wants the words of all saves on the board that rolls back, and none elsewhere.
 use Rattle.run_entries.proofs.RightLengths.{enough_elsewhere, enough_rolling}
-use borrow.Author.Rules.{rules}
 use Rattle.run_entries.proofs.lengths.enough_saves.Goals as goal
 
 pub returns-then-rolls : goal.returns-then-rolls

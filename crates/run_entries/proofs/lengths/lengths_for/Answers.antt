@@ -2,7 +2,6 @@
 use Rattle.run_entries.proofs.RightLengths.{wrong_variables, wrong_cells, short_pending, short_saves, all_right}
 use borrow.Author.Tests.{not-true, not-false}
 use mathlib.Core.Path.{sym, ◌∙◌}
-use borrow.Author.Rules.{rules}
 use Rattle.run_entries.proofs.lengths.lengths_for.Goals as goal
 
 pub returns-then-variables-header : goal.returns-then-variables-header

@@ -1,6 +1,5 @@
 -- `answer_done` writes the numbers of a refusal or of a run's report.
 use Rattle.run_entries.proofs.Runs.{refused_answered, run_answered}
-use borrow.Author.Rules.{rules}
 use Rattle.run_entries.proofs.machines.answer_done.Goals as goal
 
 pub returns-in-Refused : goal.returns-in-Refused

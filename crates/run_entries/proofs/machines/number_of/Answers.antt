@@ -1,6 +1,5 @@
 -- `number_of` gives each end document 01's number.
 use Rattle.machine.specs.Runs.{end_number}
-use borrow.Author.Rules.{rules}
 use Rattle.run_entries.proofs.machines.number_of.Goals as goal
 
 pub returns-in-Finished : goal.returns-in-Finished

@@ -1,8 +1,7 @@
 -- `run_in` runs a table in its class where that holds it, and otherwise in a larger one: at each call fewer classes are larger.
-use Prim.Native.Nat.{ℕ, ◌<◌}
+use Prim.Native.Nat.{◌<◌}
 use mathlib.Core.Bool.{true, false, not}
 use mathlib.Core.Path.{◌≡◌, sym, ap, subst, ◌∙◌}
-use borrow.Author.Rules.{rules}
 use borrow.Author.Tests.{not-true, not-false}
 use native.Mathlib.Omega.{arith}
 use Rattle.reader.specs.Classes.{RoomFor, class_nodes, next_class, larger_classes}

@@ -1,7 +1,6 @@
 -- `read_and_run` runs a table that is accepted, and hands on the reader's refusal of any other.
 use Rattle.reader.proofs.Answering.{reader_ready}
 use Rattle.run_entries.proofs.Runs.{read_refused, read_done}
-use borrow.Author.Rules.{rules}
 use Rattle.run_entries.proofs.tables.read_and_run.Goals as goal
 
 pub read-found-requires : goal.read-found-requires

@@ -2,7 +2,6 @@
 use Rattle.run_entries.proofs.Runs.{ready_small, bad_list, wrong_lengths, run_asked, run_done}
 use Rattle.bytes_le.proofs.Numbers.{slice_bytes}
 use borrow.Author.Tests.{not-true, not-false}
-use borrow.Author.Rules.{rules}
 use Rattle.run_entries.proofs.tables.run_read.Goals as goal
 
 pub returns-then-not-reads : goal.returns-then-not-reads

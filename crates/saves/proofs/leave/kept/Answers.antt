@@ -1,7 +1,6 @@
 -- `kept` answers by whether the place is open.
 use native.Mathlib.Omega.{arith}
 use mathlib.Core.Path.{sym}
-use borrow.Author.Rules.{rules}
 use Rattle.saves.proofs.Leaving.{kept_open, kept_shut}
 use Rattle.saves.proofs.leave.kept.Goals as goal
 

@@ -1,10 +1,7 @@
 -- `leave`: at every turn the places passed so far are cleared, and the others as they were.
-use Prim.Native.Nat.{◌+◌, ◌-◌, ◌≤◌}
-use native.Mathlib.Omega.{arith}
-use mathlib.Core.Path.{◌≡◌, ap, ◌∙◌}
-use lib.ListN.{length}
+use Prim.Native.Nat.{◌-◌, ◌≤◌}
+use mathlib.Core.Path.{◌≡◌}
 use Rattle.saves.specs.Leaving.{left_places}
-use Rattle.saves.proofs.Leaving.{eight_places, kept_few, length_left, left_none, left_more}
 use Rattle.saves.proofs.leave.leave.Given as goal
 
 abbrev pub invariant-loop-k : goal.invariant-loop-k

@@ -1,5 +1,4 @@
 -- `save` copies the three parts of a state, one behind the other.
-use borrow.Author.Rules.{rules}
 use Rattle.saves.proofs.Copying.{saved_parts}
 use Rattle.saves.proofs.place.save.Goals as goal
 

@@ -5,7 +5,6 @@ use Prim.Native.Nat.{◌+◌}
 use Rattle.bytes_le.specs.Numbers.{le}
 use Rattle.sheets.proofs.Stored.{stored_then}
 use native.Mathlib.Omega.{arith}
-use borrow.Author.Rules.{rules}
 use Rattle.sheets.proofs.fields.put_head.Goals as goal
 
 pub returns : goal.returns

@@ -1,10 +1,8 @@
 -- `put_label` stores 1 for a secret.
 use mathlib.Core.Bool.{cond}
-use mathlib.Core.Logic.{⊎_elim}
 use mathlib.Core.Path.{sym, ap, ◌∙◌}
 use lib.Seq.{sets}
 use Rattle.bytes_le.specs.Numbers.{le}
-use borrow.Author.Rules.{rules}
 use Rattle.sheets.proofs.fields.put_label.Goals as goal
 use Rattle.sheets.proofs.fields.put_label.Goals.{then-secret, else-secret}
 

@@ -6,7 +6,6 @@ use Rattle.bytes_le.proofs.Numbers.{length_le}
 use Rattle.awhile.specs.Tables.{mask_bytes}
 use Rattle.labels.specs.Sheet.{field_bytes}
 use Rattle.sheets.proofs.Stored.{stored_then}
-use borrow.Author.Rules.{rules}
 use Rattle.sheets.proofs.fields.put_masks.Goals as goal
 
 pub returns : goal.returns

@@ -8,7 +8,6 @@ use Rattle.awhile.specs.declared.Node.{Node}
 use Rattle.reader.specs.Index.{node_in}
 use Rattle.reader.proofs.Index.{Parts}
 use Rattle.sheets.proofs.SheetNodes.{unnamed_record, parts_of, own_note, child_note, child_named, sequence_row, if_row, while_row, read_row, write_row, no_row}
-use borrow.Author.Rules.{rules}
 use borrow.Enum.Refused.{opened}
 use Rattle.sheets.proofs.rows.command_row.Goals as goal
 

@@ -11,7 +11,6 @@ use Rattle.sheets.specs.Rows.{row_size}
 use Rattle.sheets.specs.declared.rows.Row.TheVariants.{LabelMasks}
 use Rattle.sheets.proofs.Stored.{stored_then}
 use Rattle.sheets.proofs.SheetLengths.{row_beyond, row_stored, label_masked_bytes}
-use borrow.Author.Rules.{rules}
 use Rattle.sheets.proofs.rows.put_label_masks.Goals as goal
 
 pub returns-then-out-end : goal.returns-then-out-end

@@ -5,7 +5,6 @@ use mathlib.Core.List.{◌++◌}
 use Rattle.bytes_le.specs.Numbers.{le}
 use mathlib.Core.Bool.{cond}
 use Rattle.sheets.proofs.Stored.{stored_then}
-use borrow.Author.Rules.{rules}
 use Rattle.sheets.proofs.rows.put_labelled.Goals as goal
 
 pub returns : goal.returns

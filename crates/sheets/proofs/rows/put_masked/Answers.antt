@@ -10,7 +10,6 @@ use Rattle.sheets.specs.Rows.{row_size}
 use Rattle.sheets.specs.declared.rows.Row.TheVariants.{Masks}
 use Rattle.sheets.proofs.Stored.{stored_then}
 use Rattle.sheets.proofs.SheetLengths.{row_beyond, row_stored, masked_bytes}
-use borrow.Author.Rules.{rules}
 use Rattle.sheets.proofs.rows.put_masked.Goals as goal
 
 pub returns-then-out-end : goal.returns-then-out-end

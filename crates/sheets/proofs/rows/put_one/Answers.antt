@@ -5,7 +5,6 @@ use Rattle.labels.specs.Sheet.{field_bytes, fields_bytes, record_bytes}
 use Rattle.sheets.specs.Rows.{row_records, row_bytes, row_size}
 use Rattle.sheets.specs.declared.rows.Row.TheVariants.{Label}
 use Rattle.sheets.proofs.SheetLengths.{row_beyond, row_stored}
-use borrow.Author.Rules.{rules}
 use Rattle.sheets.proofs.rows.put_one.Goals as goal
 
 pub returns-then-out-end : goal.returns-then-out-end

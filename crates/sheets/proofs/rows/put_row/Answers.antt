@@ -1,6 +1,5 @@
 -- `put_row` stores a record by its shape.
 use Rattle.sheets.proofs.SheetLengths.{nothing_stored}
-use borrow.Author.Rules.{rules}
 use Rattle.sheets.proofs.rows.put_row.Goals as goal
 
 pub returns-in-Nothing : goal.returns-in-Nothing

@@ -9,7 +9,6 @@ use Rattle.sheets.specs.Rows.{row_records, row_bytes, row_size}
 use Rattle.sheets.specs.declared.rows.Row.TheVariants.{Labels}
 use Rattle.sheets.proofs.Stored.{stored_then}
 use Rattle.sheets.proofs.SheetLengths.{row_beyond, row_stored}
-use borrow.Author.Rules.{rules}
 use Rattle.sheets.proofs.rows.put_two.Goals as goal
 
 pub returns-then-out-end : goal.returns-then-out-end

@@ -8,7 +8,6 @@ use Rattle.awhile.proofs.Children.{same_sort_true}
 use Rattle.reader.specs.Index.{node_in}
 use Rattle.sheets.specs.Rows.{row_records}
 use Rattle.sheets.proofs.SheetNodes.{no_command}
-use borrow.Author.Rules.{rules}
 use Rattle.sheets.proofs.rows.row_at.Goals as goal
 
 pub is_command-requires : goal.is_command-requires

@@ -8,7 +8,6 @@ use Rattle.awhile.specs.Tables.{mask_bytes}
 use Rattle.labels.specs.Sheet.{masks, field_bytes}
 use Rattle.sheets.proofs.Stored.{stored_then}
 use Rattle.sheets.proofs.SheetLengths.{head_bytes}
-use borrow.Author.Rules.{rules}
 use Rattle.sheets.proofs.sheet.put_final.Goals as goal
 
 pub returns : goal.returns

@@ -13,7 +13,6 @@ use Rattle.reader.specs.Index.{version_in, nodes_in}
 use Rattle.reader.proofs.Index.{indexed_few}
 use Rattle.sheets.specs.Rows.{first_size, longest_row, sheet_in}
 use Rattle.sheets.proofs.SheetLengths.{sheet_short}
-use borrow.Author.Rules.{rules}
 use Rattle.sheets.proofs.sheet.sheet_fits.Goals as goal
 
 pub overflow_mul-most : goal.overflow_mul-most

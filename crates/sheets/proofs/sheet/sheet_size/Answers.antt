@@ -3,7 +3,6 @@ use native.Mathlib.Omega.{arith}
 use mathlib.Core.Path.{ap}
 use Rattle.awhile.specs.Tables.{mask_bytes}
 use Rattle.sheets.proofs.SheetLengths.{sheet_length}
-use borrow.Author.Rules.{rules}
 use Rattle.sheets.proofs.sheet.sheet_size.Goals as goal
 
 pub returns : goal.returns

@@ -1,5 +1,5 @@
 -- `write_rows` stores the nodes' records by number, each behind the one before.
-use Prim.Native.Nat.{◌+◌, ◌*◌, ◌-◌, ◌^◌, ◌≤◌, ◌<◌}
+use Prim.Native.Nat.{◌+◌, ◌^◌, ◌<◌}
 use native.Mathlib.Omega.{arith}
 use mathlib.Core.List.{flat_map}
 use mathlib.Core.Path.{◌≡◌, refl, sym, ap₂, ◌∙◌}
@@ -15,7 +15,6 @@ use Rattle.analysis.specs.Notes.{noted_program}
 use Rattle.sheets.specs.Rows.{first_size, row_records, rows_in}
 use Rattle.sheets.proofs.SheetNodes.{records_at_lem}
 use Rattle.sheets.proofs.SheetLengths.{bytes_below, row_short, length_next, rows_next}
-use borrow.Author.Rules.{rules}
 use Rattle.sheets.proofs.sheet.write_rows.Goals as goal
 
 pub loop-n-init : goal.loop-n-init

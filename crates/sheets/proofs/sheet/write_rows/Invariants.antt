@@ -1,21 +1,11 @@
 -- `write_rows` stores the nodes' records by number, each behind the one before.
-use Prim.Native.Nat.{◌+◌, ◌*◌, ◌-◌, ◌^◌, ◌≤◌, ◌<◌}
-use native.Mathlib.Omega.{arith}
-use mathlib.Core.List.{flat_map}
-use mathlib.Core.Path.{◌≡◌, refl, sym, ap₂, ◌∙◌}
+use Prim.Native.Nat.{◌+◌, ◌*◌, ◌-◌, ◌≤◌}
+use mathlib.Core.Path.{◌≡◌}
 use lib.ListN.{length}
 use lib.Seq.{sets}
-use Rattle.bytes_le.proofs.Numbers.{Below, slice_bytes}
-use Rattle.reader.specs.Index.{version_in, nodes_in}
-use Rattle.reader.proofs.Index.{indexed_few}
-use Rattle.awhile.specs.Language.{Com}
-use Rattle.labels.specs.Annotation.{Entry}
-use Rattle.labels.specs.Sheet.{records_at, records_below}
 use Rattle.analysis.specs.Notes.{noted_program}
-use Rattle.sheets.specs.Rows.{first_size, row_records, rows_in}
-use Rattle.sheets.proofs.SheetNodes.{records_at_lem}
-use Rattle.sheets.proofs.SheetLengths.{bytes_below, row_short, length_next, rows_next}
-use borrow.Author.Rules.{rules}
+use Rattle.sheets.specs.Rows.{first_size}
+use Rattle.sheets.proofs.SheetLengths.{bytes_below}
 use Rattle.sheets.proofs.sheet.write_rows.Given as goal
 
 abbrev pub invariant-loop-n : goal.invariant-loop-n

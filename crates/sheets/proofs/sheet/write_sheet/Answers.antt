@@ -6,7 +6,6 @@ use Rattle.sheets.specs.Rows.{first_size, rows_in}
 use lib.Seq.{sets}
 use Rattle.labels.specs.Sheet.{record_bytes, head_record}
 use Rattle.sheets.proofs.SheetLengths.{sheet_length, sheet_stored}
-use borrow.Author.Rules.{rules}
 use Rattle.sheets.proofs.sheet.write_sheet.Goals as goal
 
 pub put_final-requires : goal.put_final-requires

@@ -1,5 +1,5 @@
 -- What a node's command does is read off its kind.
-use Rattle.std.proofs.Common.{◌≡◌, ℕ, ap, ◌∙◌, rules}
+use Rattle.std.proofs.Common.{◌≡◌, ℕ, ap, ◌∙◌}
 use Rattle.bytes_le.proofs.Numbers.{slice_bytes}
 use Rattle.awhile.specs.Nodes.{sort_of}
 use Rattle.reader.proofs.Index.{Child, Parts}

@@ -1,5 +1,5 @@
 -- `value` and `truth` evaluate a node from its parts, whose numbers are lower.
-use Rattle.std.proofs.Common.{◌≡◌, ℕ, ◌+◌, ◌*◌, ◌<◌, max, not, List, ap, ◌∙◌, arith, rules}
+use Rattle.std.proofs.Common.{◌≡◌, not, ap, ◌∙◌, arith}
 use Rattle.bytes_le.proofs.Numbers.{slice_bytes}
 use Rattle.awhile.specs.Nodes.{sort_of}
 use Rattle.awhile.proofs.Unnamed.{never_numeric, never_truth}

@@ -1,6 +1,5 @@
 -- `back_step` tests the budget, then whether a save is open, then the room.
 use Rattle.stepping.proofs.Guesses.{back_spent, back_stuck, back_full, back_goes}
-use Rattle.std.proofs.Common.{rules}
 use Rattle.stepping.proofs.guess.back_step.Goals as goal
 
 pub returns-then-budget-state : goal.returns-then-budget-state

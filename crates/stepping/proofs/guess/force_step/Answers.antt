@@ -1,6 +1,6 @@
 -- `force_step` saves on the board that rolls back, and elsewhere takes the wrong side with the flag set.
 use Rattle.stepping.proofs.Guesses.{forced_saves, forced_full, forced_goes, with_room}
-use Rattle.std.proofs.Common.{arith, rules}
+use Rattle.std.proofs.Common.{arith}
 use Rattle.stepping.proofs.guess.force_step.Goals as goal
 
 pub returns-then-rolls : goal.returns-then-rolls

@@ -1,6 +1,6 @@
 -- `save_step` tests whether eight saves are open, then the room; the wrong side is taken with the flag set.
 use Rattle.stepping.proofs.Guesses.{save_stuck, save_full, save_goes, with_room}
-use Rattle.std.proofs.Common.{arith, rules}
+use Rattle.std.proofs.Common.{arith}
 use Rattle.stepping.proofs.guess.save_step.Goals as goal
 
 pub returns-then-state-ge-MAX_SAVES : goal.returns-then-state-ge-MAX_SAVES

@@ -1,6 +1,5 @@
 -- `bytes_of` is the length that document 01 gives each observation.
 use Rattle.stepping.specs.Stepping.{shown_size}
-use Rattle.std.proofs.Common.{rules}
 use Rattle.stepping.proofs.step.bytes_of.Goals as goal
 
 pub returns-in-Fork : goal.returns-in-Fork

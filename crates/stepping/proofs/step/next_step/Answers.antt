@@ -9,7 +9,7 @@ use Rattle.reader.proofs.Index.{indexed_few}
 use Rattle.reader.specs.Index.{table_of}
 use Rattle.bytes_le.proofs.Numbers.{slice_bytes}
 use Rattle.bytes_le.specs.Numbers.{le_at}
-use Rattle.std.proofs.Common.{◌≡◌, ℕ, ◌+◌, ◌-◌, ◌*◌, ◌<◌, ◌≤◌, length, pos_of_ne-zero, arith, rules}
+use Rattle.std.proofs.Common.{◌≡◌, ℕ, ◌+◌, ◌-◌, ◌*◌, ◌<◌, ◌≤◌, length, pos_of_ne-zero, arith}
 use mathlib.Core.Option.{none}
 use Rattle.stepping.proofs.step.next_step.Goals as goal
 

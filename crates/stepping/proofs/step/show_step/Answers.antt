@@ -1,6 +1,6 @@
 -- `show_step` tests the room for its observation.
 use Rattle.stepping.proofs.Guesses.{show_full, show_goes, with_room}
-use Rattle.std.proofs.Common.{arith, rules}
+use Rattle.std.proofs.Common.{arith}
 use Rattle.stepping.proofs.step.show_step.Goals as goal
 
 pub returns-then-room-state : goal.returns-then-room-state

@@ -1,8 +1,6 @@
 -- `name_all` notes the expressions of one node after the other.
-use Prim.Native.Nat.{◌-◌, ◌≤◌}
 use native.Mathlib.Omega.{arith}
-use mathlib.Core.Path.{◌≡◌, refl, subst, ◌∙◌}
-use lib.ListN.{length}
+use mathlib.Core.Path.{refl, subst, ◌∙◌}
 use Rattle.variables.specs.Named.{NamedBelow}
 use Rattle.variables.proofs.collecting.name_all.Goals as goal
 

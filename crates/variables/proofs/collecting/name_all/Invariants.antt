@@ -1,7 +1,6 @@
 -- `name_all` notes the expressions of one node after the other.
 use Prim.Native.Nat.{◌-◌, ◌≤◌}
-use native.Mathlib.Omega.{arith}
-use mathlib.Core.Path.{◌≡◌, refl, subst, ◌∙◌}
+use mathlib.Core.Path.{◌≡◌}
 use lib.ListN.{length}
 use Rattle.variables.specs.Named.{NamedBelow}
 use Rattle.variables.proofs.collecting.name_all.Given as goal

@@ -16,7 +16,6 @@ use Rattle.reader.proofs.Index.{Child, Parts, child_of_sort}
 use Rattle.variables.specs.Named.{expression_of, field_expressions, expressions_of}
 use Rattle.reader.proofs.NodeKinds.{node_parts}
 use Rattle.variables.proofs.Naming.{holds_none, names_none, names_one, names_two, none_held}
-use borrow.Author.Rules.{rules}
 use borrow.Enum.Refused.{opened}
 use Rattle.variables.proofs.collecting.name_command.Goals as goal
 

@@ -1,12 +1,11 @@
 -- `name_node` passes what is no command.
-use mathlib.Core.Bool.{true, false, true≢false}
+use mathlib.Core.Bool.{true≢false}
 use mathlib.Core.Path.{sym, ap, ◌∙◌}
 use Rattle.awhile.specs.Nodes.{sort_of, same_sort}
 use Rattle.awhile.specs.declared.Sort.TheVariants.{Command}
 use Rattle.awhile.proofs.Children.{same_sort_true}
 use Rattle.reader.specs.Index.{node_in}
 use Rattle.variables.proofs.Naming.{names_next, names_skip}
-use borrow.Author.Rules.{rules}
 use Rattle.variables.proofs.collecting.name_node.Goals as goal
 
 pub name_command-requires : goal.name_command-requires

@@ -1,9 +1,8 @@
 -- The variables of expressions: each arm answers what the definition joins from the children, whose numbers are lower.
-use Prim.Native.Nat.{ℕ, ◌+◌, ◌*◌, ◌<◌, max}
+use Prim.Native.Nat.{ℕ, ◌<◌}
 use mathlib.Core.List.{List}
 use mathlib.Core.Path.{◌≡◌, refl, sym, ap, ap₂, ◌∙◌}
 use lib.Bits.{bit_or}
-use borrow.Author.Rules.{rules}
 use native.Mathlib.Omega.{arith}
 use Rattle.awhile.proofs.Versions.{declared_variables}
 use Rattle.bytes_le.proofs.Numbers.{Below, slice_bytes}

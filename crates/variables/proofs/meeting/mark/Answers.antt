@@ -1,6 +1,5 @@
 -- `mark` is a power of two.
 use Rattle.labels.proofs.Masks.{shifted_one}
-use borrow.Author.Rules.{rules}
 use Rattle.variables.proofs.meeting.mark.Goals as goal
 
 pub returns : goal.returns

@@ -1,5 +1,5 @@
 -- `is_nought` looks at the node itself.
-use mathlib.Core.Path.{◌≡◌, refl, sym, ap, ◌∙◌}
+use mathlib.Core.Path.{refl, sym, ap, ◌∙◌}
 use Rattle.bytes_le.proofs.Numbers.{slice_bytes}
 use Rattle.awhile.specs.Nodes.{sort_of}
 use Rattle.labels.specs.Labellings.{is_nought}

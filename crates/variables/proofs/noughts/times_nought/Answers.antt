@@ -1,6 +1,5 @@
 -- `times_nought` looks at the left operand, then at the right one.
 use mathlib.Core.Path.{sym, ◌∙◌}
-use borrow.Author.Rules.{rules}
 use Rattle.labels.specs.Labellings.{times_nought}
 use Rattle.variables.proofs.noughts.times_nought.Goals as goal
 

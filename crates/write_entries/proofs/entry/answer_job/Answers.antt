@@ -1,7 +1,6 @@
 -- `answer_job` answers what the job came to.
 use mathlib.Core.Path.{refl}
 use Rattle.write_entries.proofs.Doing.{done_answered}
-use borrow.Author.Rules.{rules}
 use Rattle.write_entries.proofs.entry.answer_job.Goals as goal
 
 pub returns-in-Refused : goal.returns-in-Refused

@@ -1,7 +1,6 @@
 -- `grant` asks what its job asks.
 use Rattle.reader.specs.Index.{table_of}
 use Rattle.write_entries.proofs.Jobs.{sheet_granted}
-use borrow.Author.Rules.{rules}
 use Rattle.write_entries.proofs.granting.grant.Goals as goal
 
 pub returns-in-Sheet : goal.returns-in-Sheet

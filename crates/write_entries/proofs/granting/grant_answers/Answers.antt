@@ -1,7 +1,6 @@
 -- `grant_answers` refuses a list that is not answered.
 use mathlib.Core.Path.{sym, ◌∙◌}
 use Rattle.write_entries.proofs.Jobs.{list_granted, list_refused}
-use borrow.Author.Rules.{rules}
 use Rattle.write_entries.proofs.granting.grant_answers.Goals as goal
 
 pub returns-then-answerable : goal.returns-then-answerable

@@ -1,7 +1,6 @@
 -- `read_for` hands the reader's refusal on, and else asks whether the job is granted.
 use Rattle.reader.proofs.Answering.{reader_ready}
 use Rattle.write_entries.proofs.Jobs.{reads_refused, reads_ready}
-use borrow.Author.Rules.{rules}
 use Rattle.write_entries.proofs.granting.read_for.Goals as goal
 
 pub grant-requires : goal.grant-requires

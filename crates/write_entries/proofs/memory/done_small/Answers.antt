@@ -5,7 +5,6 @@ use Rattle.reader.proofs.Rooms.{fresh_memory}
 use Rattle.write_entries.proofs.Doing.{done_refused, done_same}
 use Rattle.write_entries.proofs.Jobs.{asked_read, refused_for, granted_for}
 use Rattle.write_entries.proofs.Labelled.{made_memory}
-use borrow.Author.Rules.{rules}
 use Rattle.write_entries.proofs.memory.done_small.Goals as goal
 
 pub read_for-requires : goal.read_for-requires

@@ -7,7 +7,6 @@ use Rattle.labels.specs.Questions.{pairs_in}
 use Rattle.questions.specs.Noted.{noted_answers, NotesReach}
 use Rattle.questions.proofs.NotedAnswers.{length_noted}
 use Rattle.write_entries.proofs.Doing.{done_written, done_short}
-use borrow.Author.Rules.{rules}
 use Rattle.write_entries.proofs.writing.put_answers.Goals as goal
 
 pub write_answers-requires : goal.write_answers-requires

@@ -8,7 +8,6 @@ use Rattle.analysis.specs.Conditions.{Labelled}
 use Rattle.deciding.proofs.DecidedBytes.{all_decided}
 use Rattle.hardener.specs.Output.{Measurable}
 use Rattle.write_entries.proofs.Doing.{done_written, done_short}
-use borrow.Author.Rules.{rules}
 use Rattle.write_entries.proofs.writing.put_hardened.Goals as goal
 
 pub decide_all-requires : goal.decide_all-requires

@@ -3,7 +3,6 @@ use mathlib.Core.Path.{sym, ◌∙◌}
 use borrow.Author.Tests.{leb-true, leb-false}
 use Rattle.reader.proofs.Ready.{ready_version, ready_nodes}
 use Rattle.write_entries.proofs.Doing.{done_written, done_short}
-use borrow.Author.Rules.{rules}
 use Rattle.write_entries.proofs.writing.put_sheet.Goals as goal
 
 pub sheet_fits-requires : goal.sheet_fits-requires

@@ -1,6 +1,5 @@
 -- `stepped` is one step further, with what the step takes and shows counted.
 use Rattle.stepping.specs.Stepping.{stepped_state}
-use Rattle.std.proofs.Common.{rules}
 use Rattle.stepping.proofs.state.MachineState.stepped.Goals as goal
 
 pub returns : goal.returns
