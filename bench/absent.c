@@ -1,6 +1,6 @@
 /*
- * Linked behind a library of before a change, so that `compare` and `unchanged` can call what that library lacks.  An entry that
- * the library has is taken from there, since these are weak.
+ * Linked behind a library of before a change, so that `compare` can call what that library lacks.  An entry that the library has
+ * is taken from there, since these are weak.
  */
 #include "absent.h"
 
@@ -15,12 +15,5 @@ __attribute__((weak)) uint64_t flow_rollback(const uint8_t *table, size_t table_
     (void)table, (void)table_len, (void)directives, (void)directives_len, (void)variables, (void)variables_len, (void)cells;
     (void)cells_len, (void)pending, (void)pending_len, (void)saves, (void)saves_len, (void)observations, (void)observations_len;
     (void)budget, (void)answer, (void)answer_len;
-    return NO_SUCH_ENTRY;
-}
-
-__attribute__((weak)) uint64_t flow_costs(const uint8_t *table, size_t table_len, uint8_t *list, size_t list_len, uint8_t *answer,
-                                          size_t answer_len)
-{
-    (void)table, (void)table_len, (void)list, (void)list_len, (void)answer, (void)answer_len;
     return NO_SUCH_ENTRY;
 }

@@ -1,4 +1,4 @@
-/* What an entry answers in the place of one that an older library lacks: see compare and unchanged. */
+/* What an entry answers in the place of one that an older library lacks: see compare. */
 #ifndef ABSENT_H
 #define ABSENT_H
 

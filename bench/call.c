@@ -9,8 +9,7 @@
 #include "records/little_endian.h"
 #include "reference.h"
 
-const char *const entry_names[ENTRIES] = {"flow_sheet", "flow_questions", "flow_harden", "flow_costs",
-                                          "flow_run", "flow_guess", "flow_rollback"};
+const char *const entry_names[ENTRIES] = {"flow_sheet", "flow_questions", "flow_harden", "flow_run", "flow_guess", "flow_rollback"};
 const char *const slice_names[SLICES] = {"table", "questions", "directives", "variables", "cells",
                                          "pending", "saves", "observations", "output", "answer"};
 
@@ -69,8 +68,6 @@ uint64_t call_library(struct call *call)
         return flow_questions(LENT(TABLE), LENT(QUESTIONS), LENT(OUTPUT), LENT(ANSWER));
     case ENTRY_HARDEN:
         return flow_harden(LENT(TABLE), LENT(OUTPUT), LENT(ANSWER));
-    case ENTRY_COSTS:
-        return flow_costs(LENT(TABLE), LENT(OUTPUT), LENT(ANSWER));
     case ENTRY_RUN:
         return flow_run(LENT(TABLE), LENT(VARIABLES), LENT(CELLS), LENT(PENDING), LENT(OBSERVATIONS), call->budget,
                         LENT(ANSWER));
@@ -92,8 +89,6 @@ uint64_t call_reference(struct call *call)
         return reference_questions(LENT(TABLE), LENT(QUESTIONS), LENT(OUTPUT), LENT(ANSWER));
     case ENTRY_HARDEN:
         return reference_harden(LENT(TABLE), LENT(OUTPUT), LENT(ANSWER));
-    case ENTRY_COSTS:
-        return reference_costs(LENT(TABLE), LENT(OUTPUT), LENT(ANSWER));
     case ENTRY_RUN:
         return reference_run(LENT(TABLE), LENT(VARIABLES), LENT(CELLS), LENT(PENDING), LENT(OBSERVATIONS), call->budget,
                              LENT(ANSWER));

@@ -7,7 +7,7 @@
 #include <stdint.h>
 #include <stdio.h>
 
-enum entry { ENTRY_SHEET, ENTRY_QUESTIONS, ENTRY_HARDEN, ENTRY_COSTS, ENTRY_RUN, ENTRY_GUESS, ENTRY_ROLLBACK, ENTRIES };
+enum entry { ENTRY_SHEET, ENTRY_QUESTIONS, ENTRY_HARDEN, ENTRY_RUN, ENTRY_GUESS, ENTRY_ROLLBACK, ENTRIES };
 
 enum slice_name {
     SLICE_TABLE,
@@ -18,7 +18,7 @@ enum slice_name {
     SLICE_PENDING,
     SLICE_SAVES,
     SLICE_OBSERVATIONS,
-    SLICE_OUTPUT, /* the sheet, the labels asked for, the hardened table or the marks listed */
+    SLICE_OUTPUT, /* the sheet, the labels asked for or the hardened table */
     SLICE_ANSWER,
     SLICES
 };

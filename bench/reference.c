@@ -729,63 +729,6 @@ static size_t write_hardened(uint8_t *out, const struct analysis *a)
     return (size_t)(h.out.at - out);
 }
 
-/* ---- Which label costs -------------------------------------------------------------------------------------------------- */
-
-/* P8: number i of the marks that a program can have: its variables by rising number, then its arrays as 256 plus theirs. */
-static unsigned mark_at(const struct program *p, unsigned i)
-{
-    return i < p->variables ? i : FLOW_ARRAY_MARK + i - p->variables;
-}
-
-/* The labels with that one made public. */
-static struct labelling lift(struct labelling labels, unsigned mark)
-{
-    if (mark < FLOW_ARRAY_MARK)
-        return with_variable(labels, mark, false);
-    labels.arrays &= ~((uint32_t)1 << (mark - FLOW_ARRAY_MARK));
-    return labels;
-}
-
-struct hardened {
-    uint8_t bytes[FLOW_TABLE_BYTES];
-    size_t length;
-};
-
-/* Hardens the program with these as its initial labels, which it keeps. */
-static void harden_labelled(struct program *p, struct labelling labels, struct hardened *h)
-{
-    struct analysis a;
-    p->secret_variables = labels.variables;
-    p->secret_arrays = labels.arrays;
-    analyse_program(&a, p);
-    h->length = write_hardened(h->bytes, &a);
-}
-
-/* The declarations, which are equally long in both, do not count: the masks in them differ in any case. */
-static bool same_nodes(const struct program *p, const struct hardened *one, const struct hardened *other)
-{
-    size_t nodes = 10 + labels_length(hardened_version(p)) + 6 * (size_t)p->arrays;
-    return one->length == other->length && memcmp(one->bytes + nodes, other->bytes + nodes, one->length - nodes) == 0;
-}
-
-/* Writes the list to `out`, which has FLOW_COSTS_BYTES, and returns its length. */
-static size_t write_costs(uint8_t *out, struct program *p)
-{
-    struct labelling initial = {p->secret_variables, p->secret_arrays};
-    struct hardened as_it_is, with_lifted;
-    struct writer w = {out};
-    harden_labelled(p, initial, &as_it_is);
-    for (unsigned i = 0; i < p->variables + p->arrays; i++) {
-        struct labelling lifted = lift(initial, mark_at(p, i));
-        if (same_labelling(lifted, initial))
-            continue; /* public as it is */
-        harden_labelled(p, lifted, &with_lifted);
-        if (!same_nodes(p, &as_it_is, &with_lifted))
-            write16(&w, mark_at(p, i));
-    }
-    return (size_t)(w.at - out);
-}
-
 /* ---- The machines ------------------------------------------------------------------------------------------------------- */
 
 struct machine {
@@ -1203,14 +1146,6 @@ uint64_t reference_questions(const uint8_t *table, size_t table_len,
     return answer_length(count, answer, answer_len);
 }
 
-/* The refusal of a program that is to be hardened, or 0. */
-static unsigned refuse_hardening(const struct program *p)
-{
-    if (p->nodes > FLOW_MAX_HARDENED_NODES)
-        return FLOW_TOO_MANY_NODES;
-    return p->variables == 64 ? FLOW_NO_FREE_VARIABLE : FLOW_ACCEPTED;
-}
-
 uint64_t reference_harden(const uint8_t *table, size_t table_len,
                           uint8_t *out, size_t out_len,
                           uint8_t *answer, size_t answer_len)
@@ -1219,9 +1154,10 @@ uint64_t reference_harden(const uint8_t *table, size_t table_len,
     struct refusal refusal = read_program(table, table_len, &p);
     if (refusal.number != FLOW_ACCEPTED)
         return answer_refusal(refusal, answer, answer_len);
-    unsigned refused = refuse_hardening(&p);
-    if (refused != FLOW_ACCEPTED)
-        return answer_number(refused, answer, answer_len);
+    if (p.nodes > FLOW_MAX_HARDENED_NODES)
+        return answer_number(FLOW_TOO_MANY_NODES, answer, answer_len);
+    if (p.variables == 64)
+        return answer_number(FLOW_NO_FREE_VARIABLE, answer, answer_len);
     struct analysis a;
     analyse_program(&a, &p);
     uint8_t hardened[FLOW_TABLE_BYTES]; /* the length is known only when all is written, and a refusal must leave `out` alone */
@@ -1229,26 +1165,6 @@ uint64_t reference_harden(const uint8_t *table, size_t table_len,
     if (length > out_len)
         return answer_number(FLOW_OUTPUT_SHORT, answer, answer_len);
     memcpy(out, hardened, length);
-    return answer_length(length, answer, answer_len);
-}
-
-uint64_t reference_costs(const uint8_t *table, size_t table_len,
-                         uint8_t *list, size_t list_len,
-                         uint8_t *answer, size_t answer_len)
-{
-    struct program p;
-    struct refusal refusal = read_program(table, table_len, &p);
-    if (refusal.number != FLOW_ACCEPTED)
-        return answer_refusal(refusal, answer, answer_len);
-    unsigned refused = refuse_hardening(&p);
-    if (refused != FLOW_ACCEPTED)
-        return answer_number(refused, answer, answer_len);
-    uint8_t listed[FLOW_COSTS_BYTES];
-    size_t length = write_costs(listed, &p);
-    if (length > list_len)
-        return answer_number(FLOW_OUTPUT_SHORT, answer, answer_len);
-    if (length > 0) /* for a list without marks nothing need be lent */
-        memcpy(list, listed, length);
     return answer_length(length, answer, answer_len);
 }
 

@@ -21,10 +21,6 @@ uint64_t reference_harden(const uint8_t *table, size_t table_len,
                           uint8_t *out, size_t out_len,
                           uint8_t *answer, size_t answer_len);
 
-uint64_t reference_costs(const uint8_t *table, size_t table_len,
-                         uint8_t *list, size_t list_len,
-                         uint8_t *answer, size_t answer_len);
-
 uint64_t reference_run(const uint8_t *table, size_t table_len,
                        uint8_t *variables, size_t variables_len,
                        uint8_t *cells, size_t cells_len,

@@ -18,11 +18,6 @@ uint64_t flow_harden(const uint8_t *table, size_t table_len, uint8_t *out, size_
     return reference_harden(table, table_len, out, out_len, answer, answer_len);
 }
 
-uint64_t flow_costs(const uint8_t *table, size_t table_len, uint8_t *list, size_t list_len, uint8_t *answer, size_t answer_len)
-{
-    return reference_costs(table, table_len, list, list_len, answer, answer_len);
-}
-
 uint64_t flow_run(const uint8_t *table, size_t table_len, uint8_t *variables, size_t variables_len, uint8_t *cells,
                   size_t cells_len, uint8_t *pending, size_t pending_len, uint8_t *observations, size_t observations_len,
                   uint32_t budget, uint8_t *answer, size_t answer_len)

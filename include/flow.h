@@ -8,9 +8,8 @@
  * THE ANSWER.  An entry returns 0 if it accepted the call, else the number of the refusal.  The same number stands
  * first in the answer slice, which holds numbers of 8 bytes each:
  *
- *     accepted, flow_sheet,
- *     flow_questions, flow_harden
- *     and flow_costs:                 0, bytes written                                                     (2 numbers)
+ *     accepted, flow_sheet, flow_questions
+ *     and flow_harden:                0, bytes written                                                     (2 numbers)
  *     accepted, flow_run, flow_guess
  *     and flow_rollback:              0, end, steps, directives used, observation bytes, flag, next node   (7 numbers)
  *     refused, every entry:           refusal, place                                                       (2 numbers)
@@ -35,7 +34,7 @@
 #define FLOW_H
 
 /* The release of this header and of the library that belongs to it (CHANGELOG.md). */
-#define FLOW_RELEASE "1.10"
+#define FLOW_RELEASE "1.9"
 
 #include <stddef.h>
 #include <stdint.h>
@@ -44,7 +43,7 @@
 extern "C" {
 #endif
 
-/* The limits of a table, of lists and of a run. */
+/* The limits of a table, of a list of questions and of a run. */
 enum {
     FLOW_VERSION = 1,                /* the version of tables and sheets whose variable masks have 4 bytes */
     FLOW_VERSION_2 = 2,              /* and of those whose variable masks have 8 bytes */
@@ -53,12 +52,10 @@ enum {
     FLOW_MAX_ARRAYS = 16,
     FLOW_MAX_NODES = 4096,
     FLOW_MAX_CELLS = 16384,          /* all arrays together */
-    FLOW_MAX_HARDENED_NODES = 512,   /* the most nodes of a table that flow_harden and flow_costs take */
+    FLOW_MAX_HARDENED_NODES = 512,   /* the most nodes of a table that flow_harden takes */
     FLOW_GROWTH = 8,                 /* at most this many nodes come out of flow_harden per node put in */
     FLOW_MAX_QUESTIONS = 256,        /* pairs in a list that flow_questions takes; as many bytes hold their labels */
     FLOW_QUESTION_BYTES = 4,         /* of a pair: node, then variable, 2 bytes each */
-    FLOW_MARK_BYTES = 2,             /* of a mark that flow_costs lists: a variable is its number, */
-    FLOW_ARRAY_MARK = 256,           /* and an array this plus its number */
     FLOW_MAX_SAVES = 8               /* the most saves that are open at once in a run of flow_rollback */
 };
 
@@ -66,7 +63,6 @@ enum {
 enum {
     FLOW_TABLE_BYTES = 10 + 14 + 6 * FLOW_MAX_ARRAYS + 10 * FLOW_MAX_NODES,
     FLOW_SHEET_BYTES = 18 + 18 * FLOW_MAX_NODES,
-    FLOW_COSTS_BYTES = FLOW_MARK_BYTES * (FLOW_MAX_VARIABLES - 1 + FLOW_MAX_ARRAYS),
     FLOW_SAVES_BYTES = 4 * FLOW_MAX_SAVES * (FLOW_MAX_VARIABLES + FLOW_MAX_CELLS + FLOW_MAX_NODES),
     FLOW_ANSWER_BYTES = 56
 };
@@ -116,17 +112,16 @@ enum flow_refusal {
     FLOW_NOT_A_TREE = 6,       /* a node not the last is a child never or more than once, or the last is no command;
                                   the place is the record of the lowest-numbered such node */
     FLOW_EXTRA_BYTES = 7,      /* bytes after the last node */
-    FLOW_TOO_MANY_NODES = 8,   /* hardening, or listing costs, with more than FLOW_MAX_HARDENED_NODES nodes */
-    FLOW_NO_FREE_VARIABLE = 9, /* hardening, or listing costs, with FLOW_MAX_VARIABLES variables: none is left for the
-                                  flag.  No version 1 table has so many */
+    FLOW_TOO_MANY_NODES = 8,   /* hardening with more than FLOW_MAX_HARDENED_NODES nodes */
+    FLOW_NO_FREE_VARIABLE = 9, /* hardening with FLOW_MAX_VARIABLES variables: none is left for the flag.  No
+                                  version 1 table has so many */
     FLOW_BAD_DIRECTIVES = 10,  /* directive list cut, or a wrong kind or length in it */
     FLOW_BAD_QUESTIONS = 11,   /* more than FLOW_MAX_QUESTIONS pairs, a list that ends inside a pair, a node that
                                   is not a command (one not below N too), or a variable not below V */
     FLOW_VARIABLES_LENGTH = 20, /* the variables slice is not exactly 4 V bytes */
     FLOW_CELLS_LENGTH = 21,    /* the cells slice is not exactly 4 bytes for each cell of all arrays */
     FLOW_PENDING_SHORT = 22,   /* the pending slice is shorter than 4 N bytes */
-    FLOW_OUTPUT_SHORT = 23,    /* the sheet, the list of labels, the hardened table or the list of marks is longer
-                                  than its buffer */
+    FLOW_OUTPUT_SHORT = 23,    /* the sheet, the list of labels or the hardened table is longer than its buffer */
     FLOW_SAVES_SHORT = 24      /* the saves slice is shorter than flow_saves_bytes gives */
 };
 
@@ -227,23 +222,6 @@ uint64_t flow_questions(const uint8_t *table, size_t table_len,
 uint64_t flow_harden(const uint8_t *table, size_t table_len,
                      uint8_t *out, size_t out_len,
                      uint8_t *answer, size_t answer_len);
-
-/*
- * Lists the marks of a table that cost: which single variable or array, if it were not labelled secret, would change
- * the hardened program?  A mark is a bit that is set in the labels record.  It is listed if and only if the hardened
- * table has other nodes once this one bit is cleared; what the hardened table declares, its masks too, does not count.
- * The marks stand at the front of `list`, FLOW_MARK_BYTES each: variables by rising number, then arrays by rising
- * number, each as FLOW_ARRAY_MARK plus its number.
- *   longer, too   A lifted mark mostly takes masks away.  It can also bring one: a read whose variable and index become
- *                 public has its value masked.  So the hardened table may become longer, or stay as long as it was.
- *   hidden marks  Each mark is lifted alone.  Where two marks both keep a condition or index secret, it stays so
- *                 without either, and neither is listed for it: an empty list does not say that secrets cost nothing.
- * Bytes of `list` beyond the reported length, which is twice the number of marks, are unchanged; exact length suffices.
- * Refusals: 1 to 9, 23.
- */
-uint64_t flow_costs(const uint8_t *table, size_t table_len,
-                    uint8_t *list, size_t list_len,
-                    uint8_t *answer, size_t answer_len);
 
 /*
  * Runs a table without guessing, from its root, for at most `budget` steps.

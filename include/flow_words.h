@@ -25,8 +25,7 @@ static inline const char *flow_refusal_words(uint64_t refusal)
     case FLOW_VARIABLES_LENGTH: return "the variables lent are not 4 bytes for each variable";
     case FLOW_CELLS_LENGTH: return "the cells lent are not 4 bytes for each cell";
     case FLOW_PENDING_SHORT: return "the pending list lent has fewer than 4 bytes for each node";
-    case FLOW_OUTPUT_SHORT:
-        return "the sheet, list of labels, hardened table or list of marks is longer than its buffer";
+    case FLOW_OUTPUT_SHORT: return "the sheet, list of labels or hardened table is longer than its buffer";
     case FLOW_SAVES_SHORT: return "the save words lent are fewer than flow_saves_bytes gives";
     default: return "no refusal that this release knows";
     }

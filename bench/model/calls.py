@@ -1,11 +1,11 @@
 # The calls that crates/cases plays, and what document 01 says that each leaves, by model.py.
-# `sheet`, `harden`, `run`, `guess`, `questions`, `rollback` and `costs` add a call and answer what the model gave. Worked out by hand, where given:
-# `want`, the answer's numbers, `secret`, the bytes written for a list of questions, `listed`, those of a list of marks, and `variables_left`, `cells_left`, `pending_left`,
+# `sheet`, `harden`, `run`, `guess`, `questions` and `rollback` add a call and answer what the model gave. Worked out by hand, where given:
+# `want`, the answer's numbers, `secret`, the bytes written for a list of questions, and `variables_left`, `cells_left`, `pending_left`,
 # `saves_left` and `shown`, with which those slices begin at exit.
 import model
 from model import le, over, words
-SHEET, HARDEN, RUN, GUESS, QUESTIONS, ROLLBACK, COSTS = 1, 2, 3, 4, 5, 6, 7
-NAMES = {SHEET: 'sheet', HARDEN: 'harden', RUN: 'run', GUESS: 'guess', QUESTIONS: 'questions', ROLLBACK: 'rollback', COSTS: 'costs'}
+SHEET, HARDEN, RUN, GUESS, QUESTIONS, ROLLBACK = 1, 2, 3, 4, 5, 6
+NAMES = {SHEET: 'sheet', HARDEN: 'harden', RUN: 'run', GUESS: 'guess', QUESTIONS: 'questions', ROLLBACK: 'rollback'}
 calls = []
 # what a slice holds at entry that an entry only writes
 FILL = 170
@@ -25,17 +25,11 @@ def add(entry, budget, taken, lent, numbers, left, answer, want, saves=([], []))
     calls.append((entry, budget, taken + before + [saves[0], output, filled(answer)], numbers[0],
                   [answered(numbers, filled(answer))] + after + printed + [written]))
 def writes(entry, make, table, room, answer, want):
-    numbers, out = model.writeEntry(make, list(table), filled(room), entry in (HARDEN, COSTS))
+    numbers, out = model.writeEntry(make, list(table), filled(room), entry == HARDEN)
     add(entry, 0, [list(table), []], [[], [], [], filled(room)], numbers, [[], [], [], out], answer, want)
     return numbers, out
 def sheet(table, room, answer=16, want=None, make=model.sheet): return writes(SHEET, make, table, room, answer, want)
 def harden(table, room, answer=16, want=None, make=model.hardened): return writes(HARDEN, make, table, room, answer, want)
-def costs(table, room, answer=16, want=None, listed=None, make=model.costs):
-    numbers, out = writes(COSTS, make, table, room, answer, want)
-    count = numbers[1] if numbers[0] == 0 else 0
-    if listed is not None: assert out[:count] == listed, ('call', len(calls) - 1, 'lists', out[:count], 'wanted', listed)
-    assert out[count:] == filled(room - count)   # beyond these, and after a refusal, nothing is written
-    return numbers, out
 def questions(table, asked, room, answer=16, want=None, secret=None, make=model.replies):
     """the list goes where the other entries take directives"""
     ask = lambda asked, room: model.questionsEntry(list(table), list(asked), filled(room), make)

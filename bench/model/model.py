@@ -1,4 +1,4 @@
-# Independent model of documents 01 and 02, as far as 02 has landed (tables, labels, sheet, hardener, the three machines, label questions, costs of labels, seven entries).
+# Independent model of documents 01 and 02, as far as 02 has landed (tables, labels, sheet, hardener, the three machines, label questions, six entries).
 M32 = 1 << 32
 def le(w, n): return list(int(n).to_bytes(w, 'little'))
 def un(bs): return int.from_bytes(bytes(bs), 'little')
@@ -161,14 +161,6 @@ def hardened(p):
         if k == 'write': return ('write', t[2], index(strip(t[3]), notes[n][1]), strip(t[4]))
     version = 2 if p['version'] == 2 or f + 1 == 33 else 1   # P7: "version 2 where its input is, or where it declares 33 variables; otherwise it stays version 1"
     return table(f + 1, p['vm'], p['counts'], p['am'], h(p['root']), version)
-# ---- which label costs, P8
-def costs(p, make=hardened):
-    # "A mark is listed if and only if the hardened nodes differ when that one initial label is made public. The declared masks themselves do not count as a difference."
-    def nodes(vm, am): return make(dict(p, vm=vm, am=am))[2 + p['A']:]   # behind header, labels and arrays
-    now = nodes(p['vm'], p['am'])
-    # "2 bytes each: variables by rising number, then arrays as 256 plus their number"
-    return ([le(2, x) for x in range(p['V']) if nodes(setbit(p['vm'], x, 0), p['am']) != now]
-            + [le(2, 256 + a) for a in range(p['A']) if nodes(p['vm'], setbit(p['am'], a, 0)) != now])
 # ---- evaluation and machines
 def ev(e, vs):
     k = e[1]
@@ -255,7 +247,6 @@ def writeEntry(make, tab, buf, hard=False):
     except Refused as r: return list(r.args), list(buf)
 def sheetEntry(tab, buf): return writeEntry(sheet, tab, buf)
 def hardenEntry(tab, buf): return writeEntry(hardened, tab, buf, True)
-def costsEntry(tab, buf): return writeEntry(costs, tab, buf, True)
 def questionsEntry(tab, asked, buf, make=replies):
     try:
         p = readTable(tab)

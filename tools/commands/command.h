@@ -21,7 +21,7 @@ struct command {
 };
 
 extern const struct command command_harden, command_list, command_assemble, command_explain, command_sheet, command_ask,
-    command_costs, command_run, command_attack, command_help;
+    command_run, command_attack, command_help;
 
 /* An option, and what it sets, one of three.  A list of them ends with one that has no name. */
 struct option {

@@ -10,8 +10,8 @@ static const char usage[] =
     "  Says how the commands are called, or of one of them all that flow COMMAND --help says.\n";
 
 static const struct command *const commands[] = {&command_harden, &command_list, &command_assemble, &command_explain,
-                                                 &command_sheet,  &command_ask,  &command_costs,    &command_run,
-                                                 &command_attack, &command_help};
+                                                 &command_sheet,  &command_ask,  &command_run,      &command_attack,
+                                                 &command_help};
 
 enum { COMMANDS = sizeof commands / sizeof commands[0] };
 

@@ -23,8 +23,3 @@ struct answer harden_table(const struct buffer *table, struct buffer *hardened)
 {
     return call_writer(flow_harden, table, hardened, FLOW_TABLE_BYTES);
 }
-
-struct answer list_costs(const struct buffer *table, struct buffer *marks)
-{
-    return call_writer(flow_costs, table, marks, FLOW_COSTS_BYTES);
-}

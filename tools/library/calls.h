@@ -1,4 +1,4 @@
-/* Calls of the library that label, harden and list costs, with buffers that always suffice. */
+/* Calls of the library that label and harden, with buffers that always suffice. */
 #ifndef CALLS_H
 #define CALLS_H
 
@@ -13,6 +13,5 @@ struct answer {
 /* Each appends what the entry wrote; on a refusal, nothing. */
 struct answer label_table(const struct buffer *table, struct buffer *sheet);
 struct answer harden_table(const struct buffer *table, struct buffer *hardened);
-struct answer list_costs(const struct buffer *table, struct buffer *marks);
 
 #endif

@@ -5,8 +5,7 @@
  * Messages go to standard error, findings to standard output.
  * Nothing may be undefined, leak or hang, and what is accepted must hold up: a source gives a table that the library accepts and
  * that lists and assembles again to itself, a script one that no machine refuses, a state one that prints and reads as itself.
- * A list of directives has a fault to name just where the library refuses it.  A mark of a table is listed as one that costs just
- * where hardening gives other nodes without it.
+ * A list of directives has a fault to name just where the library refuses it.
  */
 #include <stdbool.h>
 #include <stdlib.h>
@@ -14,7 +13,6 @@
 
 #include "../../bench/generate.h"
 #include "library/calls.h"
-#include "library/costs.h"
 #include "library/refusals.h"
 #include "memory.h"
 #include "text/faults.h"
@@ -372,49 +370,6 @@ static void print_all_faults(struct random *r, const struct buffer *bytes, struc
     buffer_free(&dropped);
 }
 
-/* The records of a hardened table's nodes. */
-static struct buffer nodes_of(const struct buffer *hardened)
-{
-    struct buffer nodes = {0};
-    struct table table;
-    table_open(&table, hardened);
-    buffer_append(&nodes, hardened->bytes + table.places[0], hardened->length - table.places[0]);
-    return nodes;
-}
-
-/* Does hardening without this one mark give other nodes than these? */
-static bool does_cost(const struct buffer *table, struct mark mark, const struct buffer *nodes)
-{
-    struct buffer lifted = {0}, hardened = {0};
-    lift_mark(table, mark, &lifted);
-    demand(harden_table(&lifted, &hardened).refusal == FLOW_ACCEPTED, "without a mark this is not hardened", table);
-    struct buffer others = nodes_of(&hardened);
-    bool same = same_bytes(nodes, &others);
-    buffer_free(&lifted);
-    buffer_free(&hardened);
-    buffer_free(&others);
-    return !same;
-}
-
-static void demand_costs(const struct buffer *bytes, const struct buffer *hardened)
-{
-    struct costs costs;
-    struct table table;
-    unsigned listed = 0;
-    demand(find_costs(bytes, &costs).refusal == FLOW_ACCEPTED, "this is hardened, and its costs are refused", bytes);
-    table_open(&table, bytes);
-    struct buffer nodes = nodes_of(hardened);
-    for (unsigned i = 0; i < table.variables + table.arrays; i++) {
-        struct mark mark = {i >= table.variables, i < table.variables ? i : i - table.variables};
-        const struct mark *next = listed < costs.count ? &costs.costs[listed].mark : NULL;
-        bool is_listed = next != NULL && next->array == mark.array && next->number == mark.number;
-        demand(is_listed == does_cost(bytes, mark, &nodes), "a mark of this costs and is not listed, or not and is", bytes);
-        listed += is_listed;
-    }
-    demand(listed == costs.count, "marks of this that it does not have are listed, or not in order", bytes);
-    buffer_free(&nodes);
-}
-
 static bool try_table(struct random *r)
 {
     struct buffer bytes = {0}, hardened = {0}, sheet = {0};
@@ -429,8 +384,6 @@ static bool try_table(struct random *r)
         mutate_some(r, &bytes);
     struct answer answer = harden_table(&bytes, &hardened);
     print_all_faults(r, &bytes, answer);
-    if (answer.refusal == FLOW_ACCEPTED)
-        demand_costs(&bytes, &hardened);
     bool accepted = label_table(&bytes, &sheet).refusal == FLOW_ACCEPTED;
     if (accepted) {
         struct buffer listing = list(&bytes, random_percent(r, 50));

@@ -38,7 +38,7 @@ expect "nothing stands outside the prefix" "./opt ./opt/flow" \
     "$(cd "$root/destdir" && echo $(find . -mindepth 1 -maxdepth 2 | LC_ALL=C sort))"
 expect "the link to the shared library" libflow.so.1 "$(readlink "$installed/lib/libflow.so")"
 expect "the shared library exports the entries alone" \
-    "flow_costs flow_guess flow_harden flow_questions flow_rollback flow_run flow_sheet" \
+    "flow_guess flow_harden flow_questions flow_rollback flow_run flow_sheet" \
     "$(echo $(nm -D --defined-only "$installed/lib/libflow.so.1" | awk '{print $3}' | LC_ALL=C sort))"
 
 expect "the library has no memory of its own to write, so that many threads may call it" "" \

@@ -3,8 +3,7 @@
  * versions [SEED [COUNT]]
  *   the listing:  but for its declarations; with it the labels of table and sheet in words;
  *   a run:        how it ends and why, what it shows and the state that it leaves; the other variables stay as they were;
- *   hardened:     the listing; the version is 2 where the input's is or 33 variables are declared, and none comes of 64 variables;
- *   costs:        which marks cost, and how much; refused where hardening is.
+ *   hardened:     the listing; the version is 2 where the input's is or 33 variables are declared, and none comes of 64 variables.
  * The other variables are public, and no command has them: they are named in declarations alone.
  */
 #include <stdbool.h>
@@ -12,11 +11,9 @@
 #include <string.h>
 
 #include "library/calls.h"
-#include "library/costs.h"
 #include "library/stuck.h"
 #include "memory.h"
 #include "records/little_endian.h"
-#include "text/cost_words.h"
 #include "text/ends.h"
 #include "text/labels.h"
 #include "text/program.h"
@@ -33,9 +30,9 @@ struct side {
     unsigned own, shift; /* the program's own variables: how many, and the first */
 };
 
-/* How often each was met: fronts, hardened tables by their version, tables with a mark that costs, runs by their machine. */
+/* How often each was met: fronts, hardened tables by their version, runs by their machine. */
 struct counts {
-    unsigned fronts[2], above_32, hardened[2], no_free_variable, costly, plain, guessing, stuck;
+    unsigned fronts[2], above_32, hardened[2], no_free_variable, plain, guessing, stuck;
 };
 
 static void demand(bool holds, const char *what, const struct side *one, const struct side *other)
@@ -244,31 +241,6 @@ static void check_hardened(const struct side *one, const struct side *other, str
         close_side(&others);
 }
 
-/* ---- Costs ---- */
-
-static struct buffer costs_in_words(const struct side *side, const struct costs *costs)
-{
-    struct printed printed;
-    print_open(&printed);
-    print_costs(printed.to, &side->names, costs);
-    return print_close(&printed);
-}
-
-static void check_costs(const struct side *one, const struct side *other, struct counts *counts)
-{
-    struct costs costs, others;
-    uint64_t refusal = find_costs(&one->bytes, &costs).refusal, others_refusal = find_costs(&other->bytes, &others).refusal;
-    demand(refusal == refusal_due(&one->table) && others_refusal == refusal_due(&other->table),
-           "the costs of one of these are listed or refused, and should not", one, other);
-    if (refusal != FLOW_ACCEPTED || others_refusal != FLOW_ACCEPTED)
-        return;
-    struct buffer words = costs_in_words(one, &costs), others_words = costs_in_words(other, &others);
-    demand(same_bytes(&words, &others_words), "these have other costs", one, other);
-    counts->costly += costs.count > 0;
-    buffer_free(&words);
-    buffer_free(&others_words);
-}
-
 /* ---- Programs ---- */
 
 static void check_program(uint64_t seed, unsigned number, struct counts *counts)
@@ -290,7 +262,6 @@ static void check_program(uint64_t seed, unsigned number, struct counts *counts)
     demand_same(labels_of, "these have other labels", &one, &other);
     check_runs(&r, &one, &other, counts);
     check_hardened(&one, &other, counts);
-    check_costs(&one, &other, counts);
     counts->fronts[front.version == 2]++;
     counts->above_32 += opened.variables > 0 && front.shift + opened.variables > 32;
     close_side(&one);
@@ -300,13 +271,12 @@ static void check_program(uint64_t seed, unsigned number, struct counts *counts)
 static bool print_counts(const struct counts *counts)
 {
     printf("versions: %u programs in version 1 and %u in version 2, %u with variables from 32 up; hardened %u to version 1, %u to "
-           "version 2, %u not for want of a variable, %u with a mark that costs; %u plain runs and %u with guesses, %u of them "
-           "stuck\n",
+           "version 2, %u not for want of a variable; %u plain runs and %u with guesses, %u of them stuck\n",
            counts->fronts[0], counts->fronts[1], counts->above_32, counts->hardened[0], counts->hardened[1],
-           counts->no_free_variable, counts->costly, counts->plain, counts->guessing, counts->stuck);
+           counts->no_free_variable, counts->plain, counts->guessing, counts->stuck);
     return counts->fronts[0] > 0 && counts->fronts[1] > 0 && counts->above_32 > 0 && counts->hardened[0] > 0 &&
-           counts->hardened[1] > 0 && counts->no_free_variable > 0 && counts->costly > 0 && counts->plain > 0 &&
-           counts->guessing > 0 && counts->stuck > 0;
+           counts->hardened[1] > 0 && counts->no_free_variable > 0 && counts->plain > 0 && counts->guessing > 0 &&
+           counts->stuck > 0;
 }
 
 int main(int argc, char **argv)
