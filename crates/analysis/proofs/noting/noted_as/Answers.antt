@@ -1,4 +1,6 @@
 -- `noted_as` compares both words with what `note` would store.
+use Prim.Native.Nat.{◌+◌, ◌*◌}
+use lib.ListN.{get_or}
 use mathlib.Core.Bool.{true≢false}
 use mathlib.Core.Path.{sym, ◌∙◌}
 use borrow.Author.Tests.{eqb-true}
@@ -11,7 +13,7 @@ pub returns-then-notes-at : goal.returns-then-notes-at
 unfolding second_word
 returns-then-notes-at c = λ e.
     let args = c.args in
-    note_by_words args.n args.context args.labels args.notes.now (search rules) c.if-notes-at.true (eqb-true _ _ e ∙ c.second_word.ensures)
+    note_by_words args.n args.context args.labels args.notes.now (search rules) c.if-notes-at.true (eqb-true (get_or args.notes.now (2 * args.n + 1) 0) c.second_word.result e ∙ c.second_word.ensures)
 
 pub returns : goal.returns
 returns c = λ e. absurd (true≢false (sym e))
