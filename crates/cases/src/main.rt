@@ -5,6 +5,7 @@
 // parameters. A slice is its length, how many of its bytes are given, and these; the others are 170. Numbers take 4 bytes.
 #![tactic(auto)]
 
+ghost use Rattle.std.specs.Prelude.{◌≡◌, length, OnErr};
 ghost use Rattle.std.specs.Io.{ReadsAtMost};
 
 use std::io;
@@ -29,9 +30,11 @@ fn number<R: Read>(input: &mut R) -> io::Result<u32> {
     Ok(bytes_le::get::u32_at(&word, 0))
 }
 
-// The next slice of the input, at the start of a buffer that holds 170 in every byte, and cut where that ends. Answers its length.
+// The next slice of the input, at the start of a buffer that holds 170 in every byte, and cut where that ends. Answers its length. A read that fails leaves
+// the buffer as long as it was, with what was read of the slice at its start.
 fn fill<R: Read>(input: &mut R, buffer: &mut [u8]) -> io::Result<usize>
-    ensures { ReadsAtMost result buffer.new }
+    ensures bound { ReadsAtMost result buffer.new }
+    ensures err { OnErr result (length buffer.new ≡ length buffer.old) }
 {
     let length = number(input)? as usize;
     let given = (number(input)? as usize).min(buffer.len());

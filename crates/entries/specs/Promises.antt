@@ -137,7 +137,8 @@ pub record CostsInto (table answer : List ℕ) (exit : Written) : Type 0 where
   pub answers : exit.answer ≡ answered (0 ∷ 2 * length marks ∷ []) answer
   pub numbers : take (2 * length marks) exit.buffer ≡ marks_bytes marks
 
--- THE PROMISE of the costs entry: all that stands at exit, by an equation; where it answers 0, the marks that cost; and it refuses a table as hardening does
+-- What the costs entry is to promise (no code does yet): all that stands at exit, by an equation; where it answers 0, the marks that cost; and it
+-- refuses a table as hardening does
 pub record ListsCosts (table list answer : List ℕ) (result : ℕ) (list' answer' : List ℕ) : Type 0 where
   pub older : ReadsAsBefore table
   pub writes : written_at result list' answer' ≡ costs_entry table list answer

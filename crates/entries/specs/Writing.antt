@@ -67,6 +67,6 @@ if_hardens t bytes =
 unfoldable pub costs_in : Table → Answer (List ℕ)
 costs_in t = if_hardens t (cost_bytes t)
 
--- flow_costs(table, list, answer)
+-- flow_costs(table, list, answer), which no code answers yet
 unfoldable pub costs_entry : (table list answer : List ℕ) → Written
 costs_entry table list answer = writing (and_then (read_table table) costs_in) list answer

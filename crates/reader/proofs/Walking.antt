@@ -20,7 +20,7 @@ use Rattle.awhile.proofs.Records.{sizes_most}
 use Rattle.awhile.proofs.Accepted.{NodeRead, node_read_lem}
 use Rattle.record.proofs.RecordForms.{fields_few}
 use Rattle.record.proofs.Searching.{up_to}
-use Rattle.record.proofs.Tally.{get_d_tally, occurrences_most, fields_children, fields_below, below_weaken}
+use Rattle.record.proofs.Tally.{get_or-tally, occurrences_most, fields_children, fields_below, below_weaken}
 use Rattle.awhile.specs.declared.Header.{Header}
 use Rattle.awhile.specs.declared.Node.{Node}
 use Rattle.awhile.specs.declared.Node.TheVariants.{Skip}
@@ -76,7 +76,7 @@ module _ (ns : List Node) (m : Node) where
           leads = record { decoded = leads_more d };
           offsets = offsets_more;
           heads = heads_more inside;
-          used = λ n. get_d_tally cs uses n below ∙ rw (same, uses_more n, k.used n);
+          used = λ n. get_or-tally cs uses n below ∙ rw (same, uses_more n, k.used n);
         }
 
 -- ---- the walk

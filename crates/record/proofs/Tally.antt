@@ -35,13 +35,13 @@ count_one counts n k inside = go (eqb k n) refl
     go false e = get_or-set_other counts n k (get_or counts n 0 + 1) 0 (eqb-false k n e) ∙ omega arith
 
 -- each count grows by how often its number occurs
-pub get_d_tally : (ns counts : List ℕ) (k : ℕ) → all_below (length counts) ns ≡ true → get_or (tally counts ns) k 0 ≡ get_or counts k 0 + occurrences k ns
+pub get_or-tally : (ns counts : List ℕ) (k : ℕ) → all_below (length counts) ns ≡ true → get_or (tally counts ns) k 0 ≡ get_or counts k 0 + occurrences k ns
 unfolding tally all_below occurrences
-get_d_tally [] counts k below = omega arith
-get_d_tally (n ∷ ns) counts k below =
+get_or-tally [] counts k below = omega arith
+get_or-tally (n ∷ ns) counts k below =
     let test : ℕ → Bool = λ m. ltb m (length counts) in
     let next : List ℕ = set counts n (get_or counts n 0 + 1) in
-    let rest = get_d_tally ns next k (rw (length-set counts n (get_or counts n 0 + 1)) (all_tail test n ns below)) in
+    let rest = get_or-tally ns next k (rw (length-set counts n (get_or counts n 0 + 1)) (all_tail test n ns below)) in
     omega (arith, rest, count_one counts n k (ltb-true n (length counts) (all_head test n ns below)))
 
 -- a number occurs no more often than there are numbers
@@ -95,7 +95,7 @@ module _ (counts : List ℕ) (f : Field) (fs : List Field) where
         rw e
         (record {
           below = rw (length_tally children counts) (all_second (λ n. ltb n (length counts)) children (flat_map field_children fs) room.below);
-          small = record { each = λ k. omega (arith, get_d_tally children counts k inside, room.small.each k, occurrences_most k children, field_children_lem f) };
+          small = record { each = λ k. omega (arith, get_or-tally children counts k inside, room.small.each k, occurrences_most k children, field_children_lem f) };
         })
 
   -- counting the first field's child and then the others' counts all

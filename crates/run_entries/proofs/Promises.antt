@@ -23,7 +23,7 @@ use Rattle.awhile.proofs.VersionOne.{reads_as_before}
 use Rattle.entries.specs.Promises.{ran_at, Runs, Guesses, RollsBack}
 use Rattle.entries.proofs.Rolling.{entry_rolls_back}
 use Rattle.run_entries.specs.Lengths.{enough_for, fit_for}
-use Rattle.run_entries.specs.Runs.{report_numbers, result_of, numbers_of, runnable, CameTo, not_run_lem, has_run, ReadDone}
+use Rattle.run_entries.specs.Runs.{report_numbers, result_of, numbers_of, runnable, CameTo, has_not_run, has_run, ReadDone}
 use Rattle.run_entries.specs.declared.tables.Done.{Done}
 
 -- what a call came to, as all memory at exit
@@ -33,14 +33,14 @@ exit_of lent answer d = ran_at (result_of d) lent (answered (numbers_of d) answe
 module _ (list : List ℕ) (board : Board) (budget : ℕ) (lent : Lent) (ss : List ℕ) (lent' : Lent) (ss' answer : List ℕ) where
   came_to : (a : Answer Table) (d : Done) → CameTo a list board budget lent ss lent' ss' d → running a lent budget answer (guide_of board list 0) ≡ exit_of lent' answer d
   unfolding running not_run ran_all report_of report_numbers run_numbers
-  came_to a d (not_run_lem r e same saves) = rw (e, running, same)
+  came_to a d (has_not_run r e same saves) = rw (e, running, same)
   came_to a d (has_run t r e left saves report) = rw (e, running, left, report)
 
   -- with the save words, on the board that rolls back
   came_saving : board ≡ Rolling → (a : Answer Table) (d : Done) → CameTo a list board budget lent ss lent' ss' d
       → saving_run a lent ss budget answer (guide_of board list 0) ≡ record { ran = exit_of lent' answer d; saves = ss' }
   unfolding saving_run not_run_saving ran_saving not_run ran_all report_of report_numbers run_numbers
-  came_saving rolling a d (not_run_lem r e same saves) = rw (e, saving_run, same, saves)
+  came_saving rolling a d (has_not_run r e same saves) = rw (e, saving_run, same, saves)
   came_saving rolling a d (has_run t r e left saves report) = rw (e, saving_run, left, saves rolling, report)
 
 -- ---- the entries are runs

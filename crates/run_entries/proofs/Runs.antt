@@ -34,7 +34,7 @@ use Rattle.entries.specs.Running.{Lent, ran_all, run_in}
 use Rattle.entries.specs.Rolling.{save_size}
 use Rattle.entries.specs.Promises.{lent_at}
 use Rattle.run_entries.specs.Lengths.{Small, lengths_of, fit_for}
-use Rattle.run_entries.specs.Runs.{report_numbers, result_of, numbers_of, runnable, not_run_lem, has_run, DoneAs, ReadDone}
+use Rattle.run_entries.specs.Runs.{report_numbers, result_of, numbers_of, runnable, has_not_run, has_run, DoneAs, ReadDone}
 use Rattle.run_entries.specs.declared.lengths.Lengths.{Lengths}
 use Rattle.run_entries.specs.declared.lengths.Lengths.TheVariants.{Right, Wrong}
 use Rattle.run_entries.specs.declared.tables.Done.{Done}
@@ -59,7 +59,7 @@ module _ (table index list : List ℕ) (declared : Declarations) (ready : Ready 
 
     -- refused, with the lent slices as they were
     refused_done : (r : Refusal) → runnable board list lent ss (table_of table) ≡ refused r → DoneAs table list board budget lent ss lent ss (Refused r)
-    refused_done r e = record { came = not_run_lem r e refl refl }
+    refused_done r e = record { came = has_not_run r e refl refl }
 
     module _ (reads : Bool) (is_reads : reads ≡ is_some (read_on board list)) where
       pub bad_list : reads ≡ false → DoneAs table list board budget lent ss lent ss (Refused BadDirectives)
@@ -124,7 +124,7 @@ module _ (table index list : List ℕ) (board : Board) (budget : ℕ) (lent : Le
   -- a table that the reader refuses
   pub read_refused : (found : Read) (r : Refusal) → Answers table index found → found ≡ RefusedRead r → ReadDone table list board budget lent ss lent ss (Refused r)
   unfolding and_then
-  read_refused found r answers is = record { came = not_run_lem r (rw (refusing table index r (rw is at answers))) refl refl }
+  read_refused found r answers is = record { came = has_not_run r (rw (refusing table index r (rw is at answers))) refl refl }
 
   -- a table that it accepts
   pub read_done : (lent' : Lent) (ss' : List ℕ) (d : Done) → Indexed table index → DoneAs table list board budget lent ss lent' ss' d → ReadDone table list board budget lent ss lent' ss' d

@@ -39,7 +39,7 @@ runnable board list lent saves t = check (is_some (read_on board list)) BadDirec
 
 -- what a call on an answer of the reader came to: the lent slices at exit, the save words on the board that rolls back
 pub data CameTo (a : Answer Table) (list : List ℕ) (board : Board) (budget : ℕ) (lent : Lent) (ss : List ℕ) (lent' : Lent) (ss' : List ℕ) : Done → Type 0 where
-  not_run_lem : (r : Refusal) → a ≡ refused r → lent' ≡ lent → ss' ≡ ss → CameTo a list board budget lent ss lent' ss' (Refused r)
+  has_not_run : (r : Refusal) → a ≡ refused r → lent' ≡ lent → ss' ≡ ss → CameTo a list board budget lent ss lent' ss' (Refused r)
   has_run : (t : Table) (r : Report) → a ≡ got t → lent' ≡ (ran_all t lent [] (run_in t lent budget (guide_of board list 0))).lent
       → (board ≡ Rolling → ss' ≡ saves_after (length t.nodes) (save_size t) (run_in t lent budget (guide_of board list 0)).machine.saves ss)
       → r ≡ report_of (run_in t lent budget (guide_of board list 0)) → CameTo a list board budget lent ss lent' ss' (Ended r)

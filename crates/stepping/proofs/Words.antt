@@ -16,16 +16,16 @@ le_at_same (suc width) l m at h =
     rw (le_at_next l width at, le_at_next m width at, first, rest)
 
 -- a byte outside of what was stored
-pub get_d_sets : (bs l : List ℕ) (at k : ℕ) → (k < at) ⊎ (at + length bs ≤ k) → get_or (sets l at bs) k 0 ≡ get_or l k 0
-get_d_sets [] l at k outside = refl
-get_d_sets (b ∷ bs) l at k outside =
-    get_d_sets bs (set l at b) (suc at) k (⊎_elim (λ less. inl (omega arith)) (λ more. inr (omega arith)) outside)
+pub get_or-sets : (bs l : List ℕ) (at k : ℕ) → (k < at) ⊎ (at + length bs ≤ k) → get_or (sets l at bs) k 0 ≡ get_or l k 0
+get_or-sets [] l at k outside = refl
+get_or-sets (b ∷ bs) l at k outside =
+    get_or-sets bs (set l at b) (suc at) k (⊎_elim (λ less. inl (omega arith)) (λ more. inr (omega arith)) outside)
     ∙ get_or-set_other l at k b 0 (λ e. ⊎_elim (λ less. omega arith) (λ more. omega arith) outside)
 
 -- a number outside of what was stored
 pub le_at_outside : (width : ℕ) (bs l : List ℕ) (at k : ℕ) → (k + width ≤ at) ⊎ (at + length bs ≤ k) → le_at width (sets l at bs) k ≡ le_at width l k
 le_at_outside width bs l at k outside =
-    le_at_same width (sets l at bs) l k (λ i less. get_d_sets bs l at (k + i) (⊎_elim (λ before. inl (omega arith)) (λ after. inr (omega arith)) outside))
+    le_at_same width (sets l at bs) l k (λ i less. get_or-sets bs l at (k + i) (⊎_elim (λ before. inl (omega arith)) (λ after. inr (omega arith)) outside))
 
 -- the number that was stored
 pub le_at_stored : (width n : ℕ) (l : List ℕ) (at : ℕ) → n < 256 ^ width → at + width ≤ length l → le_at width (sets l at (le width n)) at ≡ n
