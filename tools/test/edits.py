@@ -7,7 +7,8 @@ was looked at, and the edit shows nothing. The comment of an edit names the fact
 with 1 where an edit was refused otherwise, or elsewhere than its comment says, or was not tried.
 
 What has not changed since `rt ci` or `rt must-fail` tried it is not tried again. rt says of an edit the place of its first
-refusal and how the message begins. It passes over messages of proof files in which a name is missing.
+refusal and how the message begins. It passes over messages of proof files in which a name is missing, as where the edit gives
+a goal another name: an answer is then not found, and that the goal is not proved without it shows nothing either.
 """
 import glob
 import os
@@ -23,6 +24,7 @@ FACTS = (
     "lands at index",
     "expected type",
     "`omega`: the goal does not follow",
+    "list the missing equation",  # `cc`: the equations there do not give it
     "`search`: no proof of",
     "`rw`: no occurrence of",  # an equation about another value than the one that stands there now
     "give a proof of that as the last argument",  # an equation whose two sides are no longer one
@@ -33,8 +35,17 @@ FACTS = (
 def function_at(crate, path, line):
     """The function of the crate's sources in which a line stands. An edit changes no line's number."""
     with open(f"crates/{crate}/{path}") as file:
-        before = file.read().split("\n")[:line]
-    return re.findall(r"^\s*(?:pub(?:\([^)]*\))? )?(?:const )?(?:unsafe )?(?:extern \"C\" )?fn (\w+)", "\n".join(before), re.M)[-1:]
+        before = file.read().split("\n")[: int(line)]
+    head = r"^\s*(?:pub(?:\([^)]*\))? )?(?:const )?(?:unsafe )?(?:extern \"C\" )?fn (\w+)"
+    return re.findall(head, "\n".join(before), re.M)[-1]
+
+
+def is_answered(crate, function, message):
+    """Has the function's proof an answer to a goal of this kind (`returns`, ..), which the edit may have given another name?"""
+    kind = re.search(r"\(`([^`-]+)", message)
+    files = glob.glob(f"crates/{crate}/proofs/**/{function}/Answers.antt", recursive=True)
+    answers = "".join(open(file).read() for file in files)
+    return kind is None or re.search(rf"^pub {kind[1]}\b", answers, re.M) is not None
 
 
 def is_named(crate, comment, place, message):
@@ -43,7 +54,7 @@ def is_named(crate, comment, place, message):
     folder = path.split("/")[-2]
     refused = re.findall(r"`([^`]+)`", message)[:1]
     if path.startswith("src/"):
-        refused += function_at(crate, path, int(line))
+        refused.append(function_at(crate, path, line))
     elif folder.startswith("+"):
         # a goal is named after its function there
         refused += [name.split("-")[0] for name in refused]
@@ -59,6 +70,9 @@ def judged(crate, comment, said):
         return False, said
     place, message = first[1], first[2]
     fact, named = any(words in message for words in FACTS), is_named(crate, comment, place, message)
+    if place.startswith("src/"):
+        function = function_at(crate, *place.split(":")[:2])
+        fact = fact and not is_answered(crate, function, message)
     kind = "NO FACT" if not fact else "a fact" if named else "a fact that its comment does not name"
     return fact and named, f"{kind}: {place}: {message[:100]}"
 

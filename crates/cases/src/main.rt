@@ -9,7 +9,7 @@ ghost use Rattle.std.specs.Prelude.{◌≡◌, length, OnErr};
 ghost use Rattle.std.specs.Io.{ReadsAtMost};
 
 use std::io;
-use std::io::{BufReader, BufWriter, Read, Write};
+use std::io::{Read, Write};
 use streams::read_full;
 
 // The entries' numbers; any other is flow_guess. The list of a call holds directives or, for flow_questions, questions.
@@ -30,8 +30,8 @@ fn number<R: Read>(input: &mut R) -> io::Result<u32> {
     Ok(bytes_le::get::u32_at(&word, 0))
 }
 
-// The next slice of the input, at the start of a buffer that holds 170 in every byte, and cut where that ends. Answers its length. A read that fails leaves
-// the buffer as long as it was, with what was read of the slice at its start.
+// The next slice of the input, at the start of a buffer that holds 170 in every byte, and cut where that ends. Answers its length.
+// A read that fails leaves the buffer as long as it was, with what was read of the slice at its start.
 fn fill<R: Read>(input: &mut R, buffer: &mut [u8]) -> io::Result<usize>
     ensures bound { ReadsAtMost result buffer.new }
     ensures err { OnErr result (length buffer.new ≡ length buffer.old) }
@@ -192,10 +192,10 @@ fn play<R: Read, W: Write>(input: &mut R, out: &mut W) -> io::Result<()> {
 }
 
 fn main(rt: HostRuntime) -> io::Result<()> {
-    let mut input = BufReader::new(rt.alloc(), rt.stdin())?;
-    let mut out = BufWriter::new(rt.alloc(), rt.stdout())?;
+    let mut input = rt.stdin();
+    let mut out = rt.stdout();
     for _ in 0..number(&mut input)? {
         play(&mut input, &mut out)?;
     }
-    out.flush()
+    Ok(())
 }

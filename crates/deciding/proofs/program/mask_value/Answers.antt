@@ -26,11 +26,11 @@ pub returns-then-array_label : goal.returns-then-array_label
 returns-then-array_label c = let args = c.args in
     let noted = c.noted_labelling-labels.ensures in
     array_secret (label_of (note_in args.notes.now args.at).labelling (array_mark args.array)) (note_in args.notes.now args.at).context
-    (index-noted args.named.now args.cell noted c.named_label.ensures) c.if-named_label.false (array-noted args.array noted c.array_label.ensures) c.if-array_label.true
+    (index-noted args.named.now args.cell noted c.named_label.ensures) (cc) (array-noted args.array noted c.array_label.ensures) c.if-array_label.true
 
 pub returns : goal.returns
 returns c =
     let args = c.args in
     let noted = c.noted_labelling-labels.ensures in
     both_public (label_of (note_in args.notes.now args.at).labelling (array_mark args.array)) (note_in args.notes.now args.at).context
-    (index-noted args.named.now args.cell noted c.named_label.ensures) c.if-named_label.false (array-noted args.array noted c.array_label.ensures) c.if-array_label.false c.noted_context.ensures
+    (index-noted args.named.now args.cell noted c.named_label.ensures) (cc) (array-noted args.array noted c.array_label.ensures) c.if-array_label.false c.noted_context.ensures

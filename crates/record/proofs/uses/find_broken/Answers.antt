@@ -17,7 +17,7 @@ returns-then-uses-n-ne1 c = broken_child _ _ _ _ c.loop-n.invariant c.loop-n-tes
 
 -- a count that is passed is 1
 pub loop-n-preserved : goal.loop-n-preserved
-loop-n-preserved c = once_more _ _ _ _ c.loop-n.invariant c.loop-n-test.true c.if-uses-n-ne1.false
+loop-n-preserved c = once_more _ _ _ _ c.loop-n.invariant c.loop-n-test.true (omega arith)
 
 pub returns-in_default : goal.returns-in_default
 returns-in_default c = broken_root _ _ _ _ c.loop-n.invariant c.loop-n-test.false (not_command_lem _ (opened c.in_default.in_default-own.keys2))

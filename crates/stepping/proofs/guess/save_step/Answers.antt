@@ -4,13 +4,13 @@ use Rattle.std.proofs.Common.{arith}
 use Rattle.stepping.proofs.guess.save_step.Goals as goal
 
 pub returns-then-state-ge-MAX_SAVES : goal.returns-then-state-ge-MAX_SAVES
-returns-then-state-ge-MAX_SAVES c = save_stuck c.args.room _ _ _ _ _ _ c.if-state-ge-MAX_SAVES.true
+returns-then-state-ge-MAX_SAVES c = save_stuck c.args.room _ _ _ _ _ _ (omega arith)
 
 pub returns-then-room-state-lt6 : goal.returns-then-room-state-lt6
-returns-then-room-state-lt6 c = save_full _ _ _ _ _ _ _ c.if-state-ge-MAX_SAVES.false c.if-room-state-lt6.true
+returns-then-room-state-lt6 c = save_full _ _ _ _ _ _ _ (omega arith) c.if-room-state-lt6.true
 
 pub stepped-requires : goal.stepped-requires
 stepped-requires c = with_room c.args.room _ _ _ _ c.requires.0 (omega (arith, c.ranges.room)) c.requires.1 c.if-room-state-lt6.false
 
 pub returns : goal.returns
-returns c = save_goes _ _ _ _ _ _ _ c.if-state-ge-MAX_SAVES.false c.if-room-state-lt6.false _ c.stepped.ensures
+returns c = save_goes _ _ _ _ _ _ _ (omega arith) c.if-room-state-lt6.false _ c.stepped.ensures
