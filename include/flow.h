@@ -21,8 +21,8 @@
  * below.
  *
  * STACK.  A call recurses as deep as its table nests and allocates nothing.  On the deepest tables flow_sheet and
- * flow_questions take 467 KiB, flow_run, flow_guess and flow_rollback 403 KiB, flow_harden 149 KiB (measured on x86-64
- * by `make -C bench run`, as an older kit of Rattle compiled them): 1 MiB suffices.
+ * flow_questions take 339 KiB, flow_run, flow_guess and flow_rollback 147 KiB, flow_harden 121 KiB (measured on x86-64
+ * by `make -C bench run`): 1 MiB suffices.
  *
  * THREADS.  An entry keeps nothing between calls and shares nothing with other calls: what it answers depends on what
  * it is lent alone.  So entries may be called from many threads at once, without a lock, as long as no two calls at a
