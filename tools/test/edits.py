@@ -33,11 +33,14 @@ FACTS = (
 
 
 def function_at(crate, path, line):
-    """The function of the crate's sources in which a line stands. An edit changes no line's number."""
+    """The function of the crate's sources in which a line stands, or before which as an attribute. An edit changes no line's number."""
     with open(f"crates/{crate}/{path}") as file:
-        before = file.read().split("\n")[: int(line)]
+        lines = file.read().split("\n")
+    last = int(line)
+    while lines[last - 1].startswith("#["):
+        last += 1
     head = r"^\s*(?:pub(?:\([^)]*\))? )?(?:const )?(?:unsafe )?(?:extern \"C\" )?fn (\w+)"
-    return re.findall(head, "\n".join(before), re.M)[-1]
+    return re.findall(head, "\n".join(lines[:last]), re.M)[-1]
 
 
 def is_answered(crate, function, message):
