@@ -1,69 +1,42 @@
 -- The notes that an analysis leaves, built from those of a command's parts.
-use Prim.Native.Nat.{ℕ, ◌+◌, ◌*◌, ◌/◌, ◌%◌, ◌≤◌, ◌<◌}
+use Prim.Native.Nat.{ℕ, ◌+◌, ◌≤◌, ◌<◌}
 use mathlib.Core.Bool.{Bool, true, false, cond, ◌||◌}
 use mathlib.Core.List.{List}
 use mathlib.Core.Path.{◌≡◌, refl, ap, ap₂, subst, ◌∙◌}
 use native.Mathlib.Omega.{arith}
 use lib.Dec.{eqb}
-use lib.ListN.{length, get_or, set, length-set}
+use lib.ListN.{length, set, length-set}
 use lib.Seq.{get_or-set_same, get_or-set_other}
-use borrow.Author.Tests.{eq-eqb, ne_eqb, eqb-false}
+use borrow.Author.Tests.{eq-eqb, eqb-false}
 use Rattle.awhile.specs.Language.{BExp, Com, sequence, if, while, note_of}
 use Rattle.awhile.specs.declared.Labelling.{Labelling}
 use Rattle.labels.specs.Labellings.{label_of_b, join, ◌⊑◌}
 use Rattle.labels.specs.Analysis.{analyse}
 use Rattle.labels.specs.Annotation.{Entry, entered, annotate}
-use Rattle.analysis.specs.Notes.{note_in, second_word, Noted}
+use Rattle.analysis.specs.declared.noting.Note.{Note}
+use Rattle.analysis.specs.Notes.{noted, blank, note_in, Noted}
 use Rattle.awhile.specs.Standing.{standing, Distinct}
 use Rattle.analysis.specs.Warm.{kept_in, InOrder}
 use Rattle.analysis.specs.Conditions.{Analysed, SettledLoop}
-use Rattle.labels.proofs.Masks.{digit_small}
 use Rattle.analysis.proofs.Warm.{SameOn, outside_same, body_in_order, in_order_same, noted_same, noted_note, remembered_noted}
 
--- one command's note was written, and no other
-pub record NotedAt (n : ℕ) (x : Bool) (l : Labelling) (ns ns' : List ℕ) : Type 0 where
+-- one command's note was written, and no other, in a slice as long
+pub record NotedAt (n : ℕ) (x : Bool) (l : Labelling) (ns ns' : List Note) : Type 0 where
   pub here : note_in ns' n ≡ entered n x l
   pub others : (p : ℕ) → eqb p n ≡ false → note_in ns' p ≡ note_in ns p
+  pub long : length ns' ≡ length ns
 
--- a context and its digit
-digit_context : (a : ℕ) (x : Bool) → eqb ((2 * a + cond x 1 0) % 2) 1 ≡ x
-digit_context a true = eq-eqb ((2 * a + 1) % 2) 1 (omega arith)
-digit_context a false = ne_eqb ((2 * a + 0) % 2) 1 (λ e. omega arith)
-
--- two words that are an entry's are its note
-pub note_by_words : (n : ℕ) (x : Bool) (l : Labelling) (ns : List ℕ) → l.arrays < 65536 → get_or ns (2 * n) 0 ≡ l.variables → get_or ns (2 * n + 1) 0 ≡ second_word (entered n x l)
-    → note_in ns n ≡ entered n x l
-unfolding note_in second_word
-note_by_words n x l ns small e f =
-    let s = digit_small x in
-    let half : (2 * l.arrays + cond x 1 0) / 2 % 65536 ≡ l.arrays = omega arith in
-    rw (e, f) (λ i. record { node = n; context = digit_context l.arrays x i; labelling = record { variables = l.variables; arrays = half i } })
-
-module _ (n : ℕ) (x : Bool) (l : Labelling) (ns : List ℕ) (inside : 2 * n + 1 < length ns) where
-  abbrev first : List ℕ
-  first = set ns (2 * n) l.variables
-
-  noted_here : l.arrays < 65536 → note_in (set first (2 * n + 1) (second_word (entered n x l))) n ≡ entered n x l
-  noted_here small =
-      let long : 2 * n + 1 < length first = simp length-set (omega arith) in
-      note_by_words n x l (set first (2 * n + 1) (second_word (entered n x l))) small
-      (get_or-set_other first (2 * n + 1) (2 * n) (second_word (entered n x l)) 0 (λ e. omega arith) ∙ get_or-set_same ns (2 * n) l.variables 0 (omega arith))
-      (get_or-set_same first (2 * n + 1) (second_word (entered n x l)) 0 long)
-
-  noted_other : (p : ℕ) → eqb p n ≡ false → note_in (set first (2 * n + 1) (second_word (entered n x l))) p ≡ note_in ns p
-  unfolding note_in
-  noted_other p e =
-      let apart = eqb-false p n e in
-      rw (
-        get_or-set_other first (2 * n + 1) (2 * p) (second_word (entered n x l)) 0 (λ h. omega arith),
-        get_or-set_other ns (2 * n) (2 * p) l.variables 0 (λ h. apart (omega arith)),
-        get_or-set_other first (2 * n + 1) (2 * p + 1) (second_word (entered n x l)) 0 (λ h. apart (omega arith)),
-        get_or-set_other ns (2 * n) (2 * p + 1) l.variables 0 (λ h. omega arith),
-      )
-
+module _ (n : ℕ) (x : Bool) (l : Labelling) (ns : List Note) (inside : n < length ns) where
   -- what the code stores is the command's note
-  pub note_stored : l.arrays < 65536 → {ns' : List ℕ} → ns' ≡ set first (2 * n + 1) (second_word (entered n x l)) → NotedAt n x l ns ns'
-  note_stored small e = rw e (record { here = noted_here small; others = noted_other })
+  pub note_stored : {ns' : List Note} → ns' ≡ set ns n (noted x l) → NotedAt n x l ns ns'
+  unfolding note_in
+  note_stored e =
+      rw e
+      (record {
+        here = rw (get_or-set_same ns n (noted x l) blank inside) refl;
+        others = λ p h. rw (get_or-set_other ns n p (noted x l) blank (eqb-false p n h)) refl;
+        long = length-set ns n (noted x l);
+      })
 
 -- ---- what stands apart
 -- a number that stands in a part is not the whole's
@@ -75,7 +48,7 @@ apart false k h g = refl
 pub distinct_part : {c d : Com ℕ} → ((p : ℕ) → standing p d ≤ standing p c) → Distinct c → Distinct d
 distinct_part h o = record { once = λ p. omega (arith, h p, o.once p) }
 
-module _ {n : ℕ} {x : Bool} {l : Labelling} {s0 s1 : List ℕ} (w : NotedAt n x l s0 s1) where
+module _ {n : ℕ} {x : Bool} {l : Labelling} {s0 s1 : List Note} (w : NotedAt n x l s0 s1) where
   note_apart : {c : Com ℕ} → ((p : ℕ) → cond (eqb p n) 1 0 + standing p c ≤ 1) → SameOn c s0 s1
   note_apart {c} once = record { same = λ p h. w.others p (apart (eqb p n) (standing p c) (once p) h) }
 
@@ -91,26 +64,26 @@ own_apart : (n k : ℕ) → cond (eqb n n) 1 0 + k ≤ 1 → k ≡ 0
 own_apart n k h = let e : eqb n n ≡ true = eq-eqb n n refl in omega (arith, rw e at h)
 
 -- a command that stands alone leaves its own note
-pub alone_analysed : {n : ℕ} {x : Bool} {l : Labelling} {s0 s1 : List ℕ} → NotedAt n x l s0 s1
+pub alone_analysed : {n : ℕ} {x : Bool} {l : Labelling} {s0 s1 : List Note} → NotedAt n x l s0 s1
     → (c : Com ℕ) → ((p : ℕ) → standing p c ≡ cond (eqb p n) 1 0) → Noted s1 (annotate c x l) → {r : Labelling} → r ≡ analyse c x l → Analysed c x l s0 s1 r
 alone_analysed w c alone notes q =
     record { answers = q; notes = notes; outside = record { same = λ p h. note_outside w p (omega (arith, alone p)) } }
 
 -- ---- a command that is noted before its two parts are analysed, one after the other
-module _ {n : ℕ} {x : Bool} {l : Labelling} {s0 s1 : List ℕ} (w : NotedAt n x l s0 s1) (c d : Com ℕ)
+module _ {n : ℕ} {x : Bool} {l : Labelling} {s0 s1 : List Note} (w : NotedAt n x l s0 s1) (c d : Com ℕ)
     (once : (p : ℕ) → cond (eqb p n) 1 0 + standing p c + standing p d ≤ 1) where
   -- the notes are in order for the first part
   pub first_in_order : (y : Bool) (m : Labelling) → InOrder s0 c y m → InOrder s1 c y m
   first_in_order y m h = in_order_same c y m (note_apart w (λ p. omega (arith, once p))) h
 
-  module _ {y : Bool} {m r : Labelling} {s2 : List ℕ} (f : Analysed c y m s1 s2 r) where
+  module _ {y : Bool} {m r : Labelling} {s2 : List Note} (f : Analysed c y m s1 s2 r) where
     -- and for the second, once the first is analysed
     pub second_in_order : (z : Bool) (k : Labelling) → InOrder s0 d z k → InOrder s2 d z k
     second_in_order z k h =
         in_order_same d z k (outside_same {c = d} (λ p. omega (arith, once p)) f.outside)
         (in_order_same d z k (note_apart w (λ p. omega (arith, once p))) h)
 
-    module _ {z : Bool} {k s : Labelling} {s3 : List ℕ} (g : Analysed d z k s2 s3 s) where
+    module _ {z : Bool} {k s : Labelling} {s3 : List Note} (g : Analysed d z k s2 s3 s) where
       -- the whole's note stays, and so do those of the first part
       own_note : note_in s3 n ≡ entered n x l
       own_note =
@@ -129,7 +102,7 @@ module _ {n : ℕ} {x : Bool} {l : Labelling} {s0 s1 : List ℕ} (w : NotedAt n 
           }
 
 -- a sequence's parts leave what the sequence does
-pub sequence_analysed : {n : ℕ} {x : Bool} {l : Labelling} {s0 s1 s2 s3 : List ℕ} → NotedAt n x l s0 s1 → (c d : Com ℕ)
+pub sequence_analysed : {n : ℕ} {x : Bool} {l : Labelling} {s0 s1 s2 s3 : List Note} → NotedAt n x l s0 s1 → (c d : Com ℕ)
     → ((p : ℕ) → cond (eqb p n) 1 0 + standing p c + standing p d ≤ 1) → {r s : Labelling} → Analysed c x l s1 s2 r → Analysed d x r s2 s3 s
     → Analysed (sequence n c d) x l s0 s3 s
 unfolding analyse annotate standing
@@ -139,7 +112,7 @@ sequence_analysed {n} {x} {l} {s3 = s3} w c d once f g =
     (g.answers ∙ ap (analyse d x) f.answers)
 
 -- an if's sides leave what the if does
-pub if_analysed : {n : ℕ} {x : Bool} {l : Labelling} {s0 s1 s2 s3 : List ℕ} → NotedAt n x l s0 s1 → (b : BExp) (c d : Com ℕ)
+pub if_analysed : {n : ℕ} {x : Bool} {l : Labelling} {s0 s1 s2 s3 : List Note} → NotedAt n x l s0 s1 → (b : BExp) (c d : Com ℕ)
     → ((p : ℕ) → cond (eqb p n) 1 0 + standing p c + standing p d ≤ 1) → {y : Bool} {r s t : Labelling} → y ≡ (label_of_b l b || x)
     → Analysed c y l s1 s2 r → Analysed d y l s2 s3 s → t ≡ join r s → Analysed (if n b c d) x l s0 s3 t
 unfolding analyse annotate standing
@@ -149,8 +122,8 @@ if_analysed {n} {x} {l} {s3 = s3} w b c d once e f g j =
     (j ∙ ap₂ join (f.answers ∙ ap (λ z. analyse c z l) e) (g.answers ∙ ap (λ z. analyse d z l) e))
 
 -- ---- loops
-module _ (n : ℕ) (b : BExp) (c : Com ℕ) (once : (p : ℕ) → cond (eqb p n) 1 0 + standing p c ≤ 1) {x : Bool} {l : Labelling} {s0 : List ℕ} where
-  module _ {s1 : List ℕ} (w : NotedAt n x l s0 s1) where
+module _ (n : ℕ) (b : BExp) (c : Com ℕ) (once : (p : ℕ) → cond (eqb p n) 1 0 + standing p c ≤ 1) {x : Bool} {l : Labelling} {s0 : List Note} where
+  module _ {s1 : List Note} (w : NotedAt n x l s0 s1) where
     -- the notes are in order for settling the loop
     pub loop_ready : InOrder s0 (while n b c) x l
         → (kept_in s1 c ⊑ analyse (while (note_of c) b c) x l) × InOrder s1 c (label_of_b (join l (kept_in s1 c)) b || x) (join l (kept_in s1 c))
@@ -160,7 +133,7 @@ module _ (n : ℕ) (b : BExp) (c : Com ℕ) (once : (p : ℕ) → cond (eqb p n)
         body_in_order (note_of c) b c x l s (λ y m. in_order_same c y m s) h.0 h.1
 
     -- a loop's body is entered with the settled labelling
-    pub while_analysed : {s2 : List ℕ} {r : Labelling} → SettledLoop b c x l s1 s2 r → Analysed (while n b c) x l s0 s2 r
+    pub while_analysed : {s2 : List Note} {r : Labelling} → SettledLoop b c x l s1 s2 r → Analysed (while n b c) x l s0 s2 r
     unfolding analyse annotate standing
     while_analysed {s2} {r} f =
         let e : r ≡ analyse (while n b c) x l = f.answers in

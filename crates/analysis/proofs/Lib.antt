@@ -2,7 +2,6 @@
 pub mod AllPublic
 pub mod Warm
 pub mod Settling
-pub mod Held
 pub mod CommandNotes
 pub mod CommandCases
 pub mod WholeProgram

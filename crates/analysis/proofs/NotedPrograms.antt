@@ -11,11 +11,12 @@ use Rattle.labels.specs.Labellings.{label_of_b}
 use Rattle.labels.specs.Analysis.{analyse}
 use Rattle.labels.specs.Annotation.{annotate}
 use Rattle.labels.specs.Sheet.{annotated}
+use Rattle.analysis.specs.declared.noting.Note.{Note}
 use Rattle.analysis.specs.Notes.{note_in, noted_program, Noted}
 use Rattle.analysis.specs.Conditions.{Labelled}
 
 -- a program that is noted is its commands with their notes
-pub annotated_by_notes : (ns : List ℕ) (c : Com ℕ) (x : Bool) (l : Labelling) → Noted ns (annotate c x l) → annotate c x l ≡ map_notes (note_in ns) c
+pub annotated_by_notes : (ns : List Note) (c : Com ℕ) (x : Bool) (l : Labelling) → Noted ns (annotate c x l) → annotate c x l ≡ map_notes (note_in ns) c
 unfolding annotate map_notes
 annotated_by_notes ns (skip n) x l h = λ i. skip (sym h i)
 annotated_by_notes ns (assign n v e) x l h = λ i. assign (sym h i) v e
@@ -30,6 +31,6 @@ annotated_by_notes ns (read n v a j) x l h = λ i. read (sym h i) v a j
 annotated_by_notes ns (write n a j e) x l h = λ i. write (sym h i) a j e
 
 -- the program of a labelled table
-pub labelled_program : {table ns : List ℕ} {l : Labelling} → Labelled table ns l → noted_program table ns ≡ annotated (table_of table) l
+pub labelled_program : {table : List ℕ} {ns : List Note} {l : Labelling} → Labelled table ns l → noted_program table ns ≡ annotated (table_of table) l
 unfolding noted_program annotated
 labelled_program {table} {ns} {l} h = sym (annotated_by_notes ns (root_of (table_of table)) false l h.notes)

@@ -7,13 +7,13 @@ use mathlib.Core.List.{List, Memᴰ}
 use mathlib.Core.Path.{◌≡◌, refl, sym, ap, subst, ◌∙◌}
 use native.Mathlib.Decide.{dec_le}
 use native.Mathlib.Omega.{arith}
-use lib.Bits.{or_lt}
 use lib.ListN.{length}
 use Rattle.awhile.specs.Language.{BExp, Com, while, note_of}
 use Rattle.awhile.specs.declared.Labelling.{Labelling}
 use Rattle.labels.specs.Labellings.{Mark, variable_mark, array_mark, label_of, label_of_b, join, same, ◌⊑◌}
 use Rattle.labels.specs.Analysis.{analyse}
 use Rattle.labels.specs.Rules.{Settled, LabelsWithin, public_among, marks_below, declared_marks, loop_pass}
+use Rattle.analysis.specs.declared.noting.Note.{Note}
 use Rattle.analysis.specs.Warm.{Outside, kept_in, InOrder}
 use Rattle.analysis.specs.Conditions.{Analysed, SettledLoop}
 use Rattle.labels.proofs.Booleans.{or_mono}
@@ -38,27 +38,21 @@ secret_declared v a l h (array_mark y) e = go (dec_le a y)
     go (yes q) = absurd (true≢false (sym e ∙ bit_above a l.arrays y h.array_mask q))
     go (no q) = Memᴰ.append_right (marks_below variable_mark v) (mark_below array_mark a y (omega arith))
 
--- a join is within the widths of both its parts
-pub join_within : (v a : ℕ) (l m : Labelling) → LabelsWithin v a l → LabelsWithin v a m → LabelsWithin v a (join l m)
-unfolding join
-join_within v a l m h k =
-    record { variable_mask = or_lt v l.variables m.variables h.variable_mask k.variable_mask; array_mask = or_lt a l.arrays m.arrays h.array_mask k.array_mask }
-
 -- a join that adds a secret leaves fewer marks public
-pub fewer_public : (v a : ℕ) (l m : Labelling) → LabelsWithin v a l → LabelsWithin v a m → same (join l m) l ≡ false
+pub fewer_public : (v a : ℕ) (l m : Labelling) → LabelsWithin v a (join l m) → same (join l m) l ≡ false
     → public_among (declared_marks v a) (join l m) < public_among (declared_marks v a) l
-fewer_public v a l m h k e = go (dec_le (public_among (declared_marks v a) l) (public_among (declared_marks v a) (join l m)))
+fewer_public v a l m h e = go (dec_le (public_among (declared_marks v a) l) (public_among (declared_marks v a) (join l m)))
   where
     go : Dec (public_among (declared_marks v a) l ≤ public_among (declared_marks v a) (join l m)) → public_among (declared_marks v a) (join l m) < public_among (declared_marks v a) l
     go (yes q) =
-        let back : join l m ⊑ l = record { at = λ j s. public_same (join_left l m) (secret_declared v a (join l m) (join_within v a l m h k) j s) q s } in
+        let back : join l m ⊑ l = record { at = λ j s. public_same (join_left l m) (secret_declared v a (join l m) h j s) q s } in
         absurd (true≢false (sym ((same_iff (join l m) l).1 (⊑-antisym back (join_left l m))) ∙ e))
     go (no q) = omega arith
 
 -- ---- the loop's invariant
 -- Between passes: the masks are between those at the start and what the loop settles at, the kept masks of the body are in order for the
 -- next pass, and notes outside of the body are as they were.
-pub record Passing (b : BExp) (c : Com ℕ) (x : Bool) (start : Labelling) (ns : List ℕ) (m : Labelling) (ns' : List ℕ) : Type 0 where
+pub record Passing (b : BExp) (c : Com ℕ) (x : Bool) (start : Labelling) (ns : List Note) (m : Labelling) (ns' : List Note) : Type 0 where
   pub above : start ⊑ m
   pub below : m ⊑ analyse (while (note_of c) b c) x start
   pub in_order : InOrder ns' c (label_of_b m b || x) m
@@ -67,7 +61,7 @@ pub record Passing (b : BExp) (c : Com ℕ) (x : Bool) (start : Labelling) (ns :
   pub long : length ns' ≡ length ns
 
 module _ (b : BExp) (c : Com ℕ) (x : Bool) where
-  module _ (l : Labelling) (ns : List ℕ) (kept : kept_in ns c ⊑ analyse (while (note_of c) b c) x l) where
+  module _ (l : Labelling) (ns : List Note) (kept : kept_in ns c ⊑ analyse (while (note_of c) b c) x l) where
     warm_below : join l (kept_in ns c) ⊑ analyse (while (note_of c) b c) x l
     warm_below = join_least l (kept_in ns c) (loop_settles (note_of c) b c x l).above kept
 
@@ -88,13 +82,13 @@ module _ (b : BExp) (c : Com ℕ) (x : Bool) where
           long = refl;
         }
 
-  module _ {start m r k : Labelling} {y : Bool} {ns ns' os : List ℕ} (h : Passing b c x start ns m ns')
+  module _ {start m r k : Labelling} {y : Bool} {ns ns' os : List Note} (h : Passing b c x start ns m ns')
       (context : y ≡ (label_of_b m b || x)) (pass : Analysed c y m ns' os r) (joined : k ≡ join m r) where
     passed_once : r ≡ loop_pass b c x m
     passed_once = pass.answers ∙ ap (λ z. analyse c z m) context
 
     -- and again after a pass
-    pub passing_next : LabelsWithin 64 16 r → length os ≡ length ns' → Passing b c x start ns k os
+    pub passing_next : LabelsWithin 64 16 k → length os ≡ length ns' → Passing b c x start ns k os
     passing_next w e =
         let settled : Settled (loop_pass b c x) start (analyse (while (note_of c) b c) x start) = loop_settles (note_of c) b c x start in
         let up : m ⊑ join m r = join_left m r in
@@ -104,13 +98,13 @@ module _ (b : BExp) (c : Com ℕ) (x : Bool) where
           below = rw passed_once (between_pass (loop_pass b c x) (loop_pass_mono (note_of c) b c x) settled h.above h.below);
           in_order = noted_in_order os c pass.notes (rw context (or_mono (label_of_b_mono up b) (λ e. e))) up;
           outside = record { same = λ p s. pass.outside.same p s ∙ h.outside.same p s };
-          within = join_within 64 16 m r h.within w;
+          within = rw joined at w;
           long = e ∙ h.long;
         })
 
     -- a pass that adds a secret leaves fewer marks public
-    pub passing_falls : LabelsWithin 64 16 r → same k m ≡ false → public_among (declared_marks 64 16) k < public_among (declared_marks 64 16) m
-    passing_falls w e = rw joined (fewer_public 64 16 m r h.within w (rw joined at e))
+    pub passing_falls : LabelsWithin 64 16 k → same k m ≡ false → public_among (declared_marks 64 16) k < public_among (declared_marks 64 16) m
+    passing_falls w e = rw joined (fewer_public 64 16 m r (rw joined at w) (rw joined at e))
 
     -- where a pass adds no secret, its masks are the settled ones, and the body is noted with them
     pub passing_ends : {l : Labelling} → analyse (while (note_of c) b c) x start ≡ analyse (while (note_of c) b c) x l → same k m ≡ true → SettledLoop b c x l ns os m

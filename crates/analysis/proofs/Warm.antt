@@ -10,6 +10,7 @@ use Rattle.awhile.specs.declared.Labelling.{Labelling}
 use Rattle.labels.specs.Labellings.{label_of_b, join, ◌⊑◌}
 use Rattle.labels.specs.Analysis.{analyse}
 use Rattle.labels.specs.Annotation.{Entry, entered, annotate}
+use Rattle.analysis.specs.declared.noting.Note.{Note}
 use Rattle.analysis.specs.Notes.{note_in, Noted}
 use Rattle.awhile.specs.Standing.{standing}
 use Rattle.analysis.specs.Warm.{Outside, kept_in, Remembered, InOrder}
@@ -30,10 +31,10 @@ stands (read n v a i) = rw (eq-eqb n n refl) (omega arith)
 stands (write n a i e) = rw (eq-eqb n n refl) (omega arith)
 
 -- the notes of a command's commands are the same before and after
-pub record SameOn (c : Com ℕ) (ns ns' : List ℕ) : Type 0 where
+pub record SameOn (c : Com ℕ) (ns ns' : List Note) : Type 0 where
   pub same : (p : ℕ) → 1 ≤ standing p c → note_in ns' p ≡ note_in ns p
 
-module _ {ns ns' : List ℕ} where
+module _ {ns ns' : List Note} where
   -- what is the same for a command is the same for its parts
   same_part : {c d : Com ℕ} → ((p : ℕ) → standing p d ≤ standing p c) → SameOn c ns ns' → SameOn d ns ns'
   same_part h s = record { same = λ p k. s.same p (omega (arith, h p)) }
@@ -103,7 +104,7 @@ module _ {ns ns' : List ℕ} where
   in_order_same (read n v a i) x l s h = tt
   in_order_same (write n a i e) x l s h = tt
 
-module _ (ns : List ℕ) where
+module _ (ns : List Note) where
   -- the note of a noted command
   pub noted_note : (c : Com ℕ) (x : Bool) (l : Labelling) → Noted ns (annotate c x l) → note_in ns (note_of c) ≡ entered (note_of c) x l
   unfolding annotate note_of

@@ -1,5 +1,5 @@
 -- What labelling a table in memory requires and leaves.
 pub mod Notes
-pub mod Held
+pub mod Marks
 pub mod Warm
 pub mod Conditions

@@ -8,23 +8,24 @@ use Rattle.awhile.specs.declared.Labelling.{Labelling}
 use Rattle.labels.specs.Labellings.{label_of_b, join, ◌⊑◌}
 use Rattle.labels.specs.Analysis.{analyse}
 use Rattle.labels.specs.Annotation.{annotate}
+use Rattle.analysis.specs.declared.noting.Note.{Note}
 use Rattle.analysis.specs.Notes.{note_in, Noted}
 
 -- the notes of all commands other than those of a command are the same before and after
-pub record Outside (c : Com ℕ) (ns ns' : List ℕ) : Type 0 where
+pub record Outside (c : Com ℕ) (ns ns' : List Note) : Type 0 where
   pub same : (p : ℕ) → standing p c ≡ 0 → note_in ns' p ≡ note_in ns p
 
 -- what a loop last settled at, from the note of its body
-unfoldable pub kept_in : (notes : List ℕ) → (body : Com ℕ) → Labelling
+unfoldable pub kept_in : (notes : List Note) → (body : Com ℕ) → Labelling
 kept_in ns c = (note_in ns (note_of c)).labelling
 
 -- a command was last analysed as its note says: all its commands are noted as entered so
-unfoldable pub Remembered : (notes : List ℕ) → Com ℕ → Type 0
+unfoldable pub Remembered : (notes : List Note) → Com ℕ → Type 0
 Remembered ns c = Noted ns (annotate c (note_in ns (note_of c)).context (note_in ns (note_of c)).labelling)
 
 -- The notes are in order for an analysis: what is kept of a loop is no more than it settles at, the notes inside its body are in order for
 -- the pass that it starts with, and the loop was last analysed as its note says.
-module _ (ns : List ℕ) where
+module _ (ns : List Note) where
   abbrev pub InOrder : Com ℕ → (context : Bool) → Labelling → Type 0
   InOrder (skip n) x l = Unit
   InOrder (assign n v e) x l = Unit

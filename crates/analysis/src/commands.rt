@@ -1,111 +1,84 @@
 // The analysis of commands: the labelling after a command, from the one before it and a context. On the way it notes what enters each
 // command, and what is noted for a loop's body is where the loop's next analysis starts from.
-ghost use Rattle.std.specs.Prelude.{◌<◌, ◌||◌, ◌≡◌, length};
-ghost use Rattle.reader.specs.Index.{node_in, truth_in, command_in};
+// Notes and labelling are changed in place, so they are lent beside the expressions, which are read: in one struct each call would have to say, too,
+// that the memory that it lends is the same after it. Array and cell of an access are two fields of its node, and go on as they stand there.
+ghost use Rattle.std.specs.Prelude.{◌<◌, ◌||◌, ◌≡◌};
+ghost use Rattle.reader.specs.Index.{nodes_in, node_in, truth_in, command_in};
 ghost use Rattle.awhile.specs.declared.Node.TheVariants.{Sequence, If, While};
-ghost use Rattle.labels.specs.Labellings.{variable_mark, array_mark, label_of, set_label};
-ghost use Rattle.analysis.specs.Held.{held_in};
+ghost use Rattle.labels.specs.Labellings.{array_mark, label_of};
+ghost use Rattle.analysis.specs.Notes.{labels_of};
 ghost use Rattle.analysis.specs.Conditions.{label_at, SingleFits, SingleAfter, Analysable, Analysed, Settleable, SettledLoop};
 
-use crate::holding::{held, hold};
-use crate::labelling::{array_label, either, join, label_array, label_variable, same};
-use crate::noting::{note, noted_as, noted_labelling};
+use crate::labelling::{Mark, join};
+use crate::noting::Note;
 use awhile::{Labelling, Node};
-use reader::lookup::command_at;
-use variables::meeting::named_label;
+use variables::named::Expressions;
 
-// The context of what a condition guards.
-fn guarded(named: &[u64], condition: usize, context: bool, labels: Labelling) -> bool
-    requires { condition < length named.now }
-    ensures { result ≡ (label_at named.now labels condition || context) }
+// The label of an expression where a command is entered, joined with the context: that of what a condition guards, or of what is assigned.
+fn guarded(expressions: &Expressions, e: usize, entering: Note) -> bool
+    requires { e < nodes_in expressions.now.table.now }
+    ensures { result ≡ (label_at expressions.now.named.now (labels_of entering) e || entering.context) }
 {
-    either(named_label(named, labels, condition), context)
-}
-
-// The labelling after an assignment.
-fn after_assign(
-    named: &[u64],
-    variable: usize,
-    value: usize,
-    context: bool,
-    labels: Labelling,
-) -> Labelling
-    requires { (variable < 64) × (value < length named.now) }
-    ensures { result ≡ set_label labels (variable_mark variable) (label_at named.now labels value || context) }
-{
-    let secret = either(named_label(named, labels, value), context);
-    label_variable(labels, variable, secret)
+    expressions.label(entering.labels(), e) || entering.context
 }
 
 // The label that the read of an array gives to its variable.
-pub fn read_label(
-    named: &[u64],
-    array: usize,
-    cell: usize,
-    context: bool,
-    labels: Labelling,
-) -> bool
-    requires { cell < length named.now }
-    ensures { result ≡ (label_at named.now labels cell || (label_of labels (array_mark array) || context)) }
+pub fn read_label(expressions: &Expressions, array: usize, cell: usize, entering: Note) -> bool
+    requires { cell < nodes_in expressions.now.table.now }
+    ensures { result ≡ (label_at expressions.now.named.now (labels_of entering) cell
+        || (label_of (labels_of entering) (array_mark array) || entering.context)) }
 {
-    let outer = either(array_label(labels, array), context);
-    either(named_label(named, labels, cell), outer)
+    let labels = entering.labels();
+    expressions.label(labels, cell) || (Mark::Array(array).label(labels) || entering.context)
 }
 
-// The labelling after a read.
-fn after_read(
-    named: &[u64],
-    variable: usize,
-    array: usize,
-    cell: usize,
-    context: bool,
-    labels: Labelling,
-) -> Labelling
-    requires { (variable < 64) × (cell < length named.now) }
-    ensures { result ≡ set_label labels (variable_mark variable) (label_at named.now labels cell || (label_of labels (array_mark array) || context)) }
-{
-    let secret = read_label(named, array, cell, context, labels);
-    label_variable(labels, variable, secret)
-}
-
-// The labelling after a write.
-fn after_write(
-    named: &[u64],
+// The label of an array after a write.
+fn write_label(
+    expressions: &Expressions,
     array: usize,
     cell: usize,
     value: usize,
-    context: bool,
-    labels: Labelling,
-) -> Labelling
-    requires { (array < 16) × (cell < length named.now) × (value < length named.now) }
-    ensures { result ≡ set_label labels (array_mark array)
-        (label_of labels (array_mark array) || (label_at named.now labels cell || (label_at named.now labels value || context))) }
+    entering: Note,
+) -> bool
+    requires { (cell < nodes_in expressions.now.table.now) × (value < nodes_in expressions.now.table.now) }
+    ensures { result ≡ (label_of (labels_of entering) (array_mark array)
+        || (label_at expressions.now.named.now (labels_of entering) cell
+        || (label_at expressions.now.named.now (labels_of entering) value || entering.context))) }
 {
-    let outer = either(named_label(named, labels, value), context);
-    let inner = either(named_label(named, labels, cell), outer);
-    let secret = either(array_label(labels, array), inner);
-    label_array(labels, array, secret)
+    let labels = entering.labels();
+    Mark::Array(array).label(labels)
+        || (expressions.label(labels, cell) || guarded(expressions, value, entering))
 }
 
-// The labelling after a command without command parts: a skip, an assignment, a read or a write.
-fn after_single(named: &[u64], node: Node, context: bool, labels: Labelling) -> Labelling
-    requires { SingleFits (length named.now) node }
-    ensures { SingleAfter named.now node context labels result }
+// A command without command parts: a skip, an assignment, a read or a write. The labelling that enters it is changed to the one after it.
+fn follow_single(expressions: &Expressions, node: Node, context: bool, labels: &mut Labelling)
+    requires { SingleFits (nodes_in expressions.now.table.now) node }
+    ensures { SingleAfter expressions.now.named.now node context labels.old labels.new }
 {
+    let entering = Note::new(context, *labels);
     match node {
-        Node::Assign { variable, value } => after_assign(named, variable, value, context, labels),
+        Node::Assign { variable, value } => {
+            let secret = guarded(expressions, value, entering);
+            Mark::Variable(variable).set(&mut *labels, secret);
+        }
         Node::Read {
             variable,
             array,
-            index: cell,
-        } => after_read(named, variable, array, cell, context, labels),
+            index,
+        } => {
+            let secret = read_label(expressions, array, index, entering);
+            Mark::Variable(variable).set(&mut *labels, secret);
+        }
         Node::Write {
             array,
-            index: cell,
+            index,
             value,
-        } => after_write(named, array, cell, value, context, labels),
+        } => {
+            let secret = write_label(expressions, array, index, value, entering);
+            Mark::Array(array).set(&mut *labels, secret);
+        }
         // a skip; other nodes never stand here
-        _ => labels,
+        _ => {}
     }
 }
 
@@ -113,63 +86,55 @@ fn after_single(named: &[u64], node: Node, context: bool, labels: Labelling) -> 
 // joined with what the loop last settled at, which is noted for its body: nested loops then settle in few passes.
 #[cycle(commands)]
 fn settle(
-    table: &[u8],
-    index: &[u16],
-    named: &[u64],
-    notes: &mut [u64],
-    labels: &mut [u64; 2],
+    expressions: &Expressions,
+    notes: &mut [Note],
+    labels: &mut Labelling,
     condition: usize,
     body: usize,
     context: bool,
 )
-    requires { Settleable table.now index.now named.now notes.old condition body context (held_in labels.old) }
-    ensures { SettledLoop (truth_in table.now condition) (command_in table.now body) context (held_in labels.old)
-        notes.old notes.new (held_in labels.new) }
+    requires { Settleable expressions.now.table.now expressions.now.named.now notes.old condition body context labels.old }
+    ensures { SettledLoop (truth_in expressions.now.table.now condition) (command_in expressions.now.table.now body) context labels.old
+        notes.old notes.new labels.new }
 {
-    let entering = held(&*labels);
-    let kept = noted_labelling(&*notes, body);
-    let mut masks = join(entering, kept);
+    let kept = notes[body].labels();
+    let mut masks = join(*labels, kept);
     let settled = loop {
-        let inner = guarded(named, condition, context, masks);
-        hold(&mut *labels, masks);
-        analyse(table, index, named, &mut *notes, &mut *labels, body, inner);
-        let after = held(&*labels);
-        let next = join(masks, after);
-        if same(next, masks) {
+        let inner = guarded(expressions, condition, Note::new(context, masks));
+        *labels = masks;
+        analyse(expressions, &mut *notes, &mut *labels, body, inner);
+        let next = join(masks, *labels);
+        if next == masks {
             break masks;
         }
         masks = next;
     };
-    hold(&mut *labels, settled);
+    *labels = settled;
 }
 
 // A loop. Where it is entered as its note says that it last was, its body's note is the answer and no pass is made.
 #[cycle(commands)]
 fn analyse_loop(
-    table: &[u8],
-    index: &[u16],
-    named: &[u64],
-    notes: &mut [u64],
-    labels: &mut [u64; 2],
+    expressions: &Expressions,
+    notes: &mut [Note],
+    labels: &mut Labelling,
     n: usize,
     condition: usize,
     body: usize,
     context: bool,
 )
-    requires { Analysable table.now index.now named.now notes.old n context (held_in labels.old) × (node_in table.now n ≡ While condition body) }
-    ensures { Analysed (command_in table.now n) context (held_in labels.old) notes.old notes.new (held_in labels.new) }
+    requires { Analysable expressions.now.table.now notes.old n context labels.old × (node_in expressions.now.table.now n ≡ While condition body) }
+    ensures { Analysed (command_in expressions.now.table.now n) context labels.old notes.old notes.new labels.new }
 {
-    let entering = held(&*labels);
-    if noted_as(&*notes, n, context, entering) {
-        let settled = noted_labelling(&*notes, body);
-        hold(&mut *labels, settled);
+    let entered = Note::new(context, *labels);
+    let last = notes[n];
+    if last == entered {
+        *labels = notes[body].labels();
         return;
     }
-    note(&mut *notes, n, context, entering);
+    notes[n] = entered;
     settle(
-        table,
-        index,
-        named,
+        expressions,
         &mut *notes,
         &mut *labels,
         condition,
@@ -181,125 +146,100 @@ fn analyse_loop(
 // A sequence: its second part is entered with what the first leaves.
 #[cycle(commands)]
 fn analyse_sequence(
-    table: &[u8],
-    index: &[u16],
-    named: &[u64],
-    notes: &mut [u64],
-    labels: &mut [u64; 2],
+    expressions: &Expressions,
+    notes: &mut [Note],
+    labels: &mut Labelling,
     n: usize,
     first: usize,
     second: usize,
     context: bool,
 )
-    requires { Analysable table.now index.now named.now notes.old n context (held_in labels.old) × (node_in table.now n ≡ Sequence first second) }
-    ensures { Analysed (command_in table.now n) context (held_in labels.old) notes.old notes.new (held_in labels.new) }
+    requires { Analysable expressions.now.table.now notes.old n context labels.old × (node_in expressions.now.table.now n ≡ Sequence first second) }
+    ensures { Analysed (command_in expressions.now.table.now n) context labels.old notes.old notes.new labels.new }
 {
-    let entering = held(&*labels);
-    note(&mut *notes, n, context, entering);
-    analyse(
-        table,
-        index,
-        named,
-        &mut *notes,
-        &mut *labels,
-        first,
-        context,
-    );
-    analyse(
-        table,
-        index,
-        named,
-        &mut *notes,
-        &mut *labels,
-        second,
-        context,
-    );
+    notes[n] = Note::new(context, *labels);
+    analyse(expressions, &mut *notes, &mut *labels, first, context);
+    analyse(expressions, &mut *notes, &mut *labels, second, context);
 }
 
 // An if: both sides are entered with what enters it, in the context of its condition.
 #[cycle(commands)]
 fn analyse_if(
-    table: &[u8],
-    index: &[u16],
-    named: &[u64],
-    notes: &mut [u64],
-    labels: &mut [u64; 2],
+    expressions: &Expressions,
+    notes: &mut [Note],
+    labels: &mut Labelling,
     n: usize,
     condition: usize,
     yes: usize,
     no: usize,
     context: bool,
 )
-    requires { Analysable table.now index.now named.now notes.old n context (held_in labels.old) × (node_in table.now n ≡ If condition yes no) }
-    ensures { Analysed (command_in table.now n) context (held_in labels.old) notes.old notes.new (held_in labels.new) }
+    requires { Analysable expressions.now.table.now notes.old n context labels.old × (node_in expressions.now.table.now n ≡ If condition yes no) }
+    ensures { Analysed (command_in expressions.now.table.now n) context labels.old notes.old notes.new labels.new }
 {
-    let entering = held(&*labels);
-    note(&mut *notes, n, context, entering);
-    let inner = guarded(named, condition, context, entering);
-    analyse(table, index, named, &mut *notes, &mut *labels, yes, inner);
-    let left = held(&*labels);
-    hold(&mut *labels, entering);
-    analyse(table, index, named, &mut *notes, &mut *labels, no, inner);
-    let right = held(&*labels);
-    let both = join(left, right);
-    hold(&mut *labels, both);
+    let entering = *labels;
+    let entered = Note::new(context, entering);
+    notes[n] = entered;
+    let inner = guarded(expressions, condition, entered);
+    analyse(expressions, &mut *notes, &mut *labels, yes, inner);
+    let left = *labels;
+    *labels = entering;
+    analyse(expressions, &mut *notes, &mut *labels, no, inner);
+    *labels = join(left, *labels);
 }
 
 // The command of node n, in this context: the labelling that enters it is changed to the one after it.
 #[cycle(commands)]
 pub fn analyse(
-    table: &[u8],
-    index: &[u16],
-    named: &[u64],
-    notes: &mut [u64],
-    labels: &mut [u64; 2],
+    expressions: &Expressions,
+    notes: &mut [Note],
+    labels: &mut Labelling,
     n: usize,
     context: bool,
 )
-    requires { Analysable table.now index.now named.now notes.old n context (held_in labels.old) }
-    ensures { Analysed (command_in table.now n) context (held_in labels.old) notes.old notes.new (held_in labels.new) }
+    requires { Analysable expressions.now.table.now notes.old n context labels.old }
+    ensures { Analysed (command_in expressions.now.table.now n) context labels.old notes.old notes.new labels.new }
 {
-    let node = command_at(table, index, n);
+    let node = expressions.table.command(n);
     match node {
-        Node::Sequence { first, second } => analyse_sequence(
-            table,
-            index,
-            named,
-            &mut *notes,
-            &mut *labels,
-            n,
-            first,
-            second,
-            context,
-        ),
-        Node::If { condition, yes, no } => analyse_if(
-            table,
-            index,
-            named,
-            &mut *notes,
-            &mut *labels,
-            n,
-            condition,
-            yes,
-            no,
-            context,
-        ),
-        Node::While { condition, body } => analyse_loop(
-            table,
-            index,
-            named,
-            &mut *notes,
-            &mut *labels,
-            n,
-            condition,
-            body,
-            context,
-        ),
+        Node::Sequence { first, second } => {
+            analyse_sequence(
+                expressions,
+                &mut *notes,
+                &mut *labels,
+                n,
+                first,
+                second,
+                context,
+            )
+        }
+        Node::If { condition, yes, no } => {
+            analyse_if(
+                expressions,
+                &mut *notes,
+                &mut *labels,
+                n,
+                condition,
+                yes,
+                no,
+                context,
+            )
+        }
+        Node::While { condition, body } => {
+            analyse_loop(
+                expressions,
+                &mut *notes,
+                &mut *labels,
+                n,
+                condition,
+                body,
+                context,
+            )
+        }
         _ => {
-            let entering = held(&*labels);
-            note(&mut *notes, n, context, entering);
-            let after = after_single(named, node, context, entering);
-            hold(&mut *labels, after);
+            let entered = Note::new(context, *labels);
+            follow_single(expressions, node, context, &mut *labels);
+            notes[n] = entered;
         }
     }
 }

@@ -2,7 +2,7 @@
 #![tactic(auto)]
 
 pub mod commands;
-pub mod holding;
+pub mod labelled;
 pub mod labelling;
 pub mod noting;
 pub mod program;

@@ -1,35 +1,24 @@
 // The analysis of a whole program.
 ghost use Rattle.std.specs.Prelude.{◌≡◌};
 ghost use Rattle.labels.specs.Sheet.{final_labels};
-ghost use Rattle.reader.specs.Index.{table_of, nodes_in};
+ghost use Rattle.reader.specs.Index.{table_of};
 ghost use Rattle.analysis.specs.Conditions.{Fresh, Labelled};
 
 use crate::commands::analyse;
-use crate::holding::{held, hold};
+use crate::noting::Note;
 use awhile::Labelling;
+use variables::named::Expressions;
 
-// The labelling after a table's program, where it starts from this one. The notes, all zero before, are those of the program's commands after.
+// The labelling after a table's program, where it starts from this one. The notes, all blank before, are those of the program's commands after.
 pub fn label_program(
-    table: &[u8],
-    index: &[u16],
-    named: &[u64],
-    notes: &mut [u64],
-    count: usize,
-    labels: Labelling,
+    expressions: &Expressions,
+    notes: &mut [Note],
+    mut labels: Labelling,
 ) -> Labelling
-    requires { Fresh table.now index.now named.now notes.old × (count ≡ nodes_in table.now) }
-    ensures { (result ≡ final_labels (table_of table.now) labels) × Labelled table.now notes.new labels }
+    requires { Fresh expressions.now.table.now notes.old }
+    ensures { (result ≡ final_labels (table_of expressions.now.table.now) labels) × Labelled expressions.now.table.now notes.new labels }
 {
-    let mut words = [0u64; 2];
-    hold(&mut words, labels);
-    analyse(
-        table,
-        index,
-        named,
-        &mut *notes,
-        &mut words,
-        count - 1,
-        false,
-    );
-    held(&words)
+    let root = expressions.table.count() - 1;
+    analyse(expressions, &mut *notes, &mut labels, root, false);
+    labels
 }

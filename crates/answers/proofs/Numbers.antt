@@ -1,50 +1,19 @@
 -- The answer slice written number by number.
-use Prim.Native.Nat.{ℕ, ◌+◌, ◌*◌, ◌≤◌, ◌<◌}
+use Prim.Native.Nat.{ℕ, zero, suc, ◌+◌, ◌*◌, ◌/◌, ◌≤◌, ◌<◌, min}
+use native.Mathlib.Nat.{suc-add}
 use native.Mathlib.Omega.{arith}
 use mathlib.Core.Bool.{Bool, true, false}
-use mathlib.Core.List.{List, [], ◌∷◌, ◌++◌, append_assoc}
-use mathlib.Core.Path.{◌≡◌, refl, sym, ap, ap₂, ◌∙◌}
-use lib.ListN.{length, drop, length-append}
-use lib.Seq.{sets, sets-eq, take-append_seam, drop-append-add}
+use mathlib.Core.List.{List, [], ◌∷◌, ◌++◌}
+use mathlib.Core.Path.{◌≡◌, refl, sym, ap, ◌∙◌}
+use lib.ListN.{length, get_or, take, drop, length-drop}
+use lib.Seq.{sets, sets-eq}
 use lib.Dec.{leb}
 use borrow.Author.Tests.{leb-true, leb-false, le-leb, lt-leb}
+use Rattle.std.proofs.lemmas.List.{take_all}
 use Rattle.bytes_le.specs.Numbers.{le}
 use Rattle.bytes_le.proofs.Numbers.{length_le}
-use Rattle.awhile.specs.Refusals.{refusal_number, refusal_place}
-use Rattle.awhile.specs.declared.Refusal.{Refusal}
-use Rattle.entries.specs.Answers.{answered, refusal_numbers}
-use Rattle.answers.specs.Numbers.{number_put}
-
-pub number_fits : (slice : List ℕ) (at n : ℕ) → at + 8 ≤ length slice → number_put slice at n ≡ sets slice at (le 8 n)
-unfolding number_put
-number_fits slice at n h = rw (le-leb (at + 8) (length slice) h)
-
-pub number_dropped : (slice : List ℕ) (at n : ℕ) → length slice < at + 8 → number_put slice at n ≡ slice
-unfolding number_put
-number_dropped slice at n h = rw (lt-leb (at + 8) (length slice) h)
-
--- numbers one after the other from an offset
-unfoldable pub numbers_put : (at : ℕ) → List ℕ → List ℕ → List ℕ
-numbers_put at [] slice = slice
-numbers_put at (n ∷ ns) slice = numbers_put (at + 8) ns (number_put slice at n)
-
-numbers_dropped : (ns slice : List ℕ) (at : ℕ) → length slice < at + 8 → numbers_put at ns slice ≡ slice
-unfolding numbers_put
-numbers_dropped [] slice at h = refl
-numbers_dropped (n ∷ ns) slice at h =
-    ap (numbers_put (at + 8) ns) (number_dropped slice at n h) ∙ numbers_dropped ns slice (at + 8) (omega arith)
-
--- one number behind what is written already
-number_behind : (before slice : List ℕ) (n : ℕ) → 8 ≤ length slice
-    → number_put (before ++ slice) (length before) n ≡ (before ++ le 8 n) ++ drop 8 slice
-number_behind before slice n h =
-    let room : length before + 8 ≤ length (before ++ slice) = simp length-append (omega arith) in
-    let fits : length before + length (le 8 n) ≤ length (before ++ slice) = rw (length_le 8 n) room in
-    rw (number_fits (before ++ slice) (length before) n room, sets-eq (le 8 n) (before ++ slice) (length before) fits, length_le 8 n, take-append_seam before slice, drop-append-add before slice 8)
-
-answered_nothing : (slice : List ℕ) → answered [] slice ≡ slice
-unfolding answered
-answered_nothing slice = refl
+use Rattle.bytes_le.proofs.Copies.{sets_second}
+use Rattle.entries.specs.Answers.{answered}
 
 answered_fits : (n : ℕ) (ns slice : List ℕ) → 8 ≤ length slice → answered (n ∷ ns) slice ≡ le 8 n ++ answered ns (drop 8 slice)
 unfolding answered
@@ -55,49 +24,49 @@ unfolding answered
 answered_short [] slice h = refl
 answered_short (n ∷ ns) slice h = rw (lt-leb 8 (length slice) h)
 
--- the numbers behind what is written already
-numbers_behind : (ns before slice : List ℕ) → numbers_put (length before) ns (before ++ slice) ≡ before ++ answered ns slice
-unfolding numbers_put
-numbers_behind [] before slice = refl_answered
+-- no number yet, and one more behind those that are there
+pub answered_none : (ns slice : List ℕ) → slice ≡ answered (take 0 ns) slice
+unfolding answered
+answered_none ns slice = refl
+
+pub answered_more : (ns slice : List ℕ) (i : ℕ) → i < length ns → 8 * i + 8 ≤ length slice
+    → sets (answered (take i ns) slice) (8 * i) (le 8 (get_or ns i 0)) ≡ answered (take (i + 1) ns) slice
+answered_more [] slice i within fits = absurd (omega arith)
+answered_more (n ∷ ns) slice zero within fits =
+    let room : 8 ≤ length slice = fits in
+    let bytes : 0 + length (le 8 n) ≡ 8 = omega (arith, length_le 8 n) in
+    rw (← answered_none (n ∷ ns) slice, answered_fits n [] slice room, ← answered_none ns (drop 8 slice))
+    (sets-eq (le 8 n) slice 0 (omega arith) ∙ ap (λ k. le 8 n ++ drop k slice) bytes)
+answered_more (n ∷ ns) slice (suc i) within fits =
+    let room : 8 ≤ length slice = omega arith in
+    let more : take (suc i + 1) (n ∷ ns) ≡ n ∷ take (i + 1) ns = rw suc-add in
+    let place : 8 * suc i ≡ length (le 8 n) + 8 * i = omega (arith, length_le 8 n) in
+    rw (more, answered_fits n (take i ns) slice room, answered_fits n (take (i + 1) ns) slice room, place)
+    (sets_second (le 8 n) (answered (take i ns) (drop 8 slice)) (le 8 (get_or ns i 0)) (8 * i)
+    ∙ ap (λ rest. le 8 n ++ rest) (answered_more ns (drop 8 slice) i (omega arith) (simp length-drop (omega arith))))
+
+-- a number behind those that fit is dropped
+answered_whole : (k : ℕ) (ns slice : List ℕ) → length slice < 8 * k + 8 → answered (take k ns) slice ≡ answered ns slice
+answered_whole zero ns slice few = sym (answered_none ns slice) ∙ sym (answered_short ns slice few)
+answered_whole (suc k) [] slice few = refl
+answered_whole (suc k) (n ∷ ns) slice few = go (leb 8 (length slice)) refl (answered_whole k ns (drop 8 slice) (simp length-drop (omega arith)))
   where
-    refl_answered : before ++ slice ≡ before ++ answered [] slice
-    refl_answered = ap (λ (l : List ℕ). before ++ l) (sym (answered_nothing slice))
-numbers_behind (n ∷ ns) before slice = go (leb 8 (length slice)) refl (numbers_behind ns (before ++ le 8 n) (drop 8 slice))
+    go : (b : Bool) → leb 8 (length slice) ≡ b → answered (take k ns) (drop 8 slice) ≡ answered ns (drop 8 slice)
+        → answered (n ∷ take k ns) slice ≡ answered (n ∷ ns) slice
+    go true e rest =
+        let room : 8 ≤ length slice = leb-true 8 (length slice) e in
+        rw (answered_fits n (take k ns) slice room, answered_fits n ns slice room, rest)
+    go false e rest =
+        let short = leb-false 8 (length slice) e in
+        answered_short (n ∷ take k ns) slice short ∙ sym (answered_short (n ∷ ns) slice short)
+
+-- those that fit are all that are answered
+pub answered_all : (ns slice : List ℕ) (k i : ℕ) → k ≡ min (length ns) (length slice / 8) → length (take k ns) ≤ i
+    → answered (take i (take k ns)) slice ≡ answered ns slice
+answered_all ns slice k i fit end = rw (take_all i (take k ns) end) (go (leb (length ns) k) refl)
   where
-    go : (b : Bool) → leb 8 (length slice) ≡ b
-        → numbers_put (length (before ++ le 8 n)) ns ((before ++ le 8 n) ++ drop 8 slice) ≡ (before ++ le 8 n) ++ answered ns (drop 8 slice)
-        → numbers_put (length before) (n ∷ ns) (before ++ slice) ≡ before ++ answered (n ∷ ns) slice
-    go true e ih =
-        let h : 8 ≤ length slice = leb-true 8 (length slice) e in
-        let width : length (before ++ le 8 n) ≡ length before + 8 = simp (length-append, length_le 8 n) refl in
-        rw (number_behind before slice n h, ← width, ih, answered_fits n ns slice h) (append_assoc before (le 8 n) (answered ns (drop 8 slice)))
-    go false e ih =
-        let h : length slice < 8 = leb-false 8 (length slice) e in
-        let short : length (before ++ slice) < length before + 8 = simp length-append (omega arith) in
-        rw (answered_short (n ∷ ns) slice h) (numbers_dropped (n ∷ ns) (before ++ slice) (length before) short)
-
--- an answer is its numbers put one after the other from the front
-pub numbers_answered : (ns slice : List ℕ) → numbers_put 0 ns slice ≡ answered ns slice
-numbers_answered ns slice = numbers_behind ns [] slice
-
--- one number more, put behind those that are
-pub put_more : (at : ℕ) (ns : List ℕ) (n : ℕ) (slice now after : List ℕ) → now ≡ numbers_put at ns slice → after ≡ number_put now (at + 8 * length ns) n
-    → after ≡ numbers_put at (ns ++ (n ∷ [])) slice
-unfolding numbers_put
-put_more at [] n slice now after p q = q ∙ ap₂ (λ (l : List ℕ) (k : ℕ). number_put l k n) p (omega arith)
-put_more at (m ∷ ns) n slice now after p q =
-    put_more (at + 8) ns n (number_put slice at m) now after p (q ∙ ap (λ (k : ℕ). number_put now k n) (omega arith))
-
--- an answer put number by number, by one call each
-pub put_first : (n : ℕ) (slice after : List ℕ) → after ≡ number_put slice 0 n → after ≡ numbers_put 0 (n ∷ []) slice
-unfolding numbers_put
-put_first n slice after p = p
-
-pub put_answered : (ns slice after : List ℕ) → after ≡ numbers_put 0 ns slice → after ≡ answered ns slice
-put_answered ns slice after p = p ∙ numbers_answered ns slice
-
--- a refusal's number and place
-pub refusal_answered : (slice exit : List ℕ) (r : Refusal) (a b : ℕ) → exit ≡ answered (a ∷ b ∷ []) slice → a ≡ refusal_number r → b ≡ refusal_place r
-    → exit ≡ answered (refusal_numbers r) slice
-unfolding refusal_numbers
-refusal_answered slice exit r a b e p q = e ∙ ap₂ (λ (x y : ℕ). answered (x ∷ y ∷ []) slice) p q
+    go : (b : Bool) → leb (length ns) k ≡ b → answered (take k ns) slice ≡ answered ns slice
+    go true e = ap (λ l. answered l slice) (take_all k ns (leb-true (length ns) k e))
+    go false e =
+        let fewer = leb-false (length ns) k e in
+        answered_whole k ns slice (omega arith)

@@ -25,8 +25,7 @@ use Rattle.awhile.specs.declared.Header.{Header}
 use Rattle.awhile.specs.declared.Labelling.{Labelling}
 use Rattle.awhile.specs.declared.Node.{Node}
 use Rattle.awhile.specs.declared.Node.TheVariants.{Skip}
-use Rattle.awhile.specs.declared.Decoded.{Decoded}
-use Rattle.awhile.specs.declared.Decoded.TheVariants.{Known, Unknown}
+use Rattle.std.proofs.Common.{Option, Some, None}
 use Rattle.awhile.specs.declared.Refusal.{Refusal}
 use Rattle.awhile.specs.declared.Refusal.TheVariants.{BeyondLimit, OutOfRange, WrongSort}
 
@@ -80,9 +79,9 @@ cond_case : {A : Type 0} (P : A → Type 0) (b : Bool) (x y : A) → P x → P y
 cond_case P true x y p q = p
 cond_case P false x y p q = q
 
-abbrev WordsFit : Decoded → Type 0
-WordsFit (Known n) = all word_fits (form n).fields ≡ true
-WordsFit Unknown = Unit
+abbrev WordsFit : Option Node → Type 0
+WordsFit (Some n) = all word_fits (form n).fields ≡ true
+WordsFit None = Unit
 
 -- a 4-byte field that fits is the only word of what is decoded
 decoded_words : (kind f g h w : ℕ) → w < 2 ^ 32 → WordsFit (node_of kind f g h w)
@@ -244,7 +243,7 @@ module _ (s : List ℕ) where
       pub fits : NodeFits h.variables h.arrays before n
       pub there : NodeAt s at n
 
-    known_read : (at : ℕ) (before : List Node) (m n : Node) → decode_at s at ≡ Known m
+    known_read : (at : ℕ) (before : List Node) (m n : Node) → decode_at s at ≡ Some m
         → framed s at (size_of m) (check (in_range h.variables h.arrays (length before) m) (OutOfRange at) (check (sorted before m) (WrongSort at) (got m))) ≡ got n
         → NodeRead at before n
     unfolding decode_at
@@ -269,9 +268,9 @@ module _ (s : List ℕ) where
     pub node_read_lem : (at : ℕ) (before : List Node) (n : Node) → read_node h s at before ≡ got n → NodeRead at before n
     node_read_lem at before n e = go (decode_at s at) refl
       where
-        go : (d : Decoded) → decode_at s at ≡ d → NodeRead at before n
-        go Unknown d = absurd (let p = framed_passed s at 0 (got Skip) n (sym (node_unknown s at h before d) ∙ e) in omega (arith, p.some))
-        go (Known m) d = known_read at before m n d (sym (node_known s at h before m d) ∙ e)
+        go : (d : Option Node) → decode_at s at ≡ d → NodeRead at before n
+        go None d = absurd (let p = framed_passed s at 0 (got Skip) n (sym (node_unknown s at h before d) ∙ e) in omega (arith, p.some))
+        go (Some m) d = known_read at before m n d (sym (node_known s at h before m d) ∙ e)
 
     record NodesRead (left at : ℕ) (before nodes : List Node) : Type 0 where
       more : List Node
@@ -358,6 +357,31 @@ module _ (s : List ℕ) (bytes : Below 256 s) where
       (records_put h l cs ns (header_fits s h eh) (labels_fit s h (labels_start h) l el)
       (counts_fit s h.arrays (counts_start h) [] cs (omega arith) ec)
       (nodes_fit_lem s bytes h h.nodes (nodes_start h) [] ns en))))))
+
+  -- its header and its labels are what the first records read as
+  pub record HeadsRead (t : Table) : Type 0 where
+    pub header : read_header s ≡ got (header_of t)
+    pub labels : read_labels s (header_of t) (labels_start (header_of t)) ≡ got t.labels
+
+  pub heads_read : (t : Table) → read_records s ≡ got t → HeadsRead t
+  unfolding read_records sum
+  heads_read t e =
+      let Q : Type 0 = HeadsRead t in
+      then_got Q (read_header s) _ t e
+      (λ h eh e₁.
+      then_got Q (read_labels s h (labels_start h)) _ t e₁
+      (λ l el e₂.
+      then_got Q (read_counts h.arrays s (counts_start h) []) _ t e₂
+      (λ cs ec e₃.
+      then_got Q (read_nodes h.nodes h s (nodes_start h) []) _ t e₃
+      (λ ns en e₄.
+      let counts = counts_fit s h.arrays (counts_start h) [] cs (omega arith) ec in
+      let nodes = nodes_fit_lem s bytes h h.nodes (nodes_start h) [] ns en in
+      let arrays : length cs ≡ h.arrays = ap length counts.whole ∙ counts.counted in
+      let many : length ns ≡ h.nodes = ap length nodes.whole ∙ nodes.counted in
+      let same : Header = record { version = h.version; variables = h.variables; arrays = length cs; nodes = length ns } in
+      let is_header : h ≡ same = rw (arrays, many) refl in
+      rw (← got_same _ t e₄) (record { header = subst (λ (k : Header). read_header s ≡ got k) is_header eh; labels = subst (λ (k : Header). read_labels s k (labels_start k) ≡ got l) is_header el })))))
 
   -- what reads as a table was read, is one tree and has no bytes after it
   record Accepted (t : Table) : Type 0 where

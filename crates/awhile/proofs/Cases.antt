@@ -18,14 +18,13 @@ use Rattle.awhile.specs.declared.Sort.TheVariants.{Command}
 use Rattle.awhile.specs.declared.Header.{Header}
 use Rattle.awhile.specs.declared.Node.{Node}
 use Rattle.awhile.specs.declared.Node.TheVariants.{Skip}
-use Rattle.awhile.specs.declared.Decoded.{Decoded}
-use Rattle.awhile.specs.declared.Decoded.TheVariants.{Known, Unknown}
+use Rattle.std.proofs.Common.{Option, Some, None}
 use Rattle.awhile.specs.declared.Refusal.{Refusal}
 use Rattle.awhile.specs.declared.Refusal.TheVariants.{OutOfRange, WrongSort}
 
 -- ---- what was decoded
 -- one record is one node
-pub decoded_same : (d : Decoded) (m n : Node) → d ≡ Known m → d ≡ Known n → m ≡ n
+pub decoded_same : (d : Option Node) (m n : Node) → d ≡ Some m → d ≡ Some n → m ≡ n
 decoded_same d m n p q = cc
 
 module _ (s : List ℕ) (at : ℕ) where
@@ -44,14 +43,14 @@ module _ (s : List ℕ) (at : ℕ) where
   -- ---- node records
   module _ (h : Header) (before : List Node) where
     -- a record of a known kind is framed by its size, then its references and its children's sorts are checked
-    pub node_known : (n : Node) → decode_at s at ≡ Known n
+    pub node_known : (n : Node) → decode_at s at ≡ Some n
         → read_node h s at before
         ≡ framed s at (size_of n) (check (in_range h.variables h.arrays (length before) n) (OutOfRange at) (check (sorted before n) (WrongSort at) (got n)))
     unfolding read_node
     node_known n e = rw (e, read_node)
 
     -- a record of no known kind is refused by its frame
-    pub node_unknown : decode_at s at ≡ Unknown → read_node h s at before ≡ framed s at 0 (got Skip)
+    pub node_unknown : decode_at s at ≡ None → read_node h s at before ≡ framed s at 0 (got Skip)
     unfolding read_node
     node_unknown e = rw (e, read_node)
 

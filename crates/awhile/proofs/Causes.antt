@@ -13,8 +13,7 @@ use Rattle.awhile.proofs.Accepted.{refused_got}
 use Rattle.awhile.proofs.Cases.{counts_next, counts_refused, node_known, node_unknown, nodes_next, nodes_refused}
 use Rattle.awhile.specs.declared.Header.{Header}
 use Rattle.awhile.specs.declared.Node.{Node}
-use Rattle.awhile.specs.declared.Decoded.{Decoded}
-use Rattle.awhile.specs.declared.Decoded.TheVariants.{Known, Unknown}
+use Rattle.std.proofs.Common.{Option, Some, None}
 use Rattle.awhile.specs.declared.Refusal.{Refusal}
 use Rattle.awhile.specs.declared.Refusal.TheVariants.{NotATree, ExtraBytes}
 
@@ -69,9 +68,9 @@ module _ (s : List ℕ) where
   node_cause : (h : Header) (at : ℕ) (before : List Node) → ByRecord (read_node h s at before)
   node_cause h at before = go (decode_at s at) refl
     where
-      go : (d : Decoded) → decode_at s at ≡ d → ByRecord (read_node h s at before)
-      go Unknown e = subst ByRecord (sym (node_unknown s at h before e)) (by_frame _ _ _ _ (by_got _))
-      go (Known n) e =
+      go : (d : Option Node) → decode_at s at ≡ d → ByRecord (read_node h s at before)
+      go None e = subst ByRecord (sym (node_unknown s at h before e)) (by_frame _ _ _ _ (by_got _))
+      go (Some n) e =
           subst ByRecord (sym (node_known s at h before n e)) (by_frame _ _ _ _ (by_check _ _ _ (omega arith) (by_check _ _ _ (omega arith) (by_got _))))
 
   nodes_cause : (left : ℕ) (h : Header) (at : ℕ) (before : List Node) → ByRecord (read_nodes left h s at before)

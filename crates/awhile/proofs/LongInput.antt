@@ -24,8 +24,7 @@ use Rattle.awhile.proofs.Accepted.{HeaderFits, header_fits, RecordsRead, records
 use Rattle.awhile.specs.declared.Header.{Header}
 use Rattle.awhile.specs.declared.Node.{Node}
 use Rattle.awhile.specs.declared.Node.TheVariants.{Skip}
-use Rattle.awhile.specs.declared.Decoded.{Decoded}
-use Rattle.awhile.specs.declared.Decoded.TheVariants.{Known, Unknown}
+use Rattle.std.proofs.Common.{Option, Some, None}
 
 -- a table that was read ends within the longest one
 table_ends : {s : List ℕ} {t : Table} → RecordsRead s t → offset_of t (length t.nodes) ≤ longest_table
@@ -98,11 +97,11 @@ module _ (s u : List ℕ) (left : longest_table < length s) (right : longest_tab
   node_same : (h : Header) (at : ℕ) (before : List Node) → at + 10 ≤ longest_table → read_node h s at before ≡ read_node h u at before
   node_same h at before room = go (decode_at s at) refl
     where
-      go : (d : Decoded) → decode_at s at ≡ d → read_node h s at before ≡ read_node h u at before
-      go Unknown e =
+      go : (d : Option Node) → decode_at s at ≡ d → read_node h s at before ≡ read_node h u at before
+      go None e =
           node_unknown s at h before e
           ∙ (framed_same at 0 (got Skip) (got Skip) (omega arith) (omega arith) refl ∙ sym (node_unknown u at h before (sym (decode_same at room) ∙ e)))
-      go (Known n) e =
+      go (Some n) e =
           node_known s at h before n e
           ∙ (framed_same at (size_of n) _ _ (omega arith) (omega (arith, head_fits n)) refl ∙ sym (node_known u at h before n (sym (decode_same at room) ∙ e)))
 

@@ -20,7 +20,7 @@ use Rattle.awhile.specs.declared.Node.{Node}
 use Rattle.awhile.specs.declared.Node.TheVariants.{Number, Variable, Add, Subtract, Multiply, Choice}
 use Rattle.awhile.specs.declared.Node.TheVariants.{Constant, Equal, Less, Not, And}
 use Rattle.awhile.specs.declared.Node.TheVariants.{Skip, Assign, Sequence, If, While, Read, Write}
-use Rattle.awhile.specs.declared.Decoded.TheVariants.{Known}
+use Rattle.std.proofs.Common.{Some}
 
 -- the number that a field holds
 unfoldable pub field_value : Field → ℕ
@@ -84,7 +84,7 @@ module _ (s : List ℕ) (at : ℕ) where
       (first.is_number, fields_stand fs (k + field_size f) (all_tail field_fits f fs fits) first.rest)
 
   -- a record's fields, read where it has them, decode to its node
-  pub decode_fields : (n : Node) → le_at 2 s (at + 2) ≡ (form n).kind → FieldsAt s at 4 (form n).fields → decode_at s at ≡ Known n
+  pub decode_fields : (n : Node) → le_at 2 s (at + 2) ≡ (form n).kind → FieldsAt s at 4 (form n).fields → decode_at s at ≡ Some n
   unfolding form decode_at node_of field_size field_value
   decode_fields (Number n) k r = rw (k, r.0)
   decode_fields (Variable x) k r = rw (k, r.0)
@@ -178,7 +178,7 @@ module _ (s : List ℕ) (at : ℕ) (n : Node) where
   -- a node's record that stands there is read there and decodes to the node
   pub record NodeAt : Type 0 where
     pub is_length : le_at 2 s at ≡ size_of n
-    pub decoded : decode_at s at ≡ Known n
+    pub decoded : decode_at s at ≡ Some n
     pub inside : at + size_of n ≤ length s
 
   -- a node whose fields fit is read where its record stands

@@ -10,8 +10,7 @@ use Rattle.awhile.specs.declared.Node.{Node}
 use Rattle.awhile.specs.declared.Node.TheVariants.{Number, Variable, Add, Subtract, Multiply, Choice}
 use Rattle.awhile.specs.declared.Node.TheVariants.{Constant, Equal, Less, Not, And}
 use Rattle.awhile.specs.declared.Node.TheVariants.{Skip, Assign, Sequence, If, While, Read, Write}
-use Rattle.awhile.specs.declared.Decoded.{Decoded}
-use Rattle.awhile.specs.declared.Decoded.TheVariants.{Known, Unknown}
+use Rattle.std.specs.Prelude.{Option, Some, None}
 
 -- what a field holds: a 4-byte number, or in 2 bytes a constant, a variable, an array, or a child of a wanted sort
 pub data Field : Type 0 where
@@ -77,30 +76,30 @@ unfoldable pub node_bytes : Node → List ℕ
 node_bytes n = le 2 (size_of n) ++ (le 2 (form n).kind ++ flat_map field_bytes (form n).fields)
 
 -- the node of a kind, from the record's 2-byte fields and, for a number, its 4-byte field
-unfoldable pub node_of : (kind first second third word : ℕ) → Decoded
+unfoldable pub node_of : (kind first second third word : ℕ) → Option Node
 node_of kind f g h w =
-    cond (eqb kind 16) (Known (Number w))
-    (cond (eqb kind 17) (Known (Variable f))
-    (cond (eqb kind 18) (Known (Add f g))
-    (cond (eqb kind 19) (Known (Subtract f g))
-    (cond (eqb kind 20) (Known (Multiply f g))
-    (cond (eqb kind 21) (Known (Choice f g h))
-    (cond (eqb kind 32) (Known (Constant f))
-    (cond (eqb kind 33) (Known (Equal f g))
-    (cond (eqb kind 34) (Known (Less f g))
-    (cond (eqb kind 35) (Known (Not f))
-    (cond (eqb kind 36) (Known (And f g))
-    (cond (eqb kind 48) (Known Skip)
-    (cond (eqb kind 49) (Known (Assign f g))
-    (cond (eqb kind 50) (Known (Sequence f g))
-    (cond (eqb kind 51) (Known (If f g h))
-    (cond (eqb kind 52) (Known (While f g))
-    (cond (eqb kind 53) (Known (Read f g h))
-    (cond (eqb kind 54) (Known (Write f g h))
-    Unknown)))))))))))))))))
+    cond (eqb kind 16) (Some (Number w))
+    (cond (eqb kind 17) (Some (Variable f))
+    (cond (eqb kind 18) (Some (Add f g))
+    (cond (eqb kind 19) (Some (Subtract f g))
+    (cond (eqb kind 20) (Some (Multiply f g))
+    (cond (eqb kind 21) (Some (Choice f g h))
+    (cond (eqb kind 32) (Some (Constant f))
+    (cond (eqb kind 33) (Some (Equal f g))
+    (cond (eqb kind 34) (Some (Less f g))
+    (cond (eqb kind 35) (Some (Not f))
+    (cond (eqb kind 36) (Some (And f g))
+    (cond (eqb kind 48) (Some Skip)
+    (cond (eqb kind 49) (Some (Assign f g))
+    (cond (eqb kind 50) (Some (Sequence f g))
+    (cond (eqb kind 51) (Some (If f g h))
+    (cond (eqb kind 52) (Some (While f g))
+    (cond (eqb kind 53) (Some (Read f g h))
+    (cond (eqb kind 54) (Some (Write f g h))
+    None)))))))))))))))))
 
 -- what the record at an offset decodes to, whatever its length says
-unfoldable pub decode_at : List ℕ → (at : ℕ) → Decoded
+unfoldable pub decode_at : List ℕ → (at : ℕ) → Option Node
 decode_at s at = node_of (le_at 2 s (at + 2)) (le_at 2 s (at + 4)) (le_at 2 s (at + 6)) (le_at 2 s (at + 8)) (le_at 4 s (at + 4))
 
 -- ---- references to other things

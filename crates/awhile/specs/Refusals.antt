@@ -1,6 +1,6 @@
 -- Document 01's number and place for each refusal ("A refusal's answer: number and place"; the place is 0 from 8 up),
 -- and answers that may be refusals.
-use Rattle.std.specs.Prelude.{ℕ, Bool, true, false}
+use Rattle.std.specs.Prelude.{ℕ, Bool, true, false, Result, Ok, Err}
 use Rattle.awhile.specs.declared.Refusal.{Refusal}
 use Rattle.awhile.specs.declared.Refusal.TheVariants.{Cut, WrongRecord, BeyondLimit, OutOfRange, WrongSort, NotATree, ExtraBytes}
 use Rattle.awhile.specs.declared.Refusal.TheVariants.{TooManyNodes, NoFreeVariable, BadDirectives, BadQuestions}
@@ -46,6 +46,15 @@ refusal_place ShortSaves = 0
 pub data Answer (A : Type 0) : Type 0 where
   refused : Refusal → Answer A
   got : A → Answer A
+
+-- no value is asked for: it passes
+abbrev pub passed : Answer (Unit {0})
+passed = got tt
+
+-- the same as the code answers it
+unfoldable pub as_result : {A : Type 0} → Answer A → Result A Refusal
+as_result (refused r) = Err r
+as_result (got a) = Ok a
 
 -- what is wanted to hold, the refusal where it does not, the answer where it does
 unfoldable pub check : {A : Type 0} → Bool → Refusal → Answer A → Answer A

@@ -12,7 +12,7 @@ use Rattle.awhile.specs.declared.Labelling.{Labelling}
 use Rattle.awhile.specs.declared.Sort.TheVariants.{Command}
 use Rattle.awhile.specs.declared.Node.{Node}
 use Rattle.awhile.specs.declared.Node.TheVariants.{Skip}
-use Rattle.awhile.specs.declared.Decoded.TheVariants.{Known, Unknown}
+use Rattle.std.specs.Prelude.{Some, None}
 use Rattle.awhile.specs.declared.Refusal.TheVariants.{Cut, WrongRecord, BeyondLimit, OutOfRange, WrongSort, NotATree, ExtraBytes}
 
 -- ---- versions: "Version 2 tables and sheets carry 8-byte variable masks and declare up to 64 variables .. Version 1 files still read as
@@ -143,8 +143,8 @@ read_counts (suc left) s at before =
 unfoldable pub read_node : Header → List ℕ → (at : ℕ) → List Node → Answer Node
 read_node h s at before =
     elim (decode_at s at) [
-      | Unknown ↦ framed s at 0 (got Skip)
-      | Known n ↦
+      | None ↦ framed s at 0 (got Skip)
+      | Some n ↦
           framed s at (size_of n)
           (check (in_range h.variables h.arrays (length before) n) (OutOfRange at)
           (check (sorted before n) (WrongSort at)

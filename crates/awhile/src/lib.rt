@@ -11,7 +11,7 @@ pub const MAX_NODES: usize = 4096;
 pub const MAX_CELLS: usize = 16384;
 
 // What a node stands for: a number, a truth value or a command.
-#[derive(Clone, Copy)]
+#[derive(Clone, Copy, PartialEq, Eq)]
 pub enum Sort {
     Numeric,
     Truth,
@@ -19,7 +19,7 @@ pub enum Sort {
 }
 
 // One record of a node, with its child, variable and array numbers.
-#[derive(Clone, Copy)]
+#[derive(Clone, Copy, PartialEq, Eq)]
 pub enum Node {
     Number {
         value: u32,
@@ -92,22 +92,16 @@ pub enum Node {
     },
 }
 
-// What a kind and its fields decode to.
-#[derive(Clone, Copy)]
-pub enum Decoded {
-    Known { node: Node },
-    Unknown,
-}
-
 // The secret marks of variables and arrays: bit n is set where number n is secret.
-#[derive(Clone, Copy)]
+#[derive(Clone, Copy, PartialEq, Eq)]
 pub struct Labelling {
     pub variables: u64,
     pub arrays: u16,
 }
 
-// What a table's header says: its version, and how many variables, arrays and nodes there are.
-#[derive(Clone, Copy)]
+// What a table's header says: its version, and how many variables, arrays and nodes there are. The version is a number as it stands in the bytes,
+// since the definitions (`Table`, `known_version` and `mask_bytes` of specs/Tables) are of any number.
+#[derive(Clone, Copy, PartialEq, Eq)]
 pub struct Header {
     pub version: usize,
     pub variables: usize,
@@ -116,7 +110,7 @@ pub struct Header {
 }
 
 // All that a table declares: its header, how many cells its arrays have together, and its labels.
-#[derive(Clone, Copy)]
+#[derive(Clone, Copy, PartialEq, Eq)]
 pub struct Declarations {
     pub header: Header,
     pub cells: usize,
@@ -124,7 +118,7 @@ pub struct Declarations {
 }
 
 // Why a call is refused, with the byte offset of the place where there is one.
-#[derive(Clone, Copy)]
+#[derive(Clone, Copy, PartialEq, Eq)]
 pub enum Refusal {
     // 1: the table ends inside a record
     Cut { at: usize },

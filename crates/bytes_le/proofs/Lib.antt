@@ -4,6 +4,8 @@ pub mod Numbers
 pub mod Words
 pub mod Pieces
 pub mod Loads
+pub mod Padded
 pub mod Stores
+pub mod StdNumbers
 pub mod Copies
 pub mod Zeros

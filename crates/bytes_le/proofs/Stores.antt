@@ -51,6 +51,9 @@ le_above (suc width) a b =
     let rest : (a + 256 * upper) / 256 ≡ a / 256 + upper = omega arith in
     rw (whole, first, rest, le_above width (a / 256) b)
 
--- the four lowest bytes of a number are those of its remainder
+-- the lowest bytes of a number are those of its remainder
+pub le_low : (width n : ℕ) → le width (n % 256 ^ width) ≡ le width n
+le_low width n = sym (le_above width (n % 256 ^ width) (n / 256 ^ width)) ∙ ap (le width) (mod-add-div n (256 ^ width))
+
 pub le_four : (n : ℕ) → le 4 (n % 4294967296) ≡ le 4 n
-le_four n = sym (le_above 4 (n % 4294967296) (n / 4294967296)) ∙ ap (le 4) (mod-add-div n 4294967296)
+le_four = le_low 4

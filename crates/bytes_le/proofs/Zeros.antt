@@ -1,41 +1,34 @@
--- Words that are 0, one more at a time: what code that clears them computes.
-use Prim.Native.Nat.{ℕ, zero, suc, ◌+◌, ◌*◌, ◌-◌, ◌≤◌}
-use native.Mathlib.Nat.{sub_self}
+-- Words that are 0, and what code that clears them computes.
+use Prim.Native.Nat.{ℕ, zero, suc, ◌*◌, ◌-◌, ◌≤◌}
 use native.Mathlib.Omega.{arith}
-use mathlib.Core.Path.{◌≡◌, refl, sym, ap, ◌∙◌}
-use mathlib.Core.List.{List, [], ◌∷◌, ◌++◌, append-nil}
-use lib.ListN.{length, replicate, length-replicate}
-use lib.Seq.{sets}
+use mathlib.Core.Path.{◌≡◌, refl, ap, ◌∙◌}
+use mathlib.Core.List.{List}
+use borrow.Rule.Slice.PartMut.{put_mid}
+use lib.ListN.{length, replicate, take, drop, length-replicate, length-drop}
+use lib.Seq.{sets, length-take-le}
 use Rattle.bytes_le.specs.Numbers.{le, words}
-use Rattle.bytes_le.proofs.Words.{length_words, words_append}
-use Rattle.bytes_le.proofs.Stores.{sets-append}
+use Rattle.bytes_le.proofs.Words.{length_words}
+use Rattle.bytes_le.proofs.Copies.{part_stored}
 
--- one zero more at the end
-zeros_more : (k : ℕ) → replicate {A = ℕ} (suc k) 0 ≡ replicate k 0 ++ (0 ∷ [])
-zeros_more zero = refl
-zeros_more (suc k) = ap (λ zs. 0 ∷ zs) (zeros_more k)
-
-words_zeros : (k : ℕ) → words (replicate (suc k) 0) ≡ words (replicate k 0) ++ le 4 0
-unfolding words
-words_zeros k =
-    ap words (zeros_more k) ∙ words_append (replicate k 0) (0 ∷ []) ∙ ap (λ last. words (replicate k 0) ++ last) (append-nil (le 4 0))
+-- bytes that are 0 are words that are 0, a fourth as many
+zero_bytes : (k n : ℕ) → n ≡ 4 * k → replicate n 0 ≡ words (replicate k 0)
+unfolding words le
+zero_bytes zero n e = rw e
+zero_bytes (suc k) n e =
+    let four : n ≡ suc (suc (suc (suc (4 * k)))) = omega arith in
+    rw (four, zero_bytes k (4 * k) refl)
 
 -- four bytes for each
 pub length_zeros : (k : ℕ) → length (words (replicate k 0)) ≡ 4 * k
 length_zeros k = length_words (replicate k 0) ∙ ap (λ n. 4 * n) (length-replicate k 0)
 
--- no word is cleared yet, and one word more
-pub cleared_none : (bs : List ℕ) (from : ℕ) → bs ≡ sets bs (4 * from) (words (replicate (from - from) 0))
-unfolding words
-cleared_none bs from = rw (sub_self from)
-
-pub cleared_more : (bs : List ℕ) (from at : ℕ) → from ≤ at
-    → sets (sets bs (4 * from) (words (replicate (at - from) 0))) (4 * at) (le 4 0) ≡ sets bs (4 * from) (words (replicate (at + 1 - from) 0))
-cleared_more bs from at h =
-    let k : ℕ = at - from in
-    let next : at + 1 - from ≡ suc k = omega arith in
-    let size : length (words (replicate k 0)) ≡ 4 * k = length_zeros k in
-    let place : 4 * at ≡ 4 * from + length (words (replicate k 0)) = omega arith in
-    ap (λ n. sets (sets bs (4 * from) (words (replicate k 0))) n (le 4 0)) place
-    ∙ sym (sets-append (words (replicate k 0)) (le 4 0) bs (4 * from))
-    ∙ ap (sets bs (4 * from)) (sym (words_zeros k) ∙ ap (λ n. words (replicate n 0)) (sym next))
+-- a part of a list that is filled with bytes that are 0: as many words are stored there
+pub part_cleared : (l filled : List ℕ) (from to : ℕ) → 4 * to ≤ length l
+    → filled ≡ replicate (length (take (4 * to - 4 * from) (drop (4 * from) l))) 0 → from ≤ to
+    → put_mid (4 * from) (4 * to - 4 * from) l filled ≡ sets l (4 * from) (words (replicate (to - from) 0))
+part_cleared l filled from to inside zeros ordered =
+    let size : ℕ = 4 * to - 4 * from in
+    let part : List ℕ = take size (drop (4 * from) l) in
+    let long : length part ≡ size = length-take-le size (drop (4 * from) l) (simp length-drop (omega arith)) in
+    part_stored l filled (4 * from) size (ap length zeros ∙ length-replicate (length part) 0) (omega arith)
+    ∙ ap (sets l (4 * from)) (zeros ∙ zero_bytes (to - from) (length part) (omega arith))

@@ -4,4 +4,5 @@
 pub mod clear;
 pub mod copy;
 pub mod get;
+pub mod little_endian;
 pub mod put;

@@ -1,14 +1,18 @@
-// Numbers written into bytes, the lowest byte first.
+// Numbers written into bytes, the lowest byte first. Each width has its function over the one `store`: its contract says the width as a number,
+// with no word of the trait, and `put8` and `put16` take any number of a caller's and store its lowest bytes.
 ghost use Rattle.std.specs.Prelude.{◌+◌, ◌≤◌, ◌≡◌, length};
 ghost use Rattle.std.proofs.lemmas.List.Edits.{sets};
 ghost use Rattle.bytes_le.specs.Numbers.{le};
+
+use crate::little_endian::LittleEndian;
 
 // A number in 1 byte at an offset.
 pub fn put8(out: &mut [u8], at: usize, v: usize)
     requires { at + 1 ≤ length out.old }
     ensures { out.new ≡ sets out.old at (le 1 v) }
 {
-    out[at] = (v % 256) as u8;
+    let low = (v % 256) as u8;
+    low.store(out, at);
 }
 
 // A number in 2 bytes at an offset.
@@ -16,8 +20,8 @@ pub fn put16(out: &mut [u8], at: usize, v: usize)
     requires { at + 2 ≤ length out.old }
     ensures { out.new ≡ sets out.old at (le 2 v) }
 {
-    out[at] = (v % 256) as u8;
-    out[at + 1] = (v / 256 % 256) as u8;
+    let low = (v % 65536) as u16;
+    low.store(out, at);
 }
 
 // A number in 4 bytes at an offset.
@@ -25,8 +29,7 @@ pub fn put32(out: &mut [u8], at: usize, v: u32)
     requires { at + 4 ≤ length out.old }
     ensures { out.new ≡ sets out.old at (le 4 v) }
 {
-    put16(&mut *out, at, (v % 65536) as usize);
-    put16(&mut *out, at + 2, (v / 65536) as usize);
+    v.store(out, at);
 }
 
 // A number in 8 bytes at an offset.
@@ -34,6 +37,5 @@ pub fn put64(out: &mut [u8], at: usize, v: u64)
     requires { at + 8 ≤ length out.old }
     ensures { out.new ≡ sets out.old at (le 8 v) }
 {
-    put32(&mut *out, at, (v % 4294967296) as u32);
-    put32(&mut *out, at + 4, (v / 4294967296) as u32);
+    v.store(out, at);
 }

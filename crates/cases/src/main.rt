@@ -1,33 +1,81 @@
 // Plays calls of Flow's entries that stand on standard input, and prints what each leaves: a line with the entry's name and the result,
 // then a line of hexadecimal for each slice it was lent for writing, as it is at exit. Save words are printed for flow_rollback alone.
 //
-// The input is the number of calls and then the calls. A call is the entry, the budget and eight slices, in the order of `call`'s
-// parameters. A slice is its length, how many of its bytes are given, and these; the others are 170. Numbers take 4 bytes.
+// The input is the number of calls and then the calls. A call is the entry, the budget and eight slices, in the order of the fields of
+// `Call`. A slice is its length, how many of its bytes are given, and these; the others are 170. Numbers take 4 bytes.
 #![tactic(auto)]
 
 ghost use Rattle.std.specs.Prelude.{◌≡◌, length, OnErr};
 ghost use Rattle.std.specs.Io.{ReadsAtMost};
 
-use std::io;
+use flow::ask::flow_questions;
+use flow::harden::flow_harden;
+use flow::machines::{flow_guess, flow_rollback, flow_run};
+use flow::sheet::flow_sheet;
 use std::io::{Read, Write};
+use std::{fmt, io};
 use streams::read_full;
 
-// The entries' numbers; any other is flow_guess. The list of a call holds directives or, for flow_questions, questions.
-const SHEET: u32 = 1;
+// A byte of a slice that the input does not give.
+const REST: u8 = 170;
 
-const HARDEN: u32 = 2;
+#[derive(Clone, Copy, PartialEq, Eq)]
+enum Entry {
+    Sheet,
+    Harden,
+    Run,
+    Guess,
+    Questions,
+    Rollback,
+}
 
-const RUN: u32 = 3;
+// No number is refused, and what is none of an entry plays `flow_guess`, so it is a `From` and no `TryFrom`.
+impl From<u32> for Entry {
+    fn from(number: u32) -> Entry {
+        match number {
+            1 => Entry::Sheet,
+            2 => Entry::Harden,
+            3 => Entry::Run,
+            5 => Entry::Questions,
+            6 => Entry::Rollback,
+            _ => Entry::Guess,
+        }
+    }
+}
 
-const QUESTIONS: u32 = 5;
+impl fmt::Display for Entry {
+    fn fmt<W: fmt::Write>(&self, f: &mut fmt::Formatter<W>) -> fmt::Result {
+        f.write_str(match self {
+            Entry::Sheet => "sheet",
+            Entry::Harden => "harden",
+            Entry::Run => "run",
+            Entry::Guess => "guess",
+            Entry::Questions => "questions",
+            Entry::Rollback => "rollback",
+        })
+    }
+}
 
-const ROLLBACK: u32 = 6;
+// A call. The list holds directives or, for flow_questions, questions.
+#[derive(Drop)]
+struct Call<'a> {
+    entry: Entry,
+    budget: u32,
+    table: &'a [u8],
+    list: &'a [u8],
+    variables: &'a mut [u8],
+    cells: &'a mut [u8],
+    pending: &'a mut [u8],
+    saves: &'a mut [u8],
+    output: &'a mut [u8],
+    answer: &'a mut [u8],
+}
 
 // The next number of the input.
 fn number<R: Read>(input: &mut R) -> io::Result<u32> {
     let mut word = [0u8; 4];
     read_full(input, &mut word)?;
-    Ok(bytes_le::get::u32_at(&word, 0))
+    Ok(u32::from_le_bytes(word))
 }
 
 // The next slice of the input, at the start of a buffer that holds 170 in every byte, and cut where that ends. Answers its length.
@@ -42,9 +90,10 @@ fn fill<R: Read>(input: &mut R, buffer: &mut [u8]) -> io::Result<usize>
     Ok(length.min(buffer.len()))
 }
 
-// Ends a line of the output.
-fn end_line<W: Write>(out: &mut W) -> io::Result<()> {
-    out.write_all(b"\n")
+// The same, as the slice.
+fn filled<'a, R: Read>(input: &mut R, buffer: &'a mut [u8]) -> io::Result<&'a mut [u8]> {
+    let length = fill(input, buffer)?;
+    Ok(&mut buffer[..length])
 }
 
 // A line of hexadecimal.
@@ -52,143 +101,89 @@ fn print_bytes<W: Write>(out: &mut W, bytes: &[u8]) -> io::Result<()> {
     for byte in bytes {
         write!(out, "{byte:02x}")?;
     }
-    end_line(out)
+    writeln!(out)
 }
 
-// A line with a name and a number.
-fn print_result<W: Write>(out: &mut W, name: &str, res: u64) -> io::Result<()> {
-    write!(out, "{name}{res}")?;
-    end_line(out)
-}
-
-// Calls an entry, and prints its name and its result.
-fn enter<W: Write>(
-    out: &mut W,
-    entry: u32,
-    budget: u32,
-    table: &[u8],
-    list: &[u8],
-    variables: &mut [u8],
-    cells: &mut [u8],
-    pending: &mut [u8],
-    saves: &mut [u8],
-    output: &mut [u8],
-    answer: &mut [u8],
-) -> io::Result<()> {
-    match entry {
-        SHEET => print_result(
-            out,
-            "sheet ",
-            flow::sheet::flow_sheet(table, output, answer),
-        ),
-        HARDEN => print_result(
-            out,
-            "harden ",
-            flow::harden::flow_harden(table, output, answer),
-        ),
-        RUN => print_result(
-            out,
-            "run ",
-            flow::machines::flow_run(table, variables, cells, pending, output, budget, answer),
-        ),
-        QUESTIONS => print_result(
-            out,
-            "questions ",
-            flow::ask::flow_questions(table, list, output, answer),
-        ),
-        ROLLBACK => print_result(
-            out,
-            "rollback ",
-            flow::machines::flow_rollback(
-                table, list, variables, cells, pending, saves, output, budget, answer,
+impl<'a> Call<'a> {
+    // Calls the entry: its result. A match tells the entries apart, as each is lent other slices of the call.
+    fn enter(&mut self) -> u64 {
+        match self.entry {
+            Entry::Sheet => flow_sheet(self.table, self.output, self.answer),
+            Entry::Harden => flow_harden(self.table, self.output, self.answer),
+            Entry::Run => flow_run(
+                self.table,
+                self.variables,
+                self.cells,
+                self.pending,
+                self.output,
+                self.budget,
+                self.answer,
             ),
-        ),
-        _ => print_result(
-            out,
-            "guess ",
-            flow::machines::flow_guess(
-                table, list, variables, cells, pending, output, budget, answer,
+            Entry::Guess => flow_guess(
+                self.table,
+                self.list,
+                self.variables,
+                self.cells,
+                self.pending,
+                self.output,
+                self.budget,
+                self.answer,
             ),
-        ),
+            Entry::Questions => flow_questions(self.table, self.list, self.output, self.answer),
+            Entry::Rollback => flow_rollback(
+                self.table,
+                self.list,
+                self.variables,
+                self.cells,
+                self.pending,
+                self.saves,
+                self.output,
+                self.budget,
+                self.answer,
+            ),
+        }
     }
-}
 
-// A line for the save words, where the entry has any.
-fn print_saves<W: Write>(out: &mut W, entry: u32, saves: &[u8]) -> io::Result<()> {
-    match entry {
-        ROLLBACK => print_bytes(out, saves),
-        _ => Ok(()),
+    // Prints what the call left in each slice.
+    fn print<W: Write>(&self, out: &mut W) -> io::Result<()> {
+        print_bytes(out, self.answer)?;
+        print_bytes(out, self.variables)?;
+        print_bytes(out, self.cells)?;
+        print_bytes(out, self.pending)?;
+        if self.entry == Entry::Rollback {
+            print_bytes(out, self.saves)?;
+        }
+        print_bytes(out, self.output)
     }
-}
-
-// A call, and what it leaves in each slice.
-fn call<W: Write>(
-    out: &mut W,
-    entry: u32,
-    budget: u32,
-    table: &[u8],
-    list: &[u8],
-    variables: &mut [u8],
-    cells: &mut [u8],
-    pending: &mut [u8],
-    saves: &mut [u8],
-    output: &mut [u8],
-    answer: &mut [u8],
-) -> io::Result<()> {
-    enter(
-        out,
-        entry,
-        budget,
-        table,
-        list,
-        &mut *variables,
-        &mut *cells,
-        &mut *pending,
-        &mut *saves,
-        &mut *output,
-        &mut *answer,
-    )?;
-    print_bytes(out, answer)?;
-    print_bytes(out, variables)?;
-    print_bytes(out, cells)?;
-    print_bytes(out, pending)?;
-    print_saves(out, entry, saves)?;
-    print_bytes(out, output)
 }
 
 // The next call of the input.
 fn play<R: Read, W: Write>(input: &mut R, out: &mut W) -> io::Result<()> {
-    let entry = number(input)?;
+    let entry = Entry::from(number(input)?);
     let budget = number(input)?;
-    let mut table = [170u8; 65536];
-    let table_length = fill(input, &mut table)?;
-    let mut list = [170u8; 4096];
-    let list_length = fill(input, &mut list)?;
-    let mut variables = [170u8; 320];
-    let variables_length = fill(input, &mut variables)?;
-    let mut cells = [170u8; 65600];
-    let cells_length = fill(input, &mut cells)?;
-    let mut pending = [170u8; 16448];
-    let pending_length = fill(input, &mut pending)?;
-    let mut saves = [170u8; 16384];
-    let saves_length = fill(input, &mut saves)?;
-    let mut output = [170u8; 65536];
-    let output_length = fill(input, &mut output)?;
-    let mut answer = [170u8; 64];
-    let answer_length = fill(input, &mut answer)?;
-    call(
-        out,
+    let mut table = [REST; 65536];
+    let mut list = [REST; 4096];
+    let mut variables = [REST; 320];
+    let mut cells = [REST; 65600];
+    let mut pending = [REST; 16448];
+    let mut saves = [REST; 16384];
+    let mut output = [REST; 65536];
+    let mut answer = [REST; 64];
+    let mut call = Call {
         entry,
         budget,
-        &table[..table_length],
-        &list[..list_length],
-        &mut variables[..variables_length],
-        &mut cells[..cells_length],
-        &mut pending[..pending_length],
-        &mut saves[..saves_length],
-        &mut output[..output_length],
-        &mut answer[..answer_length],
-    )
+        table: filled(input, &mut table)?,
+        list: filled(input, &mut list)?,
+        variables: filled(input, &mut variables)?,
+        cells: filled(input, &mut cells)?,
+        pending: filled(input, &mut pending)?,
+        saves: filled(input, &mut saves)?,
+        output: filled(input, &mut output)?,
+        answer: filled(input, &mut answer)?,
+    };
+    let result = call.enter();
+    writeln!(out, "{entry} {result}")?;
+    call.print(out)
 }
 
 fn main(rt: HostRuntime) -> io::Result<()> {

@@ -41,16 +41,27 @@ largest = total 12288 (10 * 12288)
 pub record Totals (nodes : List Node) (answer : ℕ) : Type 0 where
   pub adds : answer ≡ total (length nodes) (length (flat_map node_bytes nodes))
 
--- the total of a node over one part, two and three: whatever copies the parts' totals are of, the node's own record stands behind them
-pub record OverOne (first answer : ℕ) : Type 0 where
-  pub over : (copy : List Node) (n : Node) → size_of n ≡ 6 → Totals copy first → Totals (copy ++ (n ∷ [])) answer
+-- numbers are the totals of these lists of nodes, each of the one in its place
+abbrev pub EachTotals : List (List Node) → (totals : List ℕ) → Type 0
+EachTotals [] [] = Unit {0}
+EachTotals (copy ∷ copies) (total ∷ totals) = Totals copy total × EachTotals copies totals
+EachTotals [] (total ∷ totals) = ⊥
+EachTotals (copy ∷ copies) [] = ⊥
 
-pub record OverTwo (first second answer : ℕ) : Type 0 where
-  pub over : (copy next : List Node) (n : Node) → size_of n ≡ 8 → Totals copy first → Totals next second → Totals (copy ++ (next ++ (n ∷ []))) answer
+-- the total of a node over so many parts: whatever copies the parts' totals are of, the node's own record stands behind them
+pub record Over (parts : List ℕ) (answer : ℕ) : Type 0 where
+  pub over : (copies : List (List Node)) (n : Node) → size_of n ≡ 4 + 2 * length parts → EachTotals copies parts
+      → Totals (flat_map (λ c. c) copies ++ (n ∷ [])) answer
 
-pub record OverThree (first second third answer : ℕ) : Type 0 where
-  pub over : (copy next last : List Node) (n : Node) → size_of n ≡ 10 → Totals copy first → Totals next second → Totals last third
-      → Totals (copy ++ (next ++ (last ++ (n ∷ [])))) answer
+-- and so over one part, two and three
+abbrev pub OverOne : (first answer : ℕ) → Type 0
+OverOne s r = Over (s ∷ []) r
+
+abbrev pub OverTwo : (first second answer : ℕ) → Type 0
+OverTwo s u r = Over (s ∷ u ∷ []) r
+
+abbrev pub OverThree : (first second third answer : ℕ) → Type 0
+OverThree s u w r = Over (s ∷ u ∷ w ∷ []) r
 
 -- a slice has a total for a node, and it is no larger than any can be
 pub record HasTotal (totals : List ℕ) (n : ℕ) : Type 0 where

@@ -1,18 +1,16 @@
 // The records of nodes, written into bytes.
-ghost use Rattle.std.specs.Prelude.{◌+◌, ◌≤◌, ◌<◌, ◌^◌, ◌++◌, ◌≡◌, length};
+ghost use Rattle.std.specs.Prelude.{◌+◌, ◌*◌, ◌≤◌, ◌≡◌, length, sum_by};
 ghost use Rattle.std.proofs.lemmas.List.Edits.{sets};
-ghost use Rattle.bytes_le.specs.Numbers.{le};
-ghost use Rattle.awhile.specs.Nodes.{form, size_of};
-ghost use Rattle.copier.specs.declared.Record.TheVariants.{Two};
-ghost use Rattle.copier.specs.Records.{number_of, record_of, record_bytes, record_size};
-ghost use Rattle.copier.specs.Written.{Appended, AppendedRecord};
+ghost use Rattle.awhile.specs.Nodes.{size_of};
+ghost use Rattle.copier.specs.Records.{number_of, record_bytes, record_size};
+ghost use Rattle.copier.specs.Written.{Appended, AppendedAll, AppendedRecord, RoomBehind};
 
 use crate::{Record, Size};
 use awhile::Node;
 use bytes_le::put;
-use record::forms::{Field, Fields, Form, form_of};
+use record::forms::{Field, Fields, form_of};
 
-// The number that a 2-byte field holds.
+// The number that a 2-byte field holds. `Field` is record's, so a `From` could only stand there, and this is all that asks for it.
 fn number_of(field: Field) -> usize
     ensures { result ≡ number_of field }
 {
@@ -24,120 +22,71 @@ fn number_of(field: Field) -> usize
     }
 }
 
-// The record of a form. A number's four bytes are two 2-byte fields.
-fn record_of(form: Form) -> Record
-    ensures { result ≡ record_of form.kind form.fields }
+// A record at the front of a slice: its length, its kind and its fields. The answer is its length.
+pub fn put_record<const N: usize>(out: &mut [u8], record: Record<N>) -> usize
+    requires { record_size «record».fields ≤ length out.old }
+    ensures { (out.new ≡ sets out.old 0 (record_bytes «record».entry.kind «record».entry.fields)) × (result ≡ record_size «record».entry.fields) }
 {
+    let size = 4 + 2 * N;
+    put::put16(&mut *out, 0, size);
+    put::put16(&mut *out, 2, record.kind);
+    for (i, field) in record.fields.iter().enumerate() {
+        put::put16(&mut *out, 4 + 2 * i, *field);
+    }
+    size
+}
+
+// A record behind what is written already. The answer is how much is written then.
+pub fn append_record<const N: usize>(out: &mut [u8], so_far: Size, record: Record<N>) -> Size
+    requires { RoomBehind so_far 1 (record_size «record».fields) out.old }
+    ensures { AppendedRecord so_far.nodes so_far.bytes «record».entry.kind «record».entry.fields out.old out.new result }
+{
+    let bytes = put_record(&mut out[so_far.bytes..], record);
+    so_far + Size { nodes: 1, bytes }
+}
+
+// A node's record behind what is written already. A number's four bytes are two 2-byte fields.
+// How many fields a record has is in its type, so each shape of `Fields` has an arm that makes an array of just so many.
+pub fn append(out: &mut [u8], so_far: Size, node: Node) -> Size
+    requires { RoomBehind so_far 1 (size_of node) out.old }
+    ensures { Appended so_far.nodes so_far.bytes node out.old out.new result }
+{
+    let form = form_of(node);
     let kind = form.kind;
-    let fields = form.fields;
-    match fields {
-        Fields::Nothing => Record::Bare { kind },
-        Fields::Word { value } => Record::Two {
-            kind,
-            first: (value % 65536) as usize,
-            second: (value / 65536) as usize,
-        },
-        Fields::One { first } => Record::One {
-            kind,
-            first: number_of(first),
-        },
-        Fields::Two { first, second } => Record::Two {
-            kind,
-            first: number_of(first),
-            second: number_of(second),
-        },
+    match form.fields {
+        Fields::Nothing => append_record(out, so_far, Record { kind, fields: [] }),
+        Fields::Word { value } => {
+            let fields = [(value % 65536) as usize, (value / 65536) as usize];
+            append_record(out, so_far, Record { kind, fields })
+        }
+        Fields::One { first } => {
+            let fields = [number_of(first)];
+            append_record(out, so_far, Record { kind, fields })
+        }
+        Fields::Two { first, second } => {
+            let fields = [number_of(first), number_of(second)];
+            append_record(out, so_far, Record { kind, fields })
+        }
         Fields::Three {
             first,
             second,
             third,
-        } => Record::Three {
-            kind,
-            first: number_of(first),
-            second: number_of(second),
-            third: number_of(third),
-        },
-    }
-}
-
-// The record of a node's kind over two other children.
-pub fn record_over(node: Node, left: usize, right: usize) -> Record
-    ensures { result ≡ Two (form node).kind left right }
-{
-    let form = form_of(node);
-    Record::Two {
-        kind: form.kind,
-        first: left,
-        second: right,
-    }
-}
-
-// A record's length and kind.
-fn put_head(out: &mut [u8], size: usize, kind: usize)
-    requires { 4 ≤ length out.old }
-    ensures { out.new ≡ sets out.old 0 (le 2 size ++ le 2 kind) }
-{
-    put::put16(&mut *out, 0, size);
-    put::put16(&mut *out, 2, kind);
-}
-
-// A record at the front of a slice. The answer is its length.
-pub fn put_record(out: &mut [u8], fields: Record) -> usize
-    requires { record_size fields ≤ length out.old }
-    ensures { (out.new ≡ sets out.old 0 (record_bytes fields)) × (result ≡ record_size fields) }
-{
-    match fields {
-        Record::Bare { kind } => {
-            put_head(out, 4, kind);
-            4
-        }
-        Record::One { kind, first } => {
-            put_head(&mut *out, 6, kind);
-            put::put16(out, 4, first);
-            6
-        }
-        Record::Two {
-            kind,
-            first,
-            second,
         } => {
-            put_head(&mut *out, 8, kind);
-            put::put16(&mut *out, 4, first);
-            put::put16(out, 6, second);
-            8
-        }
-        Record::Three {
-            kind,
-            first,
-            second,
-            third,
-        } => {
-            put_head(&mut *out, 10, kind);
-            put::put16(&mut *out, 4, first);
-            put::put16(&mut *out, 6, second);
-            put::put16(out, 8, third);
-            10
+            let fields = [number_of(first), number_of(second), number_of(third)];
+            append_record(out, so_far, Record { kind, fields })
         }
     }
 }
 
-// A record behind what is written already. The answer is how much is written then.
-pub fn append_record(out: &mut [u8], nodes: usize, bytes: usize, fields: Record) -> Size
-    requires fields_in_bounds { bytes + record_size fields ≤ length out.old }
-    requires nodes_bound { nodes < 2 ^ 32 }
-    ensures { AppendedRecord nodes bytes fields out.old out.new result }
+// Nodes' records behind what is written already, one behind the other. Where the nodes are written out, as in a mask, no loop is left of it.
+#[inline(always)]
+pub fn append_all<const N: usize>(out: &mut [u8], so_far: Size, nodes: [Node; N]) -> Size
+    requires { RoomBehind so_far N (sum_by size_of nodes) out.old }
+    ensures { AppendedAll so_far nodes.entry out.old out.new result }
 {
-    let size = put_record(&mut out[bytes..], fields);
-    Size {
-        nodes: nodes + 1,
-        bytes: bytes + size,
+    let mut size = so_far;
+    for node in nodes.iter() {
+        size = append(&mut *out, size, *node);
     }
-}
-
-// A node's record behind what is written already.
-pub fn append(out: &mut [u8], nodes: usize, bytes: usize, node: Node) -> Size
-    requires node_in_bounds { bytes + size_of node ≤ length out.old }
-    requires nodes_bound { nodes < 2 ^ 32 }
-    ensures { Appended nodes bytes node out.old out.new result }
-{
-    append_record(out, nodes, bytes, record_of(form_of(node)))
+    size
 }

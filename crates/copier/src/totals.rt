@@ -1,7 +1,9 @@
 // Totals: how much a copy of a node and its parts takes. A total is one number, 65,536 for each node and 1 for each byte, so that one addition adds
 // both. It is made from the totals of the node's parts, which stand in a slice by their numbers.
-ghost use Rattle.std.specs.Prelude.{◌+◌, ◌^◌, ◌<◌, ◌≡◌, get_or};
-ghost use Rattle.copier.specs.Totals.{total, bytes_told, OverOne, OverTwo, OverThree, HasTotal};
+// That a slice has a total for a node, `HasTotal`, is a fact about the node's number and a slice that fills up, so it stands in each contract.
+// A total is no `Size`: a slice of these, which is cleared each time that a table is measured, would be four times as large.
+ghost use Rattle.std.specs.Prelude.{◌+◌, ◌^◌, ◌<◌, ◌≤◌, ◌≡◌, All, map, length, sum_by, get_or};
+ghost use Rattle.copier.specs.Totals.{total, bytes_told, Over, HasTotal};
 
 // One node, in a total.
 pub const NODE: u32 = 65536;
@@ -21,24 +23,20 @@ pub fn bytes_told(total: u32) -> usize
     (total % NODE) as usize
 }
 
-// A node over one part: a record of 6 bytes. And over two and three parts.
-pub fn over_one(totals: &[u32], first: usize) -> u32
-    requires { HasTotal totals.now first }
-    ensures { OverOne (get_or totals.now first 0) result }
+// The totals of so many parts, added up.
+pub fn sum_of<const N: usize>(totals: &[u32], parts: [usize; N]) -> u32
+    requires few { sum_by (λ part. get_or totals.now part 0) parts < 2 ^ 32 }
+    requires each { All (λ part. part < length totals.now) parts }
+    ensures { result ≡ sum_by (λ part. get_or totals.now part 0) parts.entry }
 {
-    more(totals[first], 1, 6)
+    parts.iter().map(|part| totals[*part]).sum()
 }
 
-pub fn over_two(totals: &[u32], first: usize, second: usize) -> u32
-    requires { HasTotal totals.now first × HasTotal totals.now second }
-    ensures { OverTwo (get_or totals.now first 0) (get_or totals.now second 0) result }
+// A node over so many parts: their totals, and its own record of 4 bytes and 2 for each of them. A node has three at most.
+pub fn over<const N: usize>(totals: &[u32], parts: [usize; N]) -> u32
+    requires few { N ≤ 3 }
+    requires each { All (HasTotal totals.now) parts }
+    ensures { Over (map (λ part. get_or totals.now part 0) parts.entry) result }
 {
-    more(totals[first] + totals[second], 1, 8)
-}
-
-pub fn over_three(totals: &[u32], first: usize, second: usize, third: usize) -> u32
-    requires { HasTotal totals.now first × HasTotal totals.now second × HasTotal totals.now third }
-    ensures { OverThree (get_or totals.now first 0) (get_or totals.now second 0) (get_or totals.now third 0) result }
-{
-    more(totals[first] + totals[second] + totals[third], 1, 10)
+    more(sum_of(totals, parts), 1, 4 + 2 * N as u32)
 }

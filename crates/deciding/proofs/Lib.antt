@@ -1,3 +1,3 @@
 -- Laws for where masks stand.
 pub mod NotedLabels
-pub mod DecidedBytes
+pub mod DecidedChoices

@@ -1,4 +1,4 @@
-// Which masks the labels ask for, decided once: a byte for each command, and what it says.
+// Which masks the labels ask for, decided once, for each command.
 #![tactic(auto)]
 
 pub mod decisions;

@@ -6,21 +6,26 @@ use mathlib.Core.Logic.{⊎_elim}
 use native.Mathlib.Omega.{arith}
 use mathlib.Core.Bool.{Bool, true, false, cond}
 use mathlib.Core.Option.{Option, some}
-use mathlib.Core.Path.{◌≡◌, refl, sym, ◌∙◌}
+use mathlib.Core.Path.{◌≡◌, refl, sym, ap, ◌∙◌}
 use mathlib.Core.List.{List}
-use lib.ListN.{length, get_or, set, take, get_or-eq_default, length-set}
+use lib.ListN.{length, get_or, set, take, get_or-eq_default, length-set, replicate}
 use lib.Seq.{get_or-set_same, get_or-set_other}
 use lib.Dec.{eqb}
 use borrow.Author.Tests.{lt-ltb, le-ltb, eqb-true, eqb-false}
-use Rattle.bytes_le.proofs.Numbers.{Below}
 use Rattle.awhile.specs.Lists.{sum}
+use Rattle.awhile.specs.Tables.{declarations_of}
+use Rattle.awhile.specs.declared.Declarations.{Declarations}
 use Rattle.awhile.specs.declared.Header.{Header}
-use Rattle.reader.specs.Index.{table_of, HasHeader}
 use Rattle.reader.proofs.Ready.{header_arrays}
+use Rattle.reader.specs.Admitted.{Admitted}
+use Rattle.reader.specs.Index.{table_of, HasHeader}
+use Rattle.bytes_le.proofs.Numbers.{Below}
 use Rattle.awhile.proofs.Accepted.{accepted_well_formed}
 use Rattle.machine.specs.Steps.{inside, cell_place, only_if, cell_at, cell_used}
-use Rattle.directives.specs.Fitting.{Starts, found, own_or}
-use Rattle.directives.specs.declared.places.Cell.TheVariants.{At, Missing}
+use Rattle.std.specs.Prelude.{Some, None}
+use Rattle.std.specs.Option.{option_or}
+use Rattle.directives.specs.Listed.{found}
+use Rattle.directives.specs.Starts.{Starts}
 use Rattle.directives.proofs.Counts.{starts_next, starts_within}
 
 module _ (counts starts : List ℕ) (at : Starts counts starts) where
@@ -28,21 +33,21 @@ module _ (counts starts : List ℕ) (at : Starts counts starts) where
   ends a few = rw add-one (at.begins (suc a) (omega arith) ∙ starts_next counts a)
 
   -- an array that there cannot be
-  pub cell_undeclared : (a i : ℕ) → 16 ≤ a → Missing ≡ found (cell_at counts a i)
+  pub cell_undeclared : (a i : ℕ) → 16 ≤ a → None ≡ found (cell_at counts a i)
   unfolding found cell_at only_if inside
   cell_undeclared a i many =
       let none : get_or counts a 0 ≡ 0 = get_or-eq_default counts 0 (omega (arith, at.few)) in
       rw (none, le-ltb i 0 (omega arith))
 
   module _ (a i : ℕ) (few : a < 16) where
-    pub cell_found : get_or starts a 0 + i < get_or starts (a + 1) 0 → At (get_or starts a 0 + i) ≡ found (cell_at counts a i)
+    pub cell_found : get_or starts a 0 + i < get_or starts (a + 1) 0 → Some (get_or starts a 0 + i) ≡ found (cell_at counts a i)
     unfolding found cell_at only_if inside cell_place
     cell_found below =
         let start = at.begins a (omega arith) in
         let end = ends a few in
         rw (lt-ltb i (get_or counts a 0) (omega arith), start)
 
-    pub cell_missing : get_or starts (a + 1) 0 ≤ get_or starts a 0 + i → Missing ≡ found (cell_at counts a i)
+    pub cell_missing : get_or starts (a + 1) 0 ≤ get_or starts a 0 + i → None ≡ found (cell_at counts a i)
     unfolding found cell_at only_if inside
     cell_missing past =
         let start = at.begins a (omega arith) in
@@ -51,11 +56,11 @@ module _ (counts starts : List ℕ) (at : Starts counts starts) where
 
 -- ---- the cell that a redirected read or write uses
 module _ (counts : List ℕ) (a i : ℕ) (other : Option ℕ) where
-  pub used_guessing : own_or (found (cell_at counts a i)) (found other) ≡ found (cell_used counts true a i other)
-  unfolding own_or found cell_at only_if cell_used
+  pub used_guessing : option_or (found (cell_at counts a i)) (found other) ≡ found (cell_used counts true a i other)
+  unfolding cell_at only_if cell_used
   used_guessing = go (inside counts a i)
     where
-      go : (b : Bool) → own_or (found (only_if b (cell_place counts a i))) (found other) ≡ found (cond b (some (cell_place counts a i)) other)
+      go : (b : Bool) → option_or (found (only_if b (cell_place counts a i))) (found other) ≡ found (cond b (some (cell_place counts a i)) other)
       go true = refl
       go false = refl
 
@@ -63,7 +68,11 @@ module _ (counts : List ℕ) (a i : ℕ) (other : Option ℕ) where
   unfolding cell_at only_if cell_used
   used_clear = refl
 
--- ---- the cell counts that code reads from a table's records
+-- ---- the cell counts of a table
+-- an accepted one has its header
+pub has_header : {table : List ℕ} {d : Declarations} → Admitted table → d ≡ declarations_of (table_of table) → HasHeader table d.header
+has_header admitted is = record { reads = admitted.reads; is_header = sym (ap (λ (d : Declarations). d.header) is) }
+
 module _ {table : List ℕ} {header : Header} (has : HasHeader table header) where
   pub undeclared_count : (a : ℕ) → header.arrays ≤ a → 0 ≡ get_or (table_of table).counts a 0
   undeclared_count a many = sym (get_or-eq_default (table_of table).counts 0 (omega (arith, header_arrays has)))
@@ -77,6 +86,10 @@ module _ {table : List ℕ} {header : Header} (has : HasHeader table header) whe
       let fits = (accepted_well_formed table bytes (table_of table) has.reads).declared.cells_fit in
       omega (arith, starts_within (table_of table).counts a)
 
+-- the sum after one array more
+pub sum_next : (counts : List ℕ) (a : ℕ) → sum (take (a + 1) counts) ≡ sum (take a counts) + get_or counts a 0
+sum_next counts a = rw add-one (starts_next counts a)
+
 -- the list so far: where the arrays up to one begin
 pub record StartsTo (counts starts : List ℕ) (a : ℕ) : Type 0 where
   pub long : length starts ≡ 17
@@ -85,15 +98,16 @@ pub record StartsTo (counts starts : List ℕ) (a : ℕ) : Type 0 where
 before : (b a : ℕ) → b ≤ a + 1 → (b ≡ a + 1 → ⊥) → b ≤ a
 before b a first other = ⊎_elim (λ e. absurd (other e)) (λ less. omega arith) (eq-or-lt_of_le first)
 
-module _ (counts starts : List ℕ) where
-  pub starts_none : length starts ≡ 17 → StartsTo counts (set starts 0 0) 0
+module _ (counts : List ℕ) where
+  pub starts_none : StartsTo counts (replicate 17 0) 0
   unfolding sum
-  starts_none long =
-      record { long = simp length-set long; begins = λ b first. go b first }
+  starts_none =
+      record { long = refl; begins = λ b first. go b first }
     where
-      go : (b : ℕ) → b ≤ 0 → get_or (set starts 0 0) b 0 ≡ sum (take b counts)
-      go b first = let z : b ≡ 0 = omega arith in rw (z, get_or-set_same starts 0 0 0 (omega arith))
+      go : (b : ℕ) → b ≤ 0 → get_or (replicate 17 0) b 0 ≡ sum (take b counts)
+      go b first = let z : b ≡ 0 = omega arith in rw z
 
+module _ (counts starts : List ℕ) where
   pub starts_more : (a : ℕ) → a < 16 → StartsTo counts starts a → StartsTo counts (set starts (a + 1) (sum (take a counts) + get_or counts a 0)) (a + 1)
   starts_more a few so =
       record { long = simp length-set so.long; begins = λ b first. go (eqb b (a + 1)) refl first }

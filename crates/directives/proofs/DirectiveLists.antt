@@ -1,6 +1,5 @@
 -- Laws of directive lists: the record at an offset, and the list from an offset on.
-use Prim.Native.Nat.{ℕ, zero, suc, ◌+◌, ◌-◌, ◌≤◌, ◌<◌}
-use native.Mathlib.Nat.{add-zero}
+use Prim.Native.Nat.{ℕ, zero, suc, ◌+◌, ◌≤◌, ◌<◌}
 use native.Mathlib.Omega.{arith}
 use mathlib.Core.Path.{◌≡◌, refl, sym, ap, ◌∙◌}
 use mathlib.Core.Bool.{Bool, true, false, cond, ◌&&◌}
@@ -9,71 +8,36 @@ use mathlib.Core.List.{List, [], ◌∷◌}
 use lib.ListN.{length, drop, length-drop}
 use lib.Seq.{drop-drop}
 use lib.Dec.{eqb, leb}
-use borrow.Author.Tests.{leb-true, le-leb, lt-leb, eq-eqb, ne_eqb, eqb-true}
+use borrow.Author.Tests.{leb-true, eqb-true}
 use Rattle.bytes_le.specs.Numbers.{le_at}
 use Rattle.machine.specs.Directives.{directive_of, directive_size, whole_directive, first_directive, before, directives_in, read_rolling_directives, is_rollback}
-use Rattle.directives.specs.Listed.{listed, whole_if, is_some}
+use Rattle.directives.specs.Listed.{found, is_some}
 use Rattle.machine.specs.declared.Directive.{Directive}
 use Rattle.machine.specs.declared.Directive.TheVariants.{Step, Force, Load, Store, Rollback}
-use Rattle.directives.specs.declared.list.Listed.{Listed}
-use Rattle.directives.specs.declared.list.Listed.TheVariants.{One, Nothing}
+use Rattle.std.specs.Prelude.{Some, None}
+use Rattle.std.proofs.Common.{◌⊎◌, inl, inr}
 
 -- a number of the rest from an offset on
 pub le_at-drop : (width : ℕ) (s : List ℕ) (at k : ℕ) → le_at width (drop at s) k ≡ le_at width s (at + k)
 unfolding le_at
 le_at-drop width s at k = rw drop-drop
 
-listed_some : (o : Option Directive) (d : Directive) → listed o ≡ One d → o ≡ some d
-unfolding listed
-listed_some none d e = cc
-listed_some (some d) d' e = cc
+-- what the code finds first in bytes
+pub found_some : (s : List ℕ) (d : Directive) → Some d ≡ found (first_directive s) → first_directive s ≡ some d
+unfolding found
+found_some s d = go (first_directive s)
+  where
+    go : (o : Option Directive) → Some d ≡ found o → o ≡ some d
+    go none e = cc
+    go (some d') e = cc
 
-listed_none : (o : Option Directive) → listed o ≡ Nothing → o ≡ none
-unfolding listed
-listed_none none e = refl
-listed_none (some d) e = cc
-
--- a directive whose length does not fit, or that is cut, and one that is whole
-module _ (d : Directive) (size given left : ℕ) (is_size : size ≡ directive_size d) where
-  pub not_its_length : (given ≡ size → ⊥) → Nothing ≡ listed (whole_if d given left)
-  unfolding whole_if listed
-  not_its_length differs = rw (← is_size, ne_eqb given size differs)
-
-  pub cut : given ≡ size → left < size → Nothing ≡ listed (whole_if d given left)
-  unfolding whole_if listed
-  cut same short = rw (← is_size, eq-eqb given size same, lt-leb size left short)
-
-  pub all_there : given ≡ size → size ≤ left → One d ≡ listed (whole_if d given left)
-  unfolding whole_if listed
-  all_there same long = rw (← is_size, eq-eqb given size same, le-leb size left long)
-
--- the directive of a kind that stands at an offset
-abbrev kind_at : List ℕ → (at : ℕ) → Option Directive
-kind_at s at = directive_of (le_at 2 s (at + 2)) (le_at 2 s (at + 4)) (le_at 4 s (at + 6))
-
-module _ (s : List ℕ) (at : ℕ) where
-  kind_drop : directive_of (le_at 2 (drop at s) 2) (le_at 2 (drop at s) 4) (le_at 4 (drop at s) 6) ≡ kind_at s at
-  kind_drop = rw (le_at-drop 2 s at 2, le_at-drop 2 s at 4, le_at-drop 4 s at 6)
-
-  -- what code finds that reads the fields of the record at an offset
-  module _ (k a i : ℕ) (is_kind : k ≡ le_at 2 s (at + 2)) (is_array : a ≡ le_at 2 s (at + 4)) (is_index : i ≡ le_at 4 s (at + 6)) (o : Listed) (found : o ≡ listed (directive_of k a i)) where
-    kind_found : directive_of (le_at 2 (drop at s) 2) (le_at 2 (drop at s) 4) (le_at 4 (drop at s) 6) ≡ directive_of k a i
-    kind_found = rw (is_kind, is_array, is_index) kind_drop
-
-    -- a record of a known kind
-    pub first_known : (d : Directive) → o ≡ One d → (given left : ℕ) → given ≡ le_at 2 s at → left ≡ length s - at → (r : Listed) → r ≡ listed (whole_if d given left)
-        → r ≡ listed (first_directive (drop at s))
-    unfolding whole_directive whole_if first_directive
-    first_known d one given left is_given is_left r whole =
-        let known : directive_of (le_at 2 (drop at s) 2) (le_at 2 (drop at s) 4) (le_at 4 (drop at s) 6) ≡ some d = kind_found ∙ listed_some (directive_of k a i) d (sym found ∙ one) in
-        rw (known, first_directive, le_at-drop 2 s at 0, add-zero at, length-drop at s, ← is_given, ← is_left) whole
-
-    -- a record of another kind
-    pub first_unknown : o ≡ Nothing → Nothing ≡ listed (first_directive (drop at s))
-    unfolding first_directive listed
-    first_unknown nothing =
-        let unknown : directive_of (le_at 2 (drop at s) 2) (le_at 2 (drop at s) 4) (le_at 4 (drop at s) 6) ≡ none = kind_found ∙ listed_none (directive_of k a i) (sym found ∙ nothing) in
-        rw (unknown, first_directive)
+pub found_none : (s : List ℕ) → None ≡ found (first_directive s) → first_directive s ≡ none
+unfolding found
+found_none s = go (first_directive s)
+  where
+    go : (o : Option Directive) → None ≡ found o → o ≡ none
+    go none e = refl
+    go (some d) e = cc
 
 -- ---- the list
 -- a record has some bytes, and all of them stand in the list
@@ -199,23 +163,20 @@ unfolding read_rolling_directives
 reads_bad [] h e = elim h [ ]
 reads_bad (b ∷ bs) h e = directives_bad (length bs) (b ∷ bs) h e
 
--- one record further on, the rest reads if the list does; at a record that is refused it does not
-module _ (s : List ℕ) (at : ℕ) (within : at < length s) (o : Listed) (found : o ≡ listed (first_directive (drop at s))) where
-  left : 0 < length (drop at s)
-  left = simp length-drop (omega arith)
+-- where the code finds a directive first, the list reads if the rest behind it does
+module _ (s : List ℕ) (d : Directive) (here : Some d ≡ found (first_directive s)) where
+  pub reads_next : read_rolling_directives s ≡ before d (read_rolling_directives (drop (directive_size d) s))
+  reads_next =
+      let size = first_within s d (found_some s d here) in
+      reads_first s d (omega (arith, size_some d)) (found_some s d here)
 
-  pub listed_within : (d : Directive) → o ≡ One d → at + directive_size d ≤ length s
-  listed_within d one =
-      let size = first_within (drop at s) d (listed_some (first_directive (drop at s)) d (sym found ∙ one)) in
-      omega (arith, length-drop at s)
+  pub size_within : directive_size d ≤ length s
+  size_within = first_within s d (found_some s d here)
 
-  pub reads_next : (d : Directive) → o ≡ One d → read_rolling_directives (drop at s) ≡ before d (read_rolling_directives (drop (at + directive_size d) s))
-  reads_next d one =
-      let known = listed_some (first_directive (drop at s)) d (sym found ∙ one) in
-      rw (← drop-drop (directive_size d) at s) (reads_first (drop at s) d left known)
-
-  pub reads_refused : o ≡ Nothing → read_rolling_directives (drop at s) ≡ none
-  reads_refused nothing = reads_bad (drop at s) left (listed_none (first_directive (drop at s)) (sym found ∙ nothing))
+-- where it finds none, the list has ended or does not read
+pub reads_over : (s : List ℕ) → None ≡ found (first_directive s) → (length s ≡ 0) ⊎ (read_rolling_directives s ≡ none)
+reads_over [] e = inl refl
+reads_over (b ∷ bs) e = inr (reads_bad (b ∷ bs) (omega arith) (found_none (b ∷ bs) e))
 
 pub is_some_before : (d : Directive) (o : Option (List Directive)) → is_some (before d o) ≡ is_some o
 unfolding before is_some

@@ -1,5 +1,7 @@
 -- What guides a step, as the code has it: an offset in the bytes of a directive list.
 use Rattle.std.specs.Prelude.{ℕ, ◌+◌, ◌≤◌, Bool, true, false, ◌≡◌, List, [], length, drop}
+use Rattle.std.specs.Prelude.{None, Some}
+use Rattle.std.specs.Prelude.{Option as Found}
 use Rattle.std.proofs.Math.Option.{Option, none, some}
 use Rattle.machine.specs.Observations.{Observation}
 use Rattle.machine.specs.Directives.{read_rolling_directives}
@@ -11,7 +13,6 @@ use Rattle.machine.specs.declared.Board.TheVariants.{Plain, Guessing, Rolling}
 use Rattle.machine.specs.declared.Directive.{Directive}
 use Rattle.machine.specs.declared.End.TheVariants.{OutOfDirectives}
 use Rattle.directives.specs.declared.guide.Guided.{Guided}
-use Rattle.directives.specs.declared.guide.Guided.TheVariants.{By, Out}
 
 -- an offset from which the list reads
 pub record Readable (list : List ℕ) (at : ℕ) : Type 0 where
@@ -44,9 +45,9 @@ pub record RunsOut (board : Board) (list : List ℕ) (at : ℕ) : Type 0 where
   pub step : (room : Room) (m : Machine ℕ) (o : Observation) (after : Directive → Option (Taken ℕ))
       → shown_step room m o after (guide_of board list at) ≡ over OutOfDirectives
 
-abbrev pub GuidedAs : Board → (list : List ℕ) → (at : ℕ) → Guided → Type 0
-GuidedAs board list at (By d size used) = GoesBy board list at d size used
-GuidedAs board list at Out = RunsOut board list at
+abbrev pub GuidedAs : Board → (list : List ℕ) → (at : ℕ) → Found Guided → Type 0
+GuidedAs board list at (Some g) = GoesBy board list at g.directive g.consumed.size g.consumed.used
+GuidedAs board list at None = RunsOut board list at
 
 -- a rollback is next: a record of 4 bytes, with the rest of the list behind it
 pub record RollbackNext (board : Board) (list : List ℕ) (at : ℕ) : Type 0 where
@@ -57,8 +58,3 @@ pub record RollbackNext (board : Board) (list : List ℕ) (at : ℕ) : Type 0 wh
 abbrev pub RollbackAs : Board → (list : List ℕ) → (at : ℕ) → Bool → Type 0
 RollbackAs board list at true = RollbackNext board list at
 RollbackAs board list at false = rollback_next (guide_of board list at) ≡ none
-
--- whether it is the board that rolls back
-abbrev pub RollsAs : Board → Bool → Type 0
-RollsAs board true = board ≡ Rolling
-RollsAs board false = board ≡ Rolling → ⊥

@@ -2,4 +2,5 @@
 pub mod Listed
 pub mod Guiding
 pub mod Changes
+pub mod Starts
 pub mod Fitting

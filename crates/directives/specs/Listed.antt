@@ -1,16 +1,16 @@
 -- What the code answers of a directive list, as the definitions have it.
-use Rattle.std.specs.Prelude.{ℕ, Bool, true, false, cond, ◌&&◌, List, eqb, leb}
+use Rattle.std.specs.Prelude.{ℕ, Bool, true, false, cond, ◌&&◌, List, eqb, leb, None, Some}
+use Rattle.std.specs.Prelude.{Option as Found}
 use Rattle.std.proofs.Math.Option.{Option, none, some}
 use Rattle.machine.specs.Directives.{directive_size, read_rolling_directives, is_rollback, without_rollback}
 use Rattle.machine.specs.declared.Board.{Board}
 use Rattle.machine.specs.declared.Board.TheVariants.{Plain, Guessing, Rolling}
 use Rattle.machine.specs.declared.Directive.{Directive}
-use Rattle.directives.specs.declared.list.Listed.{Listed}
-use Rattle.directives.specs.declared.list.Listed.TheVariants.{One, Nothing}
 
-unfoldable pub listed : Option Directive → Listed
-listed none = Nothing
-listed (some d) = One d
+-- what the definitions find, if anything, as the code has it
+abbrev pub found : {A : Type 0} → Option A → Found A
+found none = None
+found (some a) = Some a
 
 -- a directive whose record gives a length, where so many bytes are left
 unfoldable pub whole_if : Directive → (given left : ℕ) → Option Directive

@@ -2,7 +2,8 @@
 ghost use Rattle.std.specs.Prelude.{◌<◌, ◌≡◌};
 ghost use Rattle.directives.specs.Changes.{height_of};
 
-// What is put back on the pending list: nothing, a command, or a command below the next one.
+// What is put back on the pending list: nothing, a command, or a command below the next one. A list of at most two, where an Option of the rest
+// would take apart what every match over it tells together.
 #[derive(Clone, Copy)]
 pub enum Back {
     Nothing,
@@ -39,6 +40,7 @@ pub enum Shown {
 }
 
 // How many commands are pending after a change, where so many stood below the one taken off.
+#[tactic(auto, unfolding(crate::specs::Changes::height_of))]
 pub fn height(change: Change, rest: usize) -> usize
     requires { rest < 4294967296 }
     ensures { result ≡ height_of change rest }
@@ -46,13 +48,9 @@ pub fn height(change: Change, rest: usize) -> usize
     match change {
         Change::PutBack { back } => match back {
             Back::Nothing => rest,
-            Back::One { next: _ } => rest + 1,
-            Back::Two { below: _, next: _ } => rest + 2,
+            Back::One { .. } => rest + 1,
+            Back::Two { .. } => rest + 2,
         },
-        Change::Assign {
-            variable: _,
-            value: _,
-        } => rest,
-        Change::Store { place: _, value: _ } => rest,
+        Change::Assign { .. } | Change::Store { .. } => rest,
     }
 }

@@ -1,88 +1,59 @@
 // Which directive fits a shown step, and what the step does under it.
-ghost use Rattle.std.specs.Prelude.{ℕ, cond, ◌≡◌, List, length};
-ghost use Rattle.directives.specs.Fitting.{starts_length, Starts, found, load_target, store_target, own_or, cell_for, fork_fit, load_fit, store_fit, fit_of};
+ghost use Rattle.std.specs.Prelude.{cond, Some, ◌≡◌};
+ghost use Rattle.reader.specs.Index.{table_of};
+ghost use Rattle.directives.specs.Listed.{found};
+ghost use Rattle.directives.specs.Fitting.{asked_of, cell_for, fork_fit, fit_of};
 
 use crate::change::{Back, Change, Shown};
-use crate::places::{Cell, cell_at};
+use crate::places::{Cell, Places};
 use bytes_le::get::u32_at;
 use machine::Directive;
 
-// The cell that a directive asks for: the program's own, another one by name, or none because it does not fit here.
+// What a shown step does with its cell.
 #[derive(Clone, Copy)]
-pub enum Target {
-    Own,
-    Named { array: usize, index: u32 },
-    Neither,
+pub enum Access {
+    Read,
+    Write,
 }
 
-// What a shown step does, if index and directive fit: a change, or a branch of this value that is forced the wrong way, with its right side.
+// A branch of this value that is forced the wrong way, with its right side.
+#[derive(Clone, Copy)]
+pub struct Forced {
+    pub value: bool,
+    pub right: Back,
+    pub wrong: Back,
+}
+
+// What a shown step does, if index and directive fit: a change, or a forced branch.
 #[derive(Clone, Copy)]
 pub enum Fit {
-    Goes {
-        change: Change,
-    },
-    Forced {
-        value: bool,
-        right: Back,
-        wrong: Back,
-    },
-    Unfit,
+    Goes(Change),
+    Forces(Forced),
 }
 
-fn load_target(directive: Directive) -> Target
-    ensures { result ≡ load_target directive }
+// The cell that a directive asks a read or a write for, if it fits one: the program's own, or another by name.
+#[tactic(auto, unfolding(crate::specs::Fitting::asked_of))]
+fn asked(access: Access, own: Cell, directive: Directive) -> Option<Cell>
+    ensures { result ≡ asked_of access own directive }
 {
-    match directive {
-        Directive::Step => Target::Own,
-        Directive::Load { array, index } => Target::Named { array, index },
-        Directive::Force => Target::Neither,
-        Directive::Store { array: _, index: _ } => Target::Neither,
-        Directive::Rollback => Target::Neither,
+    match (access, directive) {
+        (_, Directive::Step) => Some(own),
+        (Access::Read, Directive::Load { array, index })
+        | (Access::Write, Directive::Store { array, index }) => Some(Cell { array, index }),
+        _ => None,
     }
 }
 
-fn store_target(directive: Directive) -> Target
-    ensures { result ≡ store_target directive }
-{
-    match directive {
-        Directive::Step => Target::Own,
-        Directive::Store { array, index } => Target::Named { array, index },
-        Directive::Force => Target::Neither,
-        Directive::Load { array: _, index: _ } => Target::Neither,
-        Directive::Rollback => Target::Neither,
-    }
-}
-
-// The cell that a read or write uses, if its directive fits: its own where that exists, whatever the directive names; else the named one,
+// The place that a read or write uses: that of its own cell where it exists, whatever the directive asks for; else that of the cell asked for,
 // and only with the flag set.
-fn cell_for(starts: &[u16], flag: bool, array: usize, index: u32, target: Target) -> Cell
-    requires { length starts.now ≡ starts_length }
-    ensures { (counts : List ℕ) → Starts counts starts.now → result ≡ found (cell_for counts flag array index target) }
+fn cell_for(places: &Places, flag: bool, own: Cell, asked: Cell) -> Option<u32>
+    ensures { result ≡ found (cell_for (table_of places.now).counts flag own (Some asked)) }
 {
-    let own = cell_at(starts, array, index);
-    match target {
-        Target::Own => own,
-        Target::Named {
-            array: other,
-            index: place,
-        } => {
-            if flag {
-                own_or(own, cell_at(starts, other, place))
-            } else {
-                own
-            }
-        }
-        Target::Neither => Cell::Missing,
-    }
-}
-
-// The program's own cell, or another where that is missing.
-fn own_or(own: Cell, other: Cell) -> Cell
-    ensures { result ≡ own_or own other }
-{
-    match own {
-        Cell::At { place } => Cell::At { place },
-        Cell::Missing => other,
+    let place = places.cell_at(own);
+    if flag {
+        place.or(places.cell_at(asked))
+    } else {
+        place
     }
 }
 
@@ -94,61 +65,33 @@ fn side(value: bool, yes: Back, no: Back) -> Back
 }
 
 // "73 force, at a branch, goes the other way and sets the flag"
-fn fork_fit(value: bool, yes: Back, no: Back, directive: Directive) -> Fit
+#[tactic(auto, unfolding(crate::specs::Fitting::fork_fit))]
+fn fork_fit(value: bool, yes: Back, no: Back, directive: Directive) -> Option<Fit>
     ensures { result ≡ fork_fit value yes no directive }
 {
     match directive {
-        Directive::Step => {
-            let back = side(value, yes, no);
-            Fit::Goes {
-                change: Change::PutBack { back },
-            }
-        }
-        Directive::Force => {
-            let right = side(value, yes, no);
-            let wrong = side(value, no, yes);
-            Fit::Forced {
-                value,
-                right,
-                wrong,
-            }
-        }
-        Directive::Load { array: _, index: _ } => Fit::Unfit,
-        Directive::Store { array: _, index: _ } => Fit::Unfit,
-        Directive::Rollback => Fit::Unfit,
+        Directive::Step => Some(Fit::Goes(Change::PutBack {
+            back: side(value, yes, no),
+        })),
+        Directive::Force => Some(Fit::Forces(Forced {
+            value,
+            right: side(value, yes, no),
+            wrong: side(value, no, yes),
+        })),
+        Directive::Load { .. } | Directive::Store { .. } | Directive::Rollback => None,
     }
 }
 
-// A read gives its variable the word of the cell.
-fn load_fit(cells: &[u8], variable: usize, cell: Cell) -> Fit
-    ensures { result ≡ load_fit cells.now variable cell }
-{
-    match cell {
-        Cell::At { place } => {
-            let value = u32_at(cells, 4 * (place as usize));
-            Fit::Goes {
-                change: Change::Assign { variable, value },
-            }
-        }
-        Cell::Missing => Fit::Unfit,
-    }
-}
-
-fn store_fit(value: u32, cell: Cell) -> Fit
-    ensures { result ≡ store_fit value cell }
-{
-    match cell {
-        Cell::At { place } => Fit::Goes {
-            change: Change::Store { place, value },
-        },
-        Cell::Missing => Fit::Unfit,
-    }
-}
-
-// What a shown step does under a directive.
-pub fn fitting(starts: &[u16], cells: &[u8], flag: bool, shown: Shown, directive: Directive) -> Fit
-    requires { length starts.now ≡ starts_length }
-    ensures { (counts : List ℕ) → Starts counts starts.now → result ≡ fit_of counts cells.now flag shown directive }
+// What a shown step does under a directive, if they fit. A read gives its variable the word of the cell.
+#[tactic(auto, unfolding(crate::specs::Fitting::fit_of, crate::specs::Fitting::cell_for))]
+pub fn fitting(
+    places: &Places,
+    cells: &[u8],
+    flag: bool,
+    shown: Shown,
+    directive: Directive,
+) -> Option<Fit>
+    ensures { result ≡ fit_of (table_of places.now).counts cells.now flag shown directive }
 {
     match shown {
         Shown::Fork { value, yes, no } => fork_fit(value, yes, no, directive),
@@ -157,16 +100,19 @@ pub fn fitting(starts: &[u16], cells: &[u8], flag: bool, shown: Shown, directive
             array,
             index,
         } => {
-            let cell = cell_for(starts, flag, array, index, load_target(directive));
-            load_fit(cells, variable, cell)
+            let own = Cell { array, index };
+            let place = cell_for(places, flag, own, asked(Access::Read, own, directive)?)?;
+            let value = u32_at(cells, 4 * (place as usize));
+            Some(Fit::Goes(Change::Assign { variable, value }))
         }
         Shown::Put {
             array,
             index,
             value,
         } => {
-            let cell = cell_for(starts, flag, array, index, store_target(directive));
-            store_fit(value, cell)
+            let own = Cell { array, index };
+            let place = cell_for(places, flag, own, asked(Access::Write, own, directive)?)?;
+            Some(Fit::Goes(Change::Store { place, value }))
         }
     }
 }

@@ -1,59 +1,53 @@
-// What guides a step: a directive of the list, or the program itself.
+// What guides a step: a directive of the list, or the program itself. List and board are the run's, and an offset in the list is the state's, so
+// each function asks for the three.
 ghost use Rattle.machine.specs.declared.Board.TheVariants.{Guessing, Rolling};
 ghost use Rattle.directives.specs.Guiding.{Readable, GuidedAs, RollbackAs};
 
-use crate::list::{Listed, directive_at, size_of};
+use crate::list::{ROLLBACK, first, size_of};
 use bytes_le::get::u16_at;
 use machine::{Board, Directive};
 
-// The directive of the next shown step with the bytes and the directives that it uses up, or that none is left.
+// How many directives a step uses up, and how many bytes of their list. Both are numbers, 0 for no directive, as the state of a run adds them up.
 #[derive(Clone, Copy)]
-pub enum Guided {
-    By {
-        directive: Directive,
-        size: usize,
-        used: u32,
-    },
-    Out,
+pub struct Consumed {
+    pub used: u32,
+    pub size: usize,
 }
 
-// What a list has for the next shown step.
-fn next_listed(list: &[u8], at: usize) -> Guided
+// The directive of a shown step, and what it uses up.
+#[derive(Clone, Copy)]
+pub struct Guided {
+    pub directive: Directive,
+    pub consumed: Consumed,
+}
+
+// What a list has for the next shown step, if any directive is left.
+fn next_listed(list: &[u8], at: usize) -> Option<Guided>
     requires { Readable list.now at }
     ensures { GuidedAs Guessing list.now at result × GuidedAs Rolling list.now at result }
 {
-    if list.len() <= at {
-        return Guided::Out;
-    }
-    let found = directive_at(list, at);
-    match found {
-        Listed::One { directive } => {
-            let size = size_of(directive);
-            Guided::By {
-                directive,
-                size,
-                used: 1,
-            }
-        }
-        // a list that was read has a whole directive here
-        Listed::Nothing => Guided::Out,
-    }
+    // a list that was read has a whole directive here, or ends
+    let directive = first(&list[at..])?;
+    let size = size_of(directive);
+    Some(Guided {
+        directive,
+        consumed: Consumed { used: 1, size },
+    })
 }
 
 // "The guessing machine .. takes one directive per shown step", and so does the rolling one. The plain machine takes every step as the
 // program has it.
-pub fn guide(list: &[u8], board: Board, at: usize) -> Guided
+pub fn guide(list: &[u8], board: Board, at: usize) -> Option<Guided>
     requires { Readable list.now at }
     ensures { GuidedAs board list.now at result }
 {
-    let Board::Plain = board else {
-        return next_listed(list, at);
-    };
-    Guided::By {
-        directive: Directive::Step,
-        size: 0,
-        used: 0,
+    if board == Board::Plain {
+        return Some(Guided {
+            directive: Directive::Step,
+            consumed: Consumed { used: 0, size: 0 },
+        });
     }
+    next_listed(list, at)
 }
 
 // Whether a rollback is next. A list that reads has a whole record here, so its kind tells.
@@ -61,8 +55,5 @@ pub fn rollback_next(list: &[u8], board: Board, at: usize) -> bool
     requires { Readable list.now at }
     ensures { RollbackAs board list.now at result }
 {
-    let Board::Rolling = board else {
-        return false;
-    };
-    u16_at(list, at + 2) == 76
+    board == Board::Rolling && u16_at(list, at + 2) == ROLLBACK
 }

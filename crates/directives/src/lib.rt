@@ -1,7 +1,6 @@
 // What a directive decides: which one guides a shown step, which cell the step uses, and what it changes.
 #![tactic(auto)]
 
-pub mod board;
 pub mod change;
 pub mod fit;
 pub mod guide;

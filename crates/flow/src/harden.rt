@@ -8,7 +8,7 @@ use write_entries::entry::answer_job;
 pub fn flow_harden(table: &[u8], out: &mut [u8], answer: &mut [u8]) -> u64
     ensures { Hardens table.now out.old answer.old result out.new answer.new }
 {
-    // this job has no list
+    // this job has no list; `Job` lends nothing, so `answer_job` takes one beside each
     let none = &table[..0];
     answer_job(Job::Hardened, table, none, &mut *out, &mut *answer)
 }

@@ -9,6 +9,8 @@ use Rattle.awhile.specs.Encoding.{nodes_of_a, nodes_of_b, nodes_of}
 use Rattle.reader.specs.Index.{truth_in}
 use Rattle.masks.specs.Decisions.{Decision, decision}
 use Rattle.masks.specs.Hardening.{Origin, masked_condition, zero_if_guessing, masked_index, flag_if_true, flag_if_false, mask_value_of, harden}
+use Rattle.deciding.specs.declared.decisions.Decision.{Decision as Choices}
+use Rattle.masking.specs.declared.Maskable.{Maskable}
 use Rattle.masking.specs.InMemory.{hardened_at, flag_update, test_in, side_in, if_in, loop_in, while_in}
 use Rattle.copier.specs.Sizes.{bytes_of_a, bytes_of_b, bytes_of}
 use Rattle.copier.specs.Totals.{total, total_of_a, total_of_b, total_of}
@@ -46,16 +48,16 @@ module _ (f : ℕ) where
   write_total a n mask i e = omega (arith, place_total mask i)
 
   -- an if and a loop, from their condition and their sides
-  module _ (table ds : List ℕ) (b : ℕ) (mask : Bool) (o : Origin) where
-    pub if_total : (c d : ℕ) → total_of (if_in table ds f b mask o c d)
-        ≡ 3 * (total_of_b (truth_in table b) + cond mask (total 4 30) 0) + total_of (hardened_at table ds f c) + total_of (hardened_at table ds f d) + total 11 90
+  module _ (table : List ℕ) (ds : List Choices) (b : Maskable) (o : Origin) where
+    pub if_total : (c d : ℕ) → total_of (if_in table ds f b o c d)
+        ≡ 3 * (total_of_b (truth_in table b.node) + cond b.mask (total 4 30) 0) + total_of (hardened_at table ds f c) + total_of (hardened_at table ds f d) + total 11 90
     unfolding if_in side_in test_in flag_update flag_if_true flag_if_false nodes_of bytes_of nodes_of_a bytes_of_a
-    if_total c d = omega (arith, test_total mask (truth_in table b))
+    if_total c d = omega (arith, test_total b.mask (truth_in table b.node))
 
-    pub while_total : (c : ℕ) → total_of (while_in table ds f b mask o c)
-        ≡ 3 * (total_of_b (truth_in table b) + cond mask (total 4 30) 0) + total_of (hardened_at table ds f c) + total 11 88
+    pub while_total : (c : ℕ) → total_of (while_in table ds f b o c)
+        ≡ 3 * (total_of_b (truth_in table b.node) + cond b.mask (total 4 30) 0) + total_of (hardened_at table ds f c) + total 11 88
     unfolding while_in loop_in side_in test_in flag_update flag_if_true flag_if_false nodes_of bytes_of nodes_of_a bytes_of_a
-    while_total c = omega (arith, test_total mask (truth_in table b))
+    while_total c = omega (arith, test_total b.mask (truth_in table b.node))
 
 -- so many nodes and bytes are so many
 pub record SameSize (nodes bytes true_nodes true_bytes : ℕ) : Type 0 where

@@ -1,25 +1,31 @@
 -- What comes out for a node of each kind of command, by the decisions in memory.
-use Prim.Native.Nat.{ℕ, ◌<◌}
-use native.Mathlib.Omega.{arith}
+use Prim.Native.Nat.{ℕ}
 use mathlib.Core.Bool.{Bool, true, false}
 use mathlib.Core.List.{List}
 use mathlib.Core.Option.{some}
 use mathlib.Core.Path.{◌≡◌}
-use lib.ListN.{length}
+use lib.ListN.{get_or}
 use Rattle.awhile.specs.Language.{AExp, skip, assign, sequence, if, while, read, write, map_notes}
 use Rattle.awhile.specs.Encoding.{nodes_of, write_c}
 use Rattle.reader.specs.Index.{truth_in, command_in}
-use Rattle.reader.proofs.Index.{Child, child_of_sort}
-use Rattle.awhile.specs.declared.Sort.TheVariants.{Command}
 use Rattle.masks.specs.Decisions.{decision}
 use Rattle.masks.specs.Hardening.{harden}
-use Rattle.deciding.specs.Deciding.{decision_in, decided_in}
-use Rattle.masking.specs.InMemory.{hardened_at, flag_update, test_in, side_in, if_in, loop_in, while_in, Hardenable}
+use Rattle.deciding.specs.Deciding.{none as no_choice, decision_in, decided_in}
+use Rattle.deciding.specs.declared.decisions.Decision.{Decision as Choices}
+use Rattle.masking.specs.declared.Maskable.{Maskable}
+use Rattle.masking.specs.InMemory.{hardened_at, flag_update, test_in, side_in, if_in, loop_in, while_in}
 use Rattle.copier.specs.Sizes.{bytes_of}
 use Rattle.copier.specs.Written.{SpaceFor, Wrote}
 use Rattle.copier.specs.declared.Size.{Size}
 
-module _ (table ds : List ℕ) (f n : ℕ) where
+-- what is decided on a command, and its condition with that
+abbrev pub own : List Choices → (node : ℕ) → Choices
+own ds n = get_or ds n no_choice
+
+abbrev pub own_condition : List Choices → (node condition : ℕ) → Maskable
+own_condition ds n b = record { node = b; mask = (own ds n).condition }
+
+module _ (table : List ℕ) (ds : List Choices) (f n : ℕ) where
   pub in_skip : command_in table n ≡ skip n → hardened_at table ds f n ≡ skip (some n)
   unfolding hardened_at decided_in harden map_notes decision_in
   in_skip p = rw p
@@ -33,33 +39,23 @@ module _ (table ds : List ℕ) (f n : ℕ) where
   unfolding hardened_at decided_in harden map_notes decision_in
   in_sequence c d p = rw p
 
-  pub in_if : (b c d : ℕ) {mask : Bool} → command_in table n ≡ if n (truth_in table b) (command_in table c) (command_in table d)
-      → mask ≡ (decision_in ds n).mask_condition → hardened_at table ds f n ≡ if_in table ds f b mask (some n) c d
+  pub in_if : (b c d : ℕ) → command_in table n ≡ if n (truth_in table b) (command_in table c) (command_in table d)
+      → hardened_at table ds f n ≡ if_in table ds f (own_condition ds n b) (some n) c d
   unfolding hardened_at decided_in harden map_notes decision_in if_in side_in test_in flag_update
-  in_if b c d p e = rw (p, e)
+  in_if b c d p = rw p
 
-  pub in_while : (b c : ℕ) {mask : Bool} → command_in table n ≡ while n (truth_in table b) (command_in table c)
-      → mask ≡ (decision_in ds n).mask_condition → hardened_at table ds f n ≡ while_in table ds f b mask (some n) c
+  pub in_while : (b c : ℕ) → command_in table n ≡ while n (truth_in table b) (command_in table c)
+      → hardened_at table ds f n ≡ while_in table ds f (own_condition ds n b) (some n) c
   unfolding hardened_at decided_in harden map_notes decision_in while_in loop_in side_in test_in flag_update
-  in_while b c p e = rw (p, e)
+  in_while b c p = rw p
 
-  pub in_read : {x a : ℕ} {i : AExp} {mask hide : Bool} → command_in table n ≡ read n x a i → mask ≡ (decision_in ds n).mask_index → hide ≡ (decision_in ds n).mask_value
-      → hardened_at table ds f n ≡ harden f (read (decision n false mask hide) x a i)
+  pub in_read : {x a : ℕ} {i : AExp} → command_in table n ≡ read n x a i → hardened_at table ds f n ≡ harden f (read (decision n false (own ds n).index (own ds n).value) x a i)
   unfolding hardened_at decided_in harden map_notes decision_in
-  in_read p e g = rw (p, e, g)
+  in_read p = rw p
 
-  pub in_write : {a : ℕ} {i e : AExp} {mask : Bool} → command_in table n ≡ write n a i e → mask ≡ (decision_in ds n).mask_index
-      → hardened_at table ds f n ≡ harden f (write (decision n false mask false) a i e)
+  pub in_write : {a : ℕ} {i e : AExp} → command_in table n ≡ write n a i e → hardened_at table ds f n ≡ harden f (write (decision n false (own ds n).index false) a i e)
   unfolding hardened_at decided_in harden map_notes decision_in
-  in_write p e = rw (p, e)
-
--- a command that may be hardened has its decisions
-pub own_decision : {table index ds : List ℕ} {n : ℕ} → Hardenable table index ds n → n < length ds
-own_decision pre = omega (arith, pre.node.inside, pre.room)
-
--- a command that is a part of it may be hardened
-pub child_hardenable : {table index ds : List ℕ} {n k : ℕ} → Hardenable table index ds n → Child table Command n k → Hardenable table index ds k
-child_hardenable pre c = record { node = child_of_sort pre.node.indexed c; room = pre.room }
+  in_write p = rw p
 
 -- the number that a read is noted with does not show
 module _ (from f x a n : ℕ) (mask : Bool) (i : AExp) {l : List ℕ} where

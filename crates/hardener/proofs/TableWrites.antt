@@ -12,21 +12,25 @@ use Rattle.bytes_le.proofs.Stores.{sets-append}
 use Rattle.awhile.specs.Language.{Com}
 use Rattle.awhile.specs.Encoding.{nodes_of, count_bytes, header_bytes, labels_bytes, table_bytes, write_c}
 use Rattle.awhile.specs.Nodes.{sort_of, node_bytes}
-use Rattle.awhile.specs.Tables.{Table, header_of, max_variables, max_arrays, max_nodes, mask_bytes, labels_size, header_size, counts_start, count_start, nodes_start}
+use Rattle.awhile.specs.declared.Sort.TheVariants.{Command}
+use Rattle.awhile.specs.Tables.{Table, header_of, declarations_of, max_variables, max_arrays, max_nodes, mask_bytes, labels_size, header_size, counts_start, count_start, nodes_start}
 use Rattle.awhile.specs.declared.Declarations.{Declarations}
 use Rattle.awhile.specs.declared.Header.{Header}
 use Rattle.awhile.specs.declared.Labelling.{Labelling}
-use Rattle.reader.specs.Index.{HasHeader, table_of, version_in, nodes_in, node_in, command_in}
+use Rattle.reader.specs.Admitted.{Admitted}
+use Rattle.reader.specs.Index.{HasHeader, HasSort, Ready, table_of, version_in, nodes_in, node_in, command_in}
+use Rattle.reader.proofs.Admitted.{offsets_in, bytes, indexed}
 use Rattle.reader.proofs.Index.{indexed_root, indexed_root_sort, indexed_some, indexed_well_formed}
 use Rattle.reader.proofs.Ready.{header_version, header_arrays, header_few_arrays, header_count, ready_header, ready_variables, ready_nodes, ready_labels}
 use Rattle.awhile.proofs.Lists.{flat_map_append}
-use Rattle.awhile.proofs.Versions.{declared_variables}
+use Rattle.awhile.proofs.Versions.{declared_variables, mask_most}
 use Rattle.awhile.proofs.Reading.{length-header_bytes, length-labels_bytes, length-count_bytes, length_counts_bytes}
 use Rattle.masks.specs.Decisions.{Decision}
 use Rattle.masks.specs.Growth.{MasksLargeConditions}
 use Rattle.masks.specs.Hardening.{Origin, version_for, hardened_program, table_of_hardened, hardened_table}
+use Rattle.deciding.specs.declared.decisions.Decision.{Decision as Choices}
 use Rattle.deciding.specs.Deciding.{decision_in, decided_in}
-use Rattle.masking.specs.InMemory.{hardened_at, Hardenable}
+use Rattle.masking.specs.InMemory.{hardened_at}
 use Rattle.masking.proofs.DecidedProgram.{program_hardened, program_large}
 use Rattle.hardener.specs.Output.{hardened_header, Measurable, Writable, WroteTable}
 use Rattle.hardener.specs.Sizes.{Sizable, AllSized}
@@ -35,7 +39,6 @@ use Rattle.copier.specs.Totals.{bytes_told}
 use Rattle.copier.specs.Written.{SpaceFor, Wrote}
 use Rattle.copier.specs.declared.Size.{Size}
 use Rattle.copier.specs.Records.{record_bytes}
-use Rattle.copier.specs.declared.Record.TheVariants.{One}
 use Rattle.copier.proofs.Lengths.{counted_c, bytes_c_lem}
 use Rattle.copier.proofs.Parts.{sets_rest}
 use Rattle.copier.proofs.Writers.{rest_of, with_rest, wrote_sized}
@@ -53,22 +56,22 @@ counts_next cs a less =
     ∙ ap (flat_map count_bytes) (sym (take-suc cs a 0 less))
     ∙ ap (λ n. flat_map count_bytes (take n cs)) (sym (add-one a))
 
-count_record : (n : ℕ) → record_bytes (One 2 n) ≡ count_bytes n
-unfolding record_bytes count_bytes le
+count_record : (n : ℕ) → record_bytes 2 (n ∷ []) ≡ count_bytes n
+unfolding record_bytes count_bytes le flat_map
 count_record n = refl
 
 -- the record of array a, read at one place and written into the rest from another on
 pub counts_step : {s : List ℕ} {header : Header} (to : Header) → Below 256 s → HasHeader s header → to.arrays ≡ header.arrays → (a from at r : ℕ) → a < header.arrays
     → from ≡ count_start header a → at ≡ count_start to a → r ≡ le_at 2 s (from + 4)
     → (l m rest : List ℕ) → nodes_start to ≤ length l → m ≡ sets l (counts_start to) (flat_map count_bytes (take a (table_of s).counts))
-    → rest ≡ sets (rest_of at m) 0 (record_bytes (One 2 r))
+    → rest ≡ sets (rest_of at m) 0 (record_bytes 2 (r ∷ []))
     → with_rest at m rest ≡ sets l (counts_start to) (flat_map count_bytes (take (a + 1) (table_of s).counts))
 counts_step {s} {header} to bytes has as_many a from at r less there-read here is l m rest room done stored =
     let cs : List ℕ = (table_of s).counts in
     let start : ℕ = counts_start to in
     let many : header.arrays ≡ length cs = header_arrays has in
     let count : r ≡ get_or cs a 0 = is ∙ ap (λ i. le_at 2 s (i + 4)) there-read ∙ sym (header_count has bytes a less) in
-    let written : record_bytes (One 2 r) ≡ count_bytes (get_or cs a 0) = count_record r ∙ ap count_bytes count in
+    let written : record_bytes 2 (r ∷ []) ≡ count_bytes (get_or cs a 0) = count_record r ∙ ap count_bytes count in
     let same : length m ≡ length l = ap length done ∙ length-sets l start (flat_map count_bytes (take a cs)) in
     let there : at + length (count_bytes (get_or cs a 0)) ≤ length m = omega (arith, length-count_bytes (get_or cs a 0)) in
     let so_far : at ≡ start + length (flat_map count_bytes (take a cs)) = omega (arith, length_counts_bytes (take a cs), length-take-le a cs (omega arith)) in
@@ -146,90 +149,99 @@ table_length t =
 abbrev pub root_at : Declarations → ℕ
 root_at d = d.header.nodes - 1
 
-module _ {table index ds : List ℕ} {declared : Declarations} (bytes : Below 256 table) (m : Measurable table index ds declared) where
+module _ {table : List ℕ} {declared : Declarations} (admitted : Admitted table) (told : declared ≡ declarations_of (table_of table)) where
+  ready : Ready table (offsets_in table) declared
+  ready = record { indexed = indexed admitted; declares = sym told }
+
+  pub declared_header : HasHeader table declared.header
+  declared_header = ready_header ready
+
   -- there are nodes
   pub measured_some : 0 < declared.header.nodes
-  measured_some = omega (arith, ready_nodes m.ready, indexed_some table index bytes m.ready.indexed)
+  measured_some = omega (arith, ready_nodes ready, indexed_some table (offsets_in table) (bytes admitted) (indexed admitted))
 
-  -- no more than are hardened
-  pub measured_nodes : declared.header.nodes ≤ 512
-  measured_nodes = omega (arith, ready_nodes m.ready, m.few)
-
-  -- nor more arrays than a table may have
+  -- no more arrays than a table may have
   pub measured_arrays : declared.header.arrays ≤ max_arrays
-  measured_arrays = header_few_arrays (ready_header m.ready) bytes
-
-  pub measured_sizable : Sizable table index ds
-  measured_sizable = record { indexed = m.ready.indexed; few = m.few; room = m.decided.room }
-
-  is_last : nodes_in table - 1 ≡ root_at declared
-  is_last = omega (arith, ready_nodes m.ready)
-
-  -- what comes out for the root is the hardened program
-  root_hardened : hardened_at table ds (table_of table).variables (root_at declared) ≡ hardened_program (table_of table)
-  root_hardened = ap (hardened_at table ds (table_of table).variables) (sym is_last) ∙ program_hardened m.decided
-
-  pub root_hardenable : Hardenable table index ds (root_at declared)
-  root_hardenable =
-      record {
-        node = record {
-          indexed = m.ready.indexed;
-          inside = omega (arith, ready_nodes m.ready, measured_some);
-          is_sort = ap (λ n. sort_of (node_in table n)) (sym is_last) ∙ indexed_root_sort table index bytes m.ready.indexed;
-        };
-        room = m.decided.room;
-      }
-
-  -- at most 8 nodes come out per node put in
-  root_grown : nodes_of (hardened_at table ds 0 (root_at declared)) ≤ 8 * nodes_in table
-  unfolding hardened_at decided_in nodes_in
-  root_grown =
-      let d : Com Decision = decided_in table ds (root_at declared) in
-      omega (
-        arith,
-        hardened_size 0 d (subst (λ n. MasksLargeConditions (decided_in table ds n)) is_last (program_large m.decided)),
-        nodes_of_mapped (decision_in ds) (command_in table (root_at declared)),
-        ap nodes_of (indexed_root table index bytes m.ready.indexed ∙ ap (command_in table) is_last),
-        root_size (table_of table) (indexed_well_formed table index bytes m.ready.indexed),
-      )
-
-  pub root_few : nodes_of (hardened_at table ds 0 (root_at declared)) ≤ max_nodes
-  root_few = omega (arith, root_grown, m.few)
-
-  -- the nodes of the hardened table stand where its header says
-  same_start : nodes_start (hardened_header (header_of (table_of table)) 0) ≡ nodes_start (hardened_header declared.header 0)
-  same_start = ap (λ h. nodes_start (hardened_header h 0)) (ready_header m.ready).is_header
+  measured_arrays = header_few_arrays (ready_header ready) (bytes admitted)
 
   -- variables are within the limits
   pub measured_variables : declared.header.variables ≤ max_variables
-  measured_variables = omega (arith, ready_variables m.ready, declared_variables (indexed_well_formed table index bytes m.ready.indexed).declared)
+  measured_variables = omega (arith, ready_variables ready, declared_variables (indexed_well_formed table (offsets_in table) (bytes admitted) (indexed admitted)).declared)
 
-  -- how long the hardened table is, by its root
-  pub measured_length : length (table_bytes (hardened_table (table_of table))) ≡ nodes_start (hardened_header declared.header 0) + bytes_of (hardened_at table ds 0 (root_at declared))
-  unfolding hardened_at
-  measured_length =
-      let same = any_flag 0 (table_of table).variables (decided_in table ds (root_at declared)) in
-      omega (arith, same.bytes_same, ap bytes_of root_hardened, table_length (table_of table), same_start)
+  is_last : nodes_in table - 1 ≡ root_at declared
+  is_last = omega (arith, ready_nodes ready)
 
-  -- and by the total that is kept for it
-  pub measured_total : {totals : List ℕ} → AllSized table ds totals
-      → nodes_start (hardened_header declared.header 0) + bytes_told (get_or totals (root_at declared) 0) ≡ length (table_bytes (hardened_table (table_of table)))
-  measured_total t =
-      let root = root_hardenable.node in
-      omega (
-        arith,
-        t.commands (root_at declared) root.inside root.is_sort,
-        measured_length,
-        root_few,
-        (bytes_c_lem (hardened_at table ds 0 (root_at declared))).short,
-      )
+  -- the nodes of the hardened table stand where its header says
+  same_start : nodes_start (hardened_header (header_of (table_of table)) 0) ≡ nodes_start (hardened_header declared.header 0)
+  same_start = ap (λ h. nodes_start (hardened_header h 0)) (ready_header ready).is_header
 
-  -- at most 80 bytes come out per node put in
-  pub measured_short : length (table_bytes (hardened_table (table_of table))) ≤ nodes_start (hardened_header declared.header 0) + 80 * declared.header.nodes
-  measured_short = omega (arith, measured_length, (bytes_c_lem (hardened_at table ds 0 (root_at declared))).short, root_grown, ready_nodes m.ready)
+  -- and that is not far
+  pub start_small : nodes_start (hardened_header declared.header 0) ≤ 65536
+  start_small = omega (arith, measured_arrays, mask_most (hardened_header declared.header 0).version)
+
+  -- the root is a command
+  pub root_command : HasSort table Command (root_at declared)
+  root_command =
+      record {
+        inside = omega (arith, ready_nodes ready, measured_some);
+        is_sort = ap (λ n. sort_of (node_in table n)) (sym is_last) ∙ indexed_root_sort table (offsets_in table) (bytes admitted) (indexed admitted);
+      }
+
+  module _ {ds : List Choices} (m : Measurable table ds) where
+    -- no more than are hardened
+    pub measured_nodes : declared.header.nodes ≤ 512
+    measured_nodes = omega (arith, ready_nodes ready, m.few)
+
+    pub measured_sizable : Sizable table ds
+    measured_sizable = record { few = m.few; room = m.decided.room }
+
+    -- what comes out for the root is the hardened program
+    root_hardened : hardened_at table ds (table_of table).variables (root_at declared) ≡ hardened_program (table_of table)
+    root_hardened = ap (hardened_at table ds (table_of table).variables) (sym is_last) ∙ program_hardened m.decided
+
+    -- at most 8 nodes come out per node put in
+    root_grown : nodes_of (hardened_at table ds 0 (root_at declared)) ≤ 8 * nodes_in table
+    unfolding hardened_at decided_in nodes_in
+    root_grown =
+        let d : Com Decision = decided_in table ds (root_at declared) in
+        omega (
+          arith,
+          hardened_size 0 d (subst (λ n. MasksLargeConditions (decided_in table ds n)) is_last (program_large m.decided)),
+          nodes_of_mapped (decision_in ds) (command_in table (root_at declared)),
+          ap nodes_of (indexed_root table (offsets_in table) (bytes admitted) (indexed admitted) ∙ ap (command_in table) is_last),
+          root_size (table_of table) (indexed_well_formed table (offsets_in table) (bytes admitted) (indexed admitted)),
+        )
+
+    pub root_few : nodes_of (hardened_at table ds 0 (root_at declared)) ≤ max_nodes
+    root_few = omega (arith, root_grown, m.few)
+
+    -- how long the hardened table is, by its root
+    pub measured_length : length (table_bytes (hardened_table (table_of table))) ≡ nodes_start (hardened_header declared.header 0) + bytes_of (hardened_at table ds 0 (root_at declared))
+    unfolding hardened_at
+    measured_length =
+        let same = any_flag 0 (table_of table).variables (decided_in table ds (root_at declared)) in
+        omega (arith, same.bytes_same, ap bytes_of root_hardened, table_length (table_of table), same_start)
+
+    -- and by the total that is kept for it
+    pub measured_total : {totals : List ℕ} → AllSized table ds totals
+        → nodes_start (hardened_header declared.header 0) + bytes_told (get_or totals (root_at declared) 0) ≡ length (table_bytes (hardened_table (table_of table)))
+    measured_total t =
+        let root = root_command in
+        omega (
+          arith,
+          t.commands (root_at declared) root.inside root.is_sort,
+          measured_length,
+          root_few,
+          (bytes_c_lem (hardened_at table ds 0 (root_at declared))).short,
+        )
+
+    -- at most 80 bytes come out per node put in
+    pub measured_short : length (table_bytes (hardened_table (table_of table))) ≤ nodes_start (hardened_header declared.header 0) + 80 * declared.header.nodes
+    measured_short = omega (arith, measured_length, (bytes_c_lem (hardened_at table ds 0 (root_at declared))).short, root_grown, ready_nodes ready)
 
 -- ---- writing the hardened table
-module _ {table index ds : List ℕ} {declared : Declarations} {out : List ℕ} (bytes : Below 256 table) (w : Writable table index ds declared out) where
+module _ {table : List ℕ} {ds : List Choices} {declared : Declarations} {out : List ℕ} (admitted : Admitted table)
+    (told : declared ≡ declarations_of (table_of table)) (w : Writable table ds out) where
   -- what comes out
   abbrev program : Com Origin
   program = hardened_at table ds declared.header.variables (root_at declared)
@@ -239,10 +251,10 @@ module _ {table index ds : List ℕ} {declared : Declarations} {out : List ℕ} 
   to = hardened_header declared.header 0
 
   has_header : HasHeader table declared.header
-  has_header = ready_header w.measurable.ready
+  has_header = ready_header (ready admitted told)
 
   written_program : program ≡ hardened_program (table_of table)
-  written_program = ap (λ f. hardened_at table ds f (root_at declared)) (ready_variables w.measurable.ready) ∙ root_hardened bytes w.measurable
+  written_program = ap (λ f. hardened_at table ds f (root_at declared)) (ready_variables (ready admitted told)) ∙ root_hardened admitted told w.measurable
 
   -- the bytes of the hardened table
   whole_bytes : table_bytes (hardened_table (table_of table))
@@ -253,11 +265,11 @@ module _ {table index ds : List ℕ} {declared : Declarations} {out : List ℕ} 
       let p = hardened_program (table_of table) in
       let n : nodes_of p ≡ length (write_c 0 p) = sym (counted_c 0 p).nodes_are in
       let version : declared.header.version ≡ (table_of table).version = header_version has_header in
-      rw (written_program, ready_variables w.measurable.ready, header_arrays has_header, ready_labels w.measurable.ready, version, n)
+      rw (written_program, ready_variables (ready admitted told), header_arrays has_header, ready_labels (ready admitted told), version, n)
 
   -- and how many
   whole_length : length (table_bytes (hardened_table (table_of table))) ≡ nodes_start (hardened_header declared.header 0) + bytes_of program
-  whole_length = omega (arith, table_length (table_of table), same_start bytes w.measurable, ap bytes_of written_program)
+  whole_length = omega (arith, table_length (table_of table), same_start admitted told, ap bytes_of written_program)
 
   pub whole_fits : nodes_start (hardened_header declared.header 0) + bytes_of program ≤ length out
   whole_fits = omega (arith, whole_length, w.fits)
@@ -265,7 +277,7 @@ module _ {table index ds : List ℕ} {declared : Declarations} {out : List ℕ} 
   -- so many nodes come out that a table may have them
   written_few : nodes_of program ≤ max_nodes
   unfolding hardened_at
-  written_few = omega (arith, root_few bytes w.measurable, (any_flag 0 declared.header.variables (decided_in table ds (root_at declared))).nodes_same)
+  written_few = omega (arith, root_few admitted told w.measurable, (any_flag 0 declared.header.variables (decided_in table ds (root_at declared))).nodes_same)
 
   -- ---- behind the declarations
   module _ (at : ℕ) (here : at ≡ nodes_start (hardened_header declared.header 0)) where

@@ -2,5 +2,6 @@
 #![tactic(auto)]
 
 pub mod commands;
+pub mod plan;
 pub mod sizes;
 pub mod tables;

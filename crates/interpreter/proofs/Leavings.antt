@@ -5,8 +5,8 @@ use mathlib.Core.Path.{◌≡◌, refl, sym, ap, ◌∙◌}
 use mathlib.Core.List.{List, ◌++◌, map, reverse}
 use lib.ListN.{length, take, drop, replicate}
 use lib.Seq.{sets, sets-eq}
-use borrow.Author.Tests.{eq-eqb, ne_eqb}
-use Rattle.bytes_le.specs.Numbers.{le_at, words}
+use borrow.Author.Tests.{ne_eqb}
+use Rattle.bytes_le.specs.Numbers.{words}
 use Rattle.bytes_le.proofs.Numbers.{Below}
 use Rattle.bytes_le.proofs.Words.{words_append}
 use Rattle.bytes_le.proofs.Zeros.{length_zeros}
@@ -15,15 +15,6 @@ use Rattle.machine.specs.Memory.{pending_words, pending_after, next_node}
 use Rattle.stepping.specs.Stepping.{pending_of}
 use Rattle.interpreter.specs.Running.{next_word}
 use Rattle.saves.proofs.Pending.{length_pending, Noted, pending_words_lem}
-
--- "the next node (0 if nothing is pending)"
-pub next_none : (ps : List ℕ) (count : ℕ) → count ≡ 0 → 0 ≡ next_word ps count
-unfolding next_word
-next_none ps count e = rw (eq-eqb count 0 e)
-
-pub next_some : (ps : List ℕ) (count r : ℕ) → (count ≡ 0 → ⊥) → r ≡ le_at 4 ps (4 * (count - 1)) → r ≡ next_word ps count
-unfolding next_word
-next_some ps count r some is = rw (ne_eqb count 0 some) is
 
 module _ (table : List ℕ) where
   pub next_noted : (ps : List ℕ) (count : ℕ) → Noted table ps count → next_word ps count ≡ next_node (pending_of table ps count)

@@ -1,23 +1,26 @@
 -- A run under way stays under way through a step of the program: its command taken off, its change made.
 use Prim.Native.Nat.{ℕ, ◌+◌, ◌*◌, ◌-◌, ◌≤◌}
 use native.Mathlib.Omega.{arith}
-use mathlib.Core.Path.{◌≡◌, refl, sym, ap, ◌∙◌}
+use mathlib.Core.Path.{◌≡◌, refl, sym, ap, subst, ◌∙◌}
 use mathlib.Core.List.{List, ◌++◌}
 use lib.ListN.{length}
 use lib.Seq.{sets}
-use Rattle.bytes_le.proofs.Numbers.{Below}
+use Rattle.reader.specs.Admitted.{Admitted}
 use Rattle.reader.specs.Index.{table_of, nodes_in}
 use Rattle.machine.specs.Runs.{Outcome, Machine, bytes, goes, next}
 use Rattle.stepping.specs.Evaluation.{variables_in}
 use Rattle.stepping.specs.Actions.{changed}
 use Rattle.directives.specs.Changes.{height_of}
 use Rattle.directives.specs.Guiding.{guide_of}
-use Rattle.stepping.specs.Stepping.{Memory, pending_of, cells_in, machine_of, seen_list, stepped_to, Between, Advances}
+use Rattle.stepping.specs.Stepping.{Memory, pending_of, cells_in, machine_of, seen_list, stepped_to, Between, NextAs, Advances}
 use Rattle.saves.specs.Places.{saves_of}
 use Rattle.interpreter.specs.Effects.{PerformFits, performed, WordFits, Performed, seen_bytes}
 use Rattle.machine.specs.declared.Board.{Board}
 use Rattle.directives.specs.declared.change.Change.{Change}
-use Rattle.stepping.specs.declared.next.Seen.{Seen}
+use Rattle.directives.specs.declared.change.Shown.{Shown}
+use Rattle.std.specs.Prelude.{Option, Result}
+use Rattle.machine.specs.declared.End.{End}
+use Rattle.stepping.specs.declared.next.Next.{Next}
 use Rattle.stepping.specs.declared.state.MachineState.{MachineState}
 use Rattle.machine.proofs.PendingRoom.{fits_length}
 use Rattle.saves.proofs.Places.{length_saves}
@@ -26,12 +29,17 @@ use Rattle.interpreter.proofs.Changing.{changed_variables, changed_cells, change
 use Rattle.interpreter.proofs.Changing.{changed_entries, change_fits, changed_height, changed_state}
 use Rattle.interpreter.proofs.Underway.{OpenSaves, Underway, here, underway_room, few_nodes_lem, fits_after, underway_step}
 
-module _ (table index starts list : List ℕ) (board : Board) (budget : ℕ) (bytes_below : Below 256 table)
-    (whole : Outcome ℕ) (ps₀ ss₀ os₀ : List ℕ) (st : MachineState) (m : Memory) (ss hs os : List ℕ)
-    (u : Underway table index starts list board budget whole ps₀ ss₀ os₀ st m ss hs os)
-    (c : Change) (seen : Seen) (after : MachineState) (adv : Advances table list board budget (length os₀) st m c seen after) where
+-- the next step that a view tells is that of the memory in view
+pub next_seen : (table list : List ℕ) (board : Board) (budget room : ℕ) (st : MachineState) (r : Result Next End) {m m' : Memory}
+    → m ≡ m' → NextAs table list board budget room st m r → NextAs table list board budget room st m' r
+next_seen table list board budget room st r same told = subst (λ x. NextAs table list board budget room st x r) same told
+
+module _ {table list : List ℕ} {board : Board} {budget : ℕ} (admitted : Admitted table)
+    {room : ℕ} {whole : Outcome ℕ} {ps₀ ss₀ os₀ : List ℕ} {st : MachineState} {m : Memory} {ss hs os : List ℕ}
+    (u : Underway table list board budget room whole ps₀ ss₀ os₀ st m ss hs os)
+    {c : Change} {seen : Option Shown} {after : MachineState} (adv : Advances table list board budget room st m c seen after) where
   abbrev machine : Machine ℕ
-  machine = here table index starts list board budget bytes_below whole ps₀ ss₀ os₀ st m ss hs os u
+  machine = here admitted u
 
   abbrev rest : ℕ
   rest = st.pending - 1
@@ -39,7 +47,7 @@ module _ (table index starts list : List ℕ) (board : Board) (budget : ℕ) (by
   abbrev stepped : Machine ℕ
   stepped = stepped_to table list board (pending_of table m.pending rest) machine c seen after
 
-  taken : next (table_of table).counts (bytes (length os₀)) machine ≡ goes stepped
+  taken : next (table_of table).counts (bytes room) machine ≡ goes stepped
   taken = adv.is_next (saves_of table ss hs st.saved) u.seen (length_saves table ss hs st.saved) u.is_shown
 
   -- as many are pending as the nodes allow
@@ -48,20 +56,20 @@ module _ (table index starts list : List ℕ) (board : Board) (budget : ℕ) (by
   height_few =
       let within =
       fits_length (nodes_in table) (changed table c (pending_of table m.pending rest) machine.state after.flag).pending
-      (fits_after table index starts list board budget bytes_below whole ps₀ ss₀ os₀ st m ss hs os u stepped taken).0 in
+      (fits_after admitted u taken).0 in
       omega (arith, changed_height table c rest m.pending machine after.flag)
 
   -- the change can be made
   pub perform_fits : PerformFits c rest m
   perform_fits =
-      change_fits table c rest m (few_nodes_lem table index starts list board budget bytes_below whole ps₀ ss₀ os₀ st m ss hs os u) adv.fits
+      change_fits table c rest m (few_nodes_lem admitted u) adv.fits
       u.between.variables_long u.between.cells_long (omega (arith, height_few, u.between.pending_long))
 
   -- what is shown fits the buffer
   pub show_fits : st.shown + length (seen_bytes seen) ≤ length os
   show_fits =
-      rw (← seen_bytes_lem seen, underway_room table index starts list board budget bytes_below whole ps₀ ss₀ os₀ st m ss hs os u)
-      (omega (arith, adv.counted.is_shown, adv.counted.shown_fit))
+      rw (← seen_bytes_lem seen, underway_room admitted u)
+      (omega (arith, adv.counted.is_shown, adv.counted.shown_fit, u.is_room))
 
   -- the memory after it
   abbrev mem : Memory
@@ -82,13 +90,10 @@ module _ (table index starts list : List ℕ) (board : Board) (budget : ℕ) (by
       (changed_cells table c rest m machine adv.fits word u.between.cells_long (pending_of table m.pending rest) after.flag refl) in
       λ i. record { state = state i; saves = saves_after_lem i; guide = guide_of board list after.at; steps = after.steps; used = after.used; shown = u.seen ++ seen_list seen }
 
-  between_after : Between table index starts list budget (length os₀) after mem
+  between_after : Between table list budget room after mem
   between_after =
       let h = u.between in
       record {
-        indexed = h.indexed;
-        begins = h.begins;
-        starts_long = h.starts_long;
         variables_long = length_variables table c rest m ∙ h.variables_long;
         cells_long = length_cells table c rest m ∙ h.cells_long;
         pending_long = rw (length_entries table c rest m) h.pending_long;
@@ -113,11 +118,11 @@ module _ (table index starts list : List ℕ) (board : Board) (budget : ℕ) (by
         same = o.same;
       }
 
-  pub underway_next : (m' : Memory) (os' : List ℕ) → Performed c rest m m' → os' ≡ sets os st.shown (seen_bytes seen)
-      → Underway table index starts list board budget whole ps₀ ss₀ os₀ after m' ss hs os'
-  underway_next m' os' p o =
+  pub underway_next : {m' : Memory} {os' : List ℕ} → Performed c rest m m' → os' ≡ sets os st.shown (seen_bytes seen)
+      → Underway table list board budget room whole ps₀ ss₀ os₀ after m' ss hs os'
+  underway_next p o =
       rw p.memory
-      (underway_step table index starts list board budget bytes_below whole ps₀ ss₀ os₀ st m ss hs os u stepped taken
-      after mem ss hs os' (seen_list seen) (machine_after p.word) adv.counted.steps_fit adv.counted.is_steps adv.counted.is_shown adv.counted.shown_fit
+      (underway_step admitted u taken
+      after mem (seen_list seen) (machine_after p.word) adv.counted.steps_fit adv.counted.is_steps adv.counted.is_shown adv.counted.shown_fit
       between_after saved_after (o ∙ ap (sets os st.shown) (sym (seen_bytes_lem seen)))
       (pending_beyond table c rest m (4 * nodes_in table) (omega (arith, height_few))) (length_entries table c rest m))

@@ -3,7 +3,7 @@ use Prim.Native.Nat.{ℕ, zero, suc, ◌+◌, ◌*◌, ◌-◌, ◌^◌, ◌≤�
 use native.Mathlib.Numerals.{add-one}
 use native.Mathlib.Nat.{mul_assoc}
 use native.Mathlib.Omega.{arith}
-use mathlib.Core.Bool.{Bool, cond}
+use mathlib.Core.Bool.{cond}
 use mathlib.Core.Path.{◌≡◌, refl, sym, ap, subst, ◌∙◌}
 use mathlib.Core.List.{List, [], ◌∷◌, ◌++◌, flat_map, append-nil}
 use lib.ListN.{length, get_or, take, length-set}
@@ -11,7 +11,7 @@ use lib.Seq.{sets}
 use lib.Dec.{ltb}
 use borrow.Author.Tests.{lt-ltb}
 use Rattle.bytes_le.specs.Numbers.{le, le_at}
-use Rattle.bytes_le.proofs.Numbers.{Below}
+use Rattle.reader.specs.Admitted.{Admitted}
 use Rattle.awhile.specs.Language.{Com}
 use Rattle.reader.specs.Index.{table_of, nodes_in}
 use Rattle.machine.specs.Observations.{branch, rolled_back, observation_bytes, shown_bytes}
@@ -22,9 +22,11 @@ use Rattle.directives.specs.Changes.{height_of}
 use Rattle.directives.specs.Guiding.{guide_of}
 use Rattle.stepping.specs.Stepping.{Memory, memory_at, Undoable, undone_state, pending_of, cells_in, machine_of, saved_to, undone_to, Between, SavesRight, GoesBack}
 use Rattle.saves.specs.Places.{place_words, place_at, saved_at, saves_of, PlacesHold, Restored}
+use Rattle.interpreter.specs.Running.{PlacesLent}
 use Rattle.interpreter.specs.Effects.{PushFits, pushed, SaveFits, RightSaved}
 use Rattle.machine.specs.declared.Board.{Board}
 use Rattle.directives.specs.declared.change.Back.{Back}
+use Rattle.directives.specs.declared.fit.Forced.{Forced}
 use Rattle.directives.specs.declared.change.Change.TheVariants.{PutBack}
 use Rattle.stepping.specs.declared.state.MachineState.{MachineState}
 use Rattle.machine.proofs.PendingRoom.{Fits, fits_length}
@@ -36,28 +38,34 @@ use Rattle.interpreter.proofs.Changing.{length_pushed, pushed_beyond, push_fits,
 use Rattle.interpreter.proofs.Underway.{OpenSaves, Underway, here, underway_room, few_nodes_lem, fits_after, underway_step}
 
 -- a place begins so many places' sizes into the save words
-pub place_offset : (table : List ℕ) (size k : ℕ) → size ≡ 4 * place_words table → size * k ≡ place_at table k
+pub place_offset : {table : List ℕ} {board : Board} {size : ℕ} {ss hs : List ℕ} → PlacesLent table board size ss hs → (k : ℕ) → size * k ≡ place_at table k
 unfolding place_at
-place_offset table size k is = ap (λ n. n * k) is ∙ mul_assoc 4 (place_words table) k
+place_offset {table} lent k = ap (λ n. n * k) lent.is_size ∙ mul_assoc 4 (place_words table) k
 
 -- and before the eight places end
-pub place_within : (table : List ℕ) (size k : ℕ) → size ≡ 4 * place_words table → k < 8 → size * k ≤ 32 * place_words table
-place_within table size k is less = omega (arith, place_offset table size k is, place_order table k (suc k) (omega arith), place_end table k less)
+pub place_within : {table : List ℕ} {board : Board} {size : ℕ} {ss hs : List ℕ} → PlacesLent table board size ss hs → (k : ℕ) → k < 8 → size * k ≤ 32 * place_words table
+place_within {table} lent k less = omega (arith, place_offset lent k, place_order table k (suc k) (omega arith), place_end table k less)
 
-module _ (table index starts list : List ℕ) (board : Board) (budget : ℕ) (bytes_below : Below 256 table)
-    (whole : Outcome ℕ) (ps₀ ss₀ os₀ : List ℕ) (st : MachineState) (m : Memory) (ss hs os : List ℕ)
-    (u : Underway table index starts list board budget whole ps₀ ss₀ os₀ st m ss hs os) where
+module _ {table list : List ℕ} {board : Board} {budget : ℕ} (admitted : Admitted table)
+    {room : ℕ} {whole : Outcome ℕ} {ps₀ ss₀ os₀ : List ℕ} {st : MachineState} {m : Memory} {ss hs os : List ℕ}
+    (u : Underway table list board budget room whole ps₀ ss₀ os₀ st m ss hs os) where
   abbrev machine : Machine ℕ
-  machine = here table index starts list board budget bytes_below whole ps₀ ss₀ os₀ st m ss hs os u
+  machine = here admitted u
 
   room_same : length os ≡ length os₀
-  room_same = underway_room table index starts list board budget bytes_below whole ps₀ ss₀ os₀ st m ss hs os u
+  room_same = underway_room admitted u
 
   nodes_few : nodes_in table ≤ 4096
-  nodes_few = few_nodes_lem table index starts list board budget bytes_below whole ps₀ ss₀ os₀ st m ss hs os u
+  nodes_few = few_nodes_lem admitted u
 
   -- ---- a force that saves
-  module _ (v : Bool) (right wrong : Back) (after : MachineState) (forced : SavesRight table list board budget (length os₀) st m v right wrong after) where
+  module _ {f : Forced} {after : MachineState} (forced : SavesRight table list board budget room st m f after) where
+    abbrev right : Back
+    right = f.right
+
+    abbrev wrong : Back
+    wrong = f.wrong
+
     abbrev rest : ℕ
     rest = st.pending - 1
 
@@ -68,9 +76,9 @@ module _ (table index starts list : List ℕ) (board : Board) (budget : ℕ) (by
     high = height_of (PutBack right) rest
 
     abbrev forked : Machine ℕ
-    forked = saved_to table list board below machine v right wrong after
+    forked = saved_to table list board below machine f after
 
-    taken : next (table_of table).counts (bytes (length os₀)) machine ≡ goes forked
+    taken : next (table_of table).counts (bytes room) machine ≡ goes forked
     taken = forced.is_next (saves_of table ss hs st.saved) u.seen (length_saves table ss hs st.saved) u.is_shown
 
     -- both sides are no longer than the nodes allow
@@ -81,11 +89,11 @@ module _ (table index starts list : List ℕ) (board : Board) (budget : ℕ) (by
 
     wrong_few : height_of (PutBack wrong) rest ≤ nodes_in table
     unfolding saved_to changed
-    wrong_few = side_few wrong (fits_after table index starts list board budget bytes_below whole ps₀ ss₀ os₀ st m ss hs os u forked taken).0
+    wrong_few = side_few wrong (fits_after admitted u taken).0
 
     right_few : high ≤ nodes_in table
     unfolding saved_to changed
-    right_few = side_few right (fits_after table index starts list board budget bytes_below whole ps₀ ss₀ os₀ st m ss hs os u forked taken).1.0
+    right_few = side_few right (fits_after admitted u taken).1.0
 
     right_fits_lem : PushFits right rest (length m.pending)
     right_fits_lem = push_fits table right rest (length m.pending) nodes_few forced.right_fits (omega (arith, right_few, u.between.pending_long))
@@ -106,8 +114,8 @@ module _ (table index starts list : List ℕ) (board : Board) (budget : ℕ) (by
           few = right_few;
         }
 
-    pub save_fits : (at : ℕ) → at ≡ place_at table st.saved → SaveFits right wrong rest st.saved at m ss hs
-    save_fits at is =
+    pub save_fits : {at : ℕ} → at ≡ place_at table st.saved → SaveFits right wrong rest st.saved at m ss hs
+    save_fits is =
         let within = saved_within savable in
         record {
           right_fits = right_fits_lem;
@@ -118,11 +126,8 @@ module _ (table index starts list : List ℕ) (board : Board) (budget : ℕ) (by
           placed = omega (arith, u.saved.eight, forced.few);
         }
 
-    pub branch_fits : st.shown + 6 ≤ length os
-    branch_fits = omega (arith, room_same, forced.counted.is_shown, forced.counted.shown_fit)
-
     -- what stands in the lent bytes after it
-    module _ (ps' ss' hs' : List ℕ) (at : ℕ) (place : at ≡ place_at table st.saved) (saved : RightSaved right wrong rest st.saved at m ss hs ps' ss' hs') where
+    module _ {ps' ss' hs' : List ℕ} {at : ℕ} (place : at ≡ place_at table st.saved) (saved : RightSaved right wrong rest st.saved at m ss hs ps' ss' hs') where
       is_saves : ss' ≡ sets ss (place_at table st.saved) (m.variables ++ (m.cells ++ take (4 * high) (pushed right rest m.pending)))
       is_saves = saved.is_saves ∙ ap (λ n. sets ss n (m.variables ++ (m.cells ++ take (4 * high) (pushed right rest m.pending)))) place
 
@@ -143,7 +148,7 @@ module _ (table index starts list : List ℕ) (board : Board) (budget : ℕ) (by
           ∙ saved_state savable ss' hs' is_saves saved.is_heights u.saved.holds
           ∙ (λ i. record { pending = pending i; variables = variables_in table m.variables; cells = cells_in table m.cells; flag = flag i } ∷ saves_of table ss hs st.saved)
 
-      machine_after : machine_of table list board after (memory_at m.variables m.cells ps') (saves_of table ss' hs' after.saved) (u.seen ++ (branch v ∷ [])) ≡ forked
+      machine_after : machine_of table list board after (memory_at m.variables m.cells ps') (saves_of table ss' hs' after.saved) (u.seen ++ (branch f.value ∷ [])) ≡ forked
       unfolding machine_of saved_to changed
       machine_after =
           λ i. record {
@@ -152,7 +157,7 @@ module _ (table index starts list : List ℕ) (board : Board) (budget : ℕ) (by
             guide = guide_of board list after.at;
             steps = after.steps;
             used = after.used;
-            shown = u.seen ++ (branch v ∷ []);
+            shown = u.seen ++ (branch f.value ∷ []);
           }
 
       length_after : length ps' ≡ length m.pending
@@ -164,13 +169,10 @@ module _ (table index starts list : List ℕ) (board : Board) (budget : ℕ) (by
       right_entries : (j : ℕ) → j < high → CommandAt table (le_at 4 (pushed right rest m.pending) (4 * j))
       right_entries = back_entries table right rest m.pending right_fits_lem forced.right_fits old
 
-      between_after : Between table index starts list budget (length os₀) after (memory_at m.variables m.cells ps')
+      between_after : Between table list budget room after (memory_at m.variables m.cells ps')
       between_after =
           let h = u.between in
           record {
-            indexed = h.indexed;
-            begins = h.begins;
-            starts_long = h.starts_long;
             variables_long = h.variables_long;
             cells_long = h.cells_long;
             pending_long = rw length_after h.pending_long;
@@ -197,21 +199,21 @@ module _ (table index starts list : List ℕ) (board : Board) (budget : ℕ) (by
             same = saved_long savable ss' hs' is_saves saved.is_heights ∙ o.same;
           }
 
-      pub underway_saved : (os' : List ℕ) → os' ≡ sets os st.shown (le 2 6 ++ (le 2 64 ++ le 2 (cond v 1 0)))
-          → Underway table index starts list board budget whole ps₀ ss₀ os₀ after (memory_at m.variables m.cells ps') ss' hs' os'
+      pub underway_saved : {os' : List ℕ} → os' ≡ sets os st.shown (le 2 6 ++ (le 2 64 ++ le 2 (cond f.value 1 0)))
+          → Underway table list board budget room whole ps₀ ss₀ os₀ after (memory_at m.variables m.cells ps') ss' hs' os'
       unfolding shown_bytes flat_map observation_bytes le
-      underway_saved os' o =
-          underway_step table index starts list board budget bytes_below whole ps₀ ss₀ os₀ st m ss hs os u forked taken
-          after (memory_at m.variables m.cells ps') ss' hs' os' (branch v ∷ []) machine_after forced.counted.steps_fit forced.counted.is_steps
+      underway_saved o =
+          underway_step admitted u taken
+          after (memory_at m.variables m.cells ps') (branch f.value ∷ []) machine_after forced.counted.steps_fit forced.counted.is_steps
           forced.counted.is_shown forced.counted.shown_fit between_after saved_after
-          (o ∙ ap (sets os st.shown) (sym (append-nil (le 2 6 ++ (le 2 64 ++ le 2 (cond v 1 0))))))
+          (o ∙ ap (sets os st.shown) (sym (append-nil (le 2 6 ++ (le 2 64 ++ le 2 (cond f.value 1 0))))))
           (rw saved.is_pending
           (pushed_beyond table wrong rest (pushed right rest m.pending) (4 * nodes_in table) (omega (arith, wrong_few))
           ∙ pushed_beyond table right rest m.pending (4 * nodes_in table) (omega (arith, right_few))))
           length_after
 
   -- ---- a rollback
-  module _ (undoes : GoesBack table list board budget (length os₀) st m) where
+  module _ (undoes : GoesBack table list board budget room st m) where
     -- the newest save
     abbrev newest : ℕ
     newest = st.saved - 1
@@ -229,10 +231,10 @@ module _ (table index starts list : List ℕ) (board : Board) (budget : ℕ) (by
     unfolding saves_of
     saves_open = ap (saves_of table ss hs) one_open
 
-    back : next (table_of table).counts (bytes (length os₀)) machine ≡ goes rolled
+    back : next (table_of table).counts (bytes room) machine ≡ goes rolled
     unfolding undone_to machine_of
     back =
-        ap (λ saves. next (table_of table).counts (bytes (length os₀)) (machine_of table list board st m saves u.seen)) saves_open
+        ap (λ saves. next (table_of table).counts (bytes room) (machine_of table list board st m saves u.seen)) saves_open
         ∙ undoes.is_next (saved_at table ss newest height) (saves_of table ss hs newest) u.seen (omega (arith, length_saves table ss hs newest, one_open)) u.is_shown
 
     open_places : PlacesHold table ss hs (suc newest)
@@ -253,16 +255,10 @@ module _ (table index starts list : List ℕ) (board : Board) (budget : ℕ) (by
           few = height_few;
         }
 
-    pub newest_there : newest < length hs
-    newest_there = omega (arith, one_open, u.between.saved_fit, u.saved.eight)
+    pub restore_fits : {at : ℕ} → at ≡ place_at table newest → (4 * height ≤ length m.pending) × (at + length m.variables + length m.cells + 4 * height ≤ length ss)
+    restore_fits is = rw is (saved_within restorable)
 
-    pub rollback_fits : st.shown + 4 ≤ length os
-    rollback_fits = omega (arith, room_same, undoes.shown_fit)
-
-    pub restore_fits : (at : ℕ) → at ≡ place_at table newest → (4 * height ≤ length m.pending) × (at + length m.variables + length m.cells + 4 * height ≤ length ss)
-    restore_fits at is = rw is (saved_within restorable)
-
-    pub undoable : budget < 2 ^ 32 → length os₀ < 2 ^ 64 → length list < 2 ^ 64 → Undoable st
+    pub undoable : budget < 2 ^ 32 → room < 2 ^ 64 → length list < 2 ^ 64 → Undoable st
     undoable budget_fits room_fits list_fits =
         record {
           some = undoes.some;
@@ -272,7 +268,7 @@ module _ (table index starts list : List ℕ) (board : Board) (budget : ℕ) (by
           shown_fit = omega (arith, undoes.shown_fit);
         }
 
-    module _ (m' : Memory) (at : ℕ) (place : at ≡ place_at table newest)
+    module _ (m' : Memory) {at : ℕ} (place : at ≡ place_at table newest)
         (restored : Restored ss at height m.variables m.cells m.pending m'.variables m'.cells m'.pending) where
       there : Restored ss (place_at table newest) height m.variables m.cells m.pending m'.variables m'.cells m'.pending
       there = subst (λ n. Restored ss n height m.variables m.cells m.pending m'.variables m'.cells m'.pending) place restored
@@ -304,14 +300,11 @@ module _ (table index starts list : List ℕ) (board : Board) (budget : ℕ) (by
             shown = u.seen ++ (rolled_back ∷ []);
           }
 
-      between_back : Between table index starts list budget (length os₀) (undone_state st height) m'
+      between_back : Between table list budget room (undone_state st height) m'
       unfolding undone_state
       between_back =
           let h = u.between in
           record {
-            indexed = h.indexed;
-            begins = h.begins;
-            starts_long = h.starts_long;
             variables_long = restored_variables_long restorable there ∙ h.variables_long;
             cells_long = restored_cells_long restorable there ∙ h.cells_long;
             pending_long = rw (restored_pending_long restorable there) h.pending_long;
@@ -337,12 +330,12 @@ module _ (table index starts list : List ℕ) (board : Board) (budget : ℕ) (by
             same = o.same;
           }
 
-      pub underway_back : (os' : List ℕ) → os' ≡ sets os st.shown (le 2 4 ++ le 2 67) → (after : MachineState) → after ≡ undone_state st height
-          → Underway table index starts list board budget whole ps₀ ss₀ os₀ after m' ss hs os'
+      pub underway_back : {os' : List ℕ} → os' ≡ sets os st.shown (le 2 4 ++ le 2 67) → {after : MachineState} → after ≡ undone_state st height
+          → Underway table list board budget room whole ps₀ ss₀ os₀ after m' ss hs os'
       unfolding shown_bytes flat_map observation_bytes le undone_state
-      underway_back os' o after is =
+      underway_back o is =
           rw is
-          (underway_step table index starts list board budget bytes_below whole ps₀ ss₀ os₀ st m ss hs os u rolled back
-          (undone_state st height) m' ss hs os' (rolled_back ∷ []) machine_back undoes.steps_fit refl refl undoes.shown_fit between_back saved_back
+          (underway_step admitted u back
+          (undone_state st height) m' (rolled_back ∷ []) machine_back undoes.steps_fit refl refl undoes.shown_fit between_back saved_back
           (o ∙ ap (sets os st.shown) (sym (append-nil (le 2 4 ++ le 2 67))))
           (restored_beyond restorable there) (restored_pending_long restorable there))

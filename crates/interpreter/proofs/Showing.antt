@@ -10,18 +10,18 @@ use Rattle.machine.specs.Memory.{written_over}
 use Rattle.stepping.specs.Actions.{observation_of}
 use Rattle.stepping.specs.Stepping.{seen_list}
 use Rattle.interpreter.specs.Effects.{seen_bytes}
-use Rattle.stepping.specs.declared.next.Seen.{Seen}
-use Rattle.stepping.specs.declared.next.Seen.TheVariants.{Nothing as NothingSeen, Observed}
+use Rattle.directives.specs.declared.change.Shown.{Shown}
+use Rattle.std.specs.Prelude.{Option, Some, None}
 
 pub shown_append : (os ps : List Observation) → shown_bytes (os ++ ps) ≡ shown_bytes os ++ shown_bytes ps
 unfolding shown_bytes flat_map
 shown_append [] ps = refl
 shown_append (o ∷ os) ps = rw (shown_append os ps) (sym (append_assoc (observation_bytes o) (shown_bytes os) (shown_bytes ps)))
 
-pub seen_bytes_lem : (seen : Seen) → shown_bytes (seen_list seen) ≡ seen_bytes seen
+pub seen_bytes_lem : (seen : Option Shown) → shown_bytes (seen_list seen) ≡ seen_bytes seen
 unfolding shown_bytes flat_map seen_list seen_bytes
-seen_bytes_lem NothingSeen = refl
-seen_bytes_lem (Observed s) = append-nil (observation_bytes (observation_of s))
+seen_bytes_lem None = refl
+seen_bytes_lem (Some s) = append-nil (observation_bytes (observation_of s))
 
 -- a record written behind what was written
 pub written_more : (xs ys slice : List ℕ) → length xs + length ys ≤ length slice → sets (written_over xs slice) (length xs) ys ≡ written_over (xs ++ ys) slice

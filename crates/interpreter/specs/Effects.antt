@@ -1,5 +1,5 @@
 -- What a step does to lent bytes: its change to variables, cells and the pending list, and what it shows.
-use Rattle.std.specs.Prelude.{ℕ, ◌+◌, ◌*◌, ◌^◌, ◌≤◌, ◌<◌, ◌≡◌, List, [], ◌++◌, length, set, take}
+use Rattle.std.specs.Prelude.{ℕ, Option, Some, None, ◌+◌, ◌*◌, ◌^◌, ◌≤◌, ◌<◌, ◌≡◌, List, [], ◌++◌, length, set, take}
 use Rattle.std.proofs.lemmas.List.Edits.{sets}
 use Rattle.bytes_le.specs.Numbers.{le}
 use Rattle.machine.specs.Observations.{observation_bytes}
@@ -11,8 +11,9 @@ use Rattle.directives.specs.declared.change.Back.TheVariants.{One, Two}
 use Rattle.directives.specs.declared.change.Back.TheVariants.{Nothing as NoBack}
 use Rattle.directives.specs.declared.change.Change.{Change}
 use Rattle.directives.specs.declared.change.Change.TheVariants.{PutBack, Assign, Store}
-use Rattle.stepping.specs.declared.next.Seen.{Seen}
-use Rattle.stepping.specs.declared.next.Seen.TheVariants.{Nothing, Observed}
+use Rattle.directives.specs.declared.change.Shown.{Shown}
+use Rattle.interpreter.specs.declared.memory.Kind.{Kind}
+use Rattle.interpreter.specs.declared.memory.Kind.TheVariants.{Branch, Read, Write, Rollback}
 use Rattle.awhile.specs.Tables.{max_nodes}
 
 -- there is room for what is put back, and its numbers fit words
@@ -64,7 +65,14 @@ pub record RightSaved (right wrong : Back) (rest place at : ℕ) (m : Memory) (s
   pub is_saves : saves' ≡ sets saves at (m.variables ++ (m.cells ++ take (4 * height_of (PutBack right) rest) (pushed right rest m.pending)))
   pub is_heights : heights' ≡ set heights place (height_of (PutBack right) rest)
 
+-- "Observations: 64 branch (value), 65 read, 66 write", and 67 for a rollback
+abbrev pub kind_number : Kind → ℕ
+kind_number Branch = 64
+kind_number Read = 65
+kind_number Write = 66
+kind_number Rollback = 67
+
 -- the bytes of what a step shows
-unfoldable pub seen_bytes : Seen → List ℕ
-seen_bytes Nothing = []
-seen_bytes (Observed s) = observation_bytes (observation_of s)
+unfoldable pub seen_bytes : Option Shown → List ℕ
+seen_bytes None = []
+seen_bytes (Some s) = observation_bytes (observation_of s)

@@ -1,11 +1,10 @@
 -- Whole runs as the code has them: what one is asked, and what it leaves in lent bytes.
-use Rattle.std.specs.Prelude.{ℕ, ◌*◌, ◌-◌, ◌≤◌, ◌<◌, cond, ◌≡◌, List, length, drop, eqb}
+use Rattle.std.specs.Prelude.{ℕ, ◌*◌, ◌-◌, ◌^◌, ◌≤◌, ◌<◌, cond, ◌≡◌, List, length, drop, eqb}
 use Rattle.bytes_le.specs.Numbers.{le_at, words}
 use Rattle.awhile.specs.Lists.{sum}
-use Rattle.awhile.specs.Tables.{header_of}
 use Rattle.awhile.specs.Trees.{root_of}
-use Rattle.awhile.specs.declared.Header.{Header}
-use Rattle.reader.specs.Index.{Indexed, table_of, nodes_in}
+use Rattle.reader.specs.Admitted.{Admitted}
+use Rattle.reader.specs.Index.{table_of, nodes_in}
 use Rattle.machine.specs.Observations.{Observation, shown_bytes}
 use Rattle.machine.specs.Runs.{Outcome, bytes, run, started, max_saves}
 use Rattle.machine.specs.Memory.{pending_after, saves_after, written_over, next_node}
@@ -25,8 +24,10 @@ run_of table list board budget m room =
     run (table_of table).counts (bytes room) budget (started (root_of (table_of table)) (variables_in table m.variables) (cells_in table m.cells) (guide_of board list 0))
 
 -- all is ready for the first step: the root is pending
-pub record Begun (table index starts list : List ℕ) (budget room : ℕ) (m : Memory) : Type 0 where
-  pub between : Between table index starts list budget room start_state m
+pub record Begun (table list : List ℕ) (budget room : ℕ) (m : Memory) : Type 0 where
+  pub admitted : Admitted table
+  pub budget_fits : budget < 2 ^ 32
+  pub between : Between table list budget room start_state m
   pub is_root : le_at 4 m.pending 0 ≡ nodes_in table - 1
 
 -- what is lent for saves: a height for each of eight places, and on the board that rolls back the places, each of so many bytes
@@ -48,6 +49,11 @@ pub record StoppedAs (table list : List ℕ) (board : Board) (budget : ℕ) (m :
   pub few_saves : r.state.saved ≤ max_saves
   pub places : PlacesHold table ss' hs' r.state.saved
   pub saves_beyond : drop (4 * max_saves * place_words table) ss' ≡ drop (4 * max_saves * place_words table) ss
+  -- the slices are as long as they were
+  pub variables_long : length m'.variables ≡ length m.variables
+  pub cells_long : length m'.cells ≡ length m.cells
+  pub pending_long : length m'.pending ≡ length m.pending
+  pub saves_long : length ss' ≡ length ss
 
 -- the word of the next node
 unfoldable pub next_word : (pending : List ℕ) → (count : ℕ) → ℕ
@@ -69,14 +75,12 @@ report_of o =
       next = next_node o.machine.state.pending;
     }
 
--- what a run is asked: a table that was read, a directive list that reads, and slices of the right lengths
-pub record RunAsked (table index list : List ℕ) (header : Header) (board : Board) (m : Memory) (ss : List ℕ) : Type 0 where
-  pub indexed : Indexed table index
-  pub is_header : header_of (table_of table) ≡ header
+-- what a run of an accepted table is asked: a directive list that reads, and slices of the right lengths
+pub record RunAsked (table list : List ℕ) (board : Board) (m : Memory) (ss : List ℕ) : Type 0 where
   pub readable : Readable list 0
   pub variables_long : length m.variables ≡ 4 * (table_of table).variables
   pub cells_long : length m.cells ≡ 4 * sum (table_of table).counts
-  pub pending_long : 4 * header.nodes ≤ length m.pending
+  pub pending_long : 4 * nodes_in table ≤ length m.pending
   pub saves_long : board ≡ Rolling → 4 * max_saves * place_words table ≤ length ss
 
 -- what a run leaves in the lent slices, and its report; what is left in save words is asked of the board that rolls back alone

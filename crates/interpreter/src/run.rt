@@ -2,22 +2,26 @@
 ghost use Rattle.std.specs.Prelude.{◌*◌, ◌≤◌, ◌≡◌, length};
 ghost use Rattle.machine.specs.declared.Board.TheVariants.{Rolling};
 ghost use Rattle.saves.specs.Leaving.{left_places, LeaveFits};
+ghost use Rattle.stepping.specs.Lending.{SameMemory};
+ghost use Rattle.stepping.specs.Stepping.{memory_of};
 ghost use Rattle.stepping.specs.Stepping.{memory_at};
+ghost use Rattle.interpreter.specs.Lending.{memory_lent, SameLent};
 ghost use Rattle.interpreter.specs.Running.{Begun, PlacesLent, StoppedAs, next_word, report_with, RunAsked, run_of, RunLeaves};
 ghost use Rattle.machine.specs.Runs.{max_saves};
 
+use crate::lent::{Lent, Task};
 use crate::memory::{perform, show, show_branch, show_rollback};
-use crate::saving::save_right;
-use awhile::Header;
+use crate::saving::{Saves, save_forced, take_back};
 use bytes_le::clear::clear;
 use bytes_le::get::u32_at;
 use bytes_le::put::put32;
-use directives::board::rolls;
-use directives::places::{STARTS, find_starts};
+use directives::places::Places;
 use machine::{Board, End, MAX_SAVES};
+use reader::accepted::Accepted;
 use saves::leave::leave;
-use saves::place::restore;
+use stepping::memory::Memory;
 use stepping::next::Next;
+use stepping::run::Run;
 use stepping::state::MachineState;
 use stepping::step::next_step;
 
@@ -28,94 +32,48 @@ pub struct Stopped {
     pub state: MachineState,
 }
 
-// Runs from the start until one of the five ends. A place for a save has so many bytes.
-fn go_on(
-    table: &[u8],
-    index: &[u16],
-    starts: &[u16],
-    directives: &[u8],
-    board: Board,
-    variables: &mut [u8],
-    cells: &mut [u8],
-    pending: &mut [u8],
-    saves: &mut [u8],
-    heights: &mut [u16],
-    observations: &mut [u8],
-    size: usize,
-    budget: u32,
-) -> Stopped
-    requires { Begun table.now index.now starts.now directives.now budget (length observations.old) (memory_at variables.old cells.old pending.old)
-        × PlacesLent table.now board size saves.old heights.old }
-    ensures { StoppedAs table.now directives.now board budget
-        (memory_at variables.old cells.old pending.old) saves.old observations.old
-        (memory_at variables.new cells.new pending.new) saves.new heights.new observations.new result }
+// Runs from the start until one of the five ends.
+fn go_on(run: &Run, memory: &mut Memory, saves: &mut Saves, observations: &mut [u8]) -> Stopped
+    requires { Begun run.now.places run.now.directives.now run.now.budget run.now.room (memory_of memory.old)
+        × PlacesLent run.now.places run.now.board saves.old.size saves.old.bytes.now saves.old.heights
+        × (run.now.room ≡ length observations.old) }
+    ensures stopped { StoppedAs run.now.places run.now.directives.now run.now.board run.now.budget
+        (memory_of memory.old) saves.old.bytes.now observations.old
+        (memory_of memory.new) saves.new.bytes.now saves.new.heights observations.new result }
+    ensures memory { SameMemory memory.old memory.new }
+    ensures saves { saves.new.bytes.ghost_name ≡ saves.old.bytes.ghost_name }
 {
-    let room = observations.len();
     let mut state = MachineState::start();
     loop {
-        let next = next_step(
-            table,
-            index,
-            starts,
-            directives,
-            board,
-            &*variables,
-            &*cells,
-            &*pending,
-            room,
-            budget,
-            state,
-        );
+        let view = memory.view();
+        let next = match next_step(run, &view, state) {
+            Ok(next) => next,
+            Err(end) => return Stopped { end, state },
+        };
         let at = state.shown;
-        let place = state.saved;
         match next {
-            Next::Over { end } => {
-                return Stopped { end, state };
-            }
             Next::Goes {
                 change,
                 seen,
                 state: after,
             } => {
                 let rest = state.pending - 1;
-                show(&mut *observations, at, seen);
-                perform(change, &mut *variables, &mut *cells, &mut *pending, rest);
+                show(observations, at, seen);
+                perform(change, memory, rest);
                 state = after;
             }
             Next::Saves {
-                value,
-                right,
-                wrong,
+                forced,
                 state: after,
             } => {
                 let rest = state.pending - 1;
-                show_branch(&mut *observations, at, value);
-                save_right(
-                    right,
-                    wrong,
-                    rest,
-                    &*variables,
-                    &*cells,
-                    &mut *pending,
-                    &mut *saves,
-                    &mut *heights,
-                    place,
-                    size * place,
-                );
+                show_branch(observations, at, forced.value);
+                save_forced(forced, rest, memory, saves, state.saved);
                 state = after;
             }
             Next::Undoes => {
-                show_rollback(&mut *observations, at);
-                let newest = place - 1;
-                let high = heights[newest] as usize;
-                restore(
-                    &*saves,
-                    size * newest,
-                    high,
-                    &mut *variables,
-                    &mut *cells,
-                    &mut *pending,
-                );
+                show_rollback(observations, at);
+                let high = take_back(saves, state.saved - 1, memory);
                 state = state.undone(high);
             }
         }
@@ -133,7 +91,8 @@ pub struct Report {
     pub next: u32,
 }
 
-// "the next node (0 if nothing is pending)"
+// "the next node (0 if nothing is pending)". The count stands beside the list, as crate stepping's `Memory` says.
+#[tactic(auto, unfolding(crate::specs::Running::next_word))]
 fn next_word(pending: &[u8], count: usize) -> u32
     requires { 4 * count ≤ length pending.now }
     ensures { result ≡ next_word pending.now count }
@@ -146,6 +105,7 @@ fn next_word(pending: &[u8], count: usize) -> u32
 }
 
 // The numbers of a run that is over.
+#[tactic(auto, unfolding(crate::specs::Running::report_with))]
 fn numbers_of(stopped: Stopped, next: u32) -> Report
     ensures { result ≡ report_with stopped next }
 {
@@ -161,10 +121,11 @@ fn numbers_of(stopped: Stopped, next: u32) -> Report
     }
 }
 
-// Leaves the open saves in the places of the board that rolls back; another board has none.
+// Leaves the open saves in the places of the board that rolls back; another board has none. Its arguments are those of `leave`, which is below
+// `Saves`.
 fn leave_saves(
     saves: &mut [u8],
-    heights: &[u16],
+    heights: &[u16; MAX_SAVES],
     board: Board,
     count: usize,
     before: usize,
@@ -173,59 +134,76 @@ fn leave_saves(
     requires { board ≡ Rolling → LeaveFits saves.old heights.now count before nodes }
     ensures { board ≡ Rolling → saves.new ≡ left_places heights.now count before nodes max_saves saves.old }
 {
-    if rolls(board) {
-        leave(&mut *saves, heights, count, before, nodes);
-        return;
+    if board == Board::Rolling {
+        leave(saves, heights, count, before, nodes);
     }
 }
 
-// A run of a table that was read: from its root, on what stands in the lent slices. Save words are lent to the board that rolls back; another
-// board looks at none.
-pub fn run(
-    table: &[u8],
-    index: &[u16],
-    header: Header,
-    directives: &[u8],
-    board: Board,
+// A run on slices, one by one: their items are known to be bytes, which is not known of what stands behind the fields of a struct,
+// and RunLeaves says that variables and cells are the bytes of words.
+fn run_slices(
+    table: &Accepted,
+    task: &Task,
     variables: &mut [u8],
     cells: &mut [u8],
     pending: &mut [u8],
     saves: &mut [u8],
     observations: &mut [u8],
-    budget: u32,
 ) -> Report
-    requires { RunAsked table.now index.now directives.now header board (memory_at variables.old cells.old pending.old) saves.old }
+    requires { RunAsked table.now task.now.directives.now task.now.board (memory_at variables.old cells.old pending.old) saves.old }
     ensures { RunLeaves
-        (run_of table.now directives.now board budget
+        (run_of table.now task.now.directives.now task.now.board task.now.budget
         (memory_at variables.old cells.old pending.old) (length observations.old))
-        table.now board (memory_at variables.old cells.old pending.old) saves.old observations.old
+        table.now task.now.board (memory_at variables.old cells.old pending.old) saves.old observations.old
         (memory_at variables.new cells.new pending.new) saves.new observations.new result }
 {
-    let mut starts = [0u16; STARTS];
-    let mut heights = [0u16; MAX_SAVES];
-    let nodes = header.nodes;
-    find_starts(table, header, &mut starts);
-    put32(&mut *pending, 0, (nodes - 1) as u32);
-    let before = variables.len() + cells.len();
-    let stopped = go_on(
-        table,
-        index,
-        &starts,
-        directives,
-        board,
-        &mut *variables,
-        &mut *cells,
-        &mut *pending,
-        &mut *saves,
-        &mut heights,
-        &mut *observations,
-        before + 4 * nodes,
+    let nodes = table.count();
+    let budget = task.budget;
+    let run = Run {
+        places: Places::new(table),
+        directives: task.directives,
+        board: task.board,
+        room: observations.len(),
         budget,
-    );
+    };
+    put32(pending, 0, (nodes - 1) as u32);
+    let before = variables.len() + cells.len();
+    let mut memory = Memory {
+        variables,
+        cells,
+        pending,
+    };
+    let mut places = Saves {
+        bytes: saves,
+        size: before + 4 * nodes,
+        heights: [0u16; MAX_SAVES],
+    };
+    let stopped = go_on(&run, &mut memory, &mut places, observations);
+    let heights = places.heights;
     let state = stopped.state;
     let count = state.pending;
-    let next = next_word(&*pending, count);
-    clear(&mut *pending, count, nodes);
-    leave_saves(&mut *saves, &heights, board, state.saved, before / 4, nodes);
+    let next = next_word(pending, count);
+    clear(pending, count, nodes);
+    leave_saves(saves, &heights, task.board, state.saved, before / 4, nodes);
     numbers_of(stopped, next)
+}
+
+// A run of a table that was read: from its root, on what stands in the lent slices.
+pub fn run(table: &Accepted, task: &Task, lent: &mut Lent) -> Report
+    requires { RunAsked table.now task.now.directives.now task.now.board (memory_lent lent.old) lent.old.saves.now }
+    ensures leaves { RunLeaves
+        (run_of table.now task.now.directives.now task.now.board task.now.budget (memory_lent lent.old) (length lent.old.observations.now))
+        table.now task.now.board (memory_lent lent.old) lent.old.saves.now lent.old.observations.now
+        (memory_lent lent.new) lent.new.saves.now lent.new.observations.now result }
+    ensures lent { SameLent lent.old lent.new }
+{
+    run_slices(
+        table,
+        task,
+        lent.variables,
+        lent.cells,
+        lent.pending,
+        lent.saves,
+        lent.observations,
+    )
 }

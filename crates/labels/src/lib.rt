@@ -5,7 +5,7 @@
 pub const MAX_QUESTIONS: usize = 256;
 
 // What is asked: whether a variable is secret just before the command of a node.
-#[derive(Clone, Copy)]
+#[derive(Clone, Copy, PartialEq, Eq)]
 pub struct Question {
     pub node: usize,
     pub variable: usize,

@@ -3,7 +3,7 @@
 
 // The boards that a table runs on: the plain one takes every step as the program has it, the guessing one takes a directive for each shown step,
 // and the rolling one can go back on a wrong guess as well.
-#[derive(Clone, Copy)]
+#[derive(Clone, Copy, PartialEq, Eq)]
 pub enum Board {
     Plain,
     Guessing,
@@ -14,7 +14,7 @@ pub enum Board {
 pub const MAX_SAVES: usize = 8;
 
 // What the attacker picks for one shown step, or that the newest wrong guess is rolled back.
-#[derive(Clone, Copy)]
+#[derive(Clone, Copy, PartialEq, Eq)]
 pub enum Directive {
     Step,
     Force,
@@ -23,12 +23,12 @@ pub enum Directive {
     Rollback,
 }
 
-// Why a run is over.
-#[derive(Clone, Copy)]
+// Why a run is over. "The ends are numbered 1 to 5 in this order."
+#[derive(Clone, Copy, PartialEq, Eq)]
 pub enum End {
-    Finished,
-    Spent,
-    OutOfDirectives,
-    Stuck,
-    Full,
+    Finished = 1,
+    Spent = 2,
+    OutOfDirectives = 3,
+    Stuck = 4,
+    Full = 5,
 }

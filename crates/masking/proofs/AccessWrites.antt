@@ -1,5 +1,5 @@
 -- Hardened reads and writes by their decisions; their nodes do not depend on the number that they are noted with.
-use Prim.Native.Nat.{ℕ, ◌+◌, ◌-◌}
+use Prim.Native.Nat.{ℕ, ◌+◌, ◌-◌, ◌≤◌, ◌<◌}
 use native.Mathlib.Omega.{arith}
 use mathlib.Core.Bool.{Bool, true, false}
 use mathlib.Core.List.{List}
@@ -11,14 +11,13 @@ use Rattle.awhile.specs.declared.Node.TheVariants.{Sequence, Read, Write}
 use Rattle.masks.specs.Decisions.{decision}
 use Rattle.masks.specs.Hardening.{Origin, zero_if_guessing, masked_index, mask_value_of, harden}
 use Rattle.copier.specs.Sizes.{bytes_of_a, bytes_of_b, bytes_of}
-use Rattle.copier.specs.Written.{Appended, SpaceFor, Wrote, Both, pair_of}
+use Rattle.copier.specs.Written.{Appended, SpaceFor, RoomBehind, Wrote, Both, pair_of}
 use Rattle.copier.specs.declared.Pair.{Pair}
 use Rattle.copier.specs.declared.Size.{Size}
 use Rattle.copier.proofs.Lengths.{counted_a, counted_c, some_a, some_c, bytes_a, bytes_c_lem}
-use Rattle.copier.proofs.Writers.{rest_of, with_rest, room_first}
-use Rattle.copier.proofs.Joins.{one_parent}
+use Rattle.copier.proofs.Writers.{rest_of, with_rest, room_first, room_parent}
+use Rattle.copier.proofs.Joins.{one_parent, one_last}
 use Rattle.masking.proofs.TwoParts.{FirstWritten, first_written, parent_wrote, joined_wrote}
-use Rattle.masking.proofs.AppendedNodes.{Begun}
 
 -- what is written for a command is written for what it is
 pub wrote_c : (from : ℕ) {c d : Com Origin} {l m : List ℕ} {r : Size} → c ≡ d → Wrote (write_c from d) l m r → Wrote (write_c from c) l m r
@@ -28,10 +27,6 @@ pub room_c : {c d : Com Origin} {from : ℕ} {l : List ℕ} → c ≡ d → Spac
 room_c {from = from} {l} p w = subst (λ c. SpaceFor from (nodes_of c) (bytes_of c) l) p w
 
 -- ---- a read: its index and the read, and the masked value behind it where that is hidden
--- the index is written, with room for the read
-abbrev pub ReadBegun : (from : ℕ) → (index : AExp) → (before after : List ℕ) → (answer : Size) → Type 0
-ReadBegun from i l m s = Begun from (write_a from i) (nodes_of_a i) (bytes_of_a i) (nodes_of_a i + 1) (bytes_of_a i + 10) l m s
-
 -- the read is written, with room for the masked value and the sequence over both
 abbrev pub ReadWritten : (from f x a n : ℕ) → (index : AExp) → (before after : List ℕ) → (answer : Size) → Type 0
 ReadWritten from f x a n i l m s =
@@ -51,8 +46,13 @@ module _ {from : ℕ} (f x a n : ℕ) (mask : Bool) (i : AExp) (hide : Bool) {l 
   read_index_room = room_first (read_room f x a n mask i hide room) (omega arith) (omega arith)
 
   module _ {m : List ℕ} {s : Size} (w : Wrote (write_a from (masked_index f mask i)) l m s) where
-    pub read_begun : ReadBegun from (masked_index f mask i) l m s
-    read_begun = record { wrote = w; counted = counted_a from (masked_index f mask i); room = read_room f x a n mask i hide room }
+    -- the number of the index's last node can be computed
+    pub read_last : (0 < s.nodes) × (from + s.nodes ≤ 4096)
+    read_last = one_last from w (counted_a from (masked_index f mask i)) (read_room f x a n mask i hide room) (omega arith) (some_a (masked_index f mask i))
+
+    -- and the read has room
+    pub read_fits : RoomBehind s 1 10 m
+    read_fits = room_parent 10 w (counted_a from (masked_index f mask i)) (read_room f x a n mask i hide room) (omega arith) (omega arith)
 
     module _ {at : ℕ} (is : at ≡ from + s.nodes - 1) {k : List ℕ} {r : Size} (parent : Appended s.nodes s.bytes (Read x a at) m k r) where
       wrote_copy : Wrote (write_c {Note = Origin} from (read (some n) x a (masked_index f mask i))) l k r
@@ -100,7 +100,7 @@ module _ {from : ℕ} (f a n : ℕ) (mask : Bool) (i e : AExp) {l : List ℕ}
     index_written = first_written w (counted_a from (masked_index f mask i)) (λ n. counted_a n e) (some_a (masked_index f mask i)) (bytes_a (masked_index f mask i)) (bytes_a e) write_room
 
     pub wrote_write : {rest x : List ℕ} {u r : Size} {q : Pair} → Wrote (write_a (from + s.nodes) e) (rest_of s.bytes m) rest u → Both from s u q
-        → Appended q.nodes q.bytes (Write a q.left q.right) (with_rest s.bytes m rest) x r
+        → Appended q.size.nodes q.size.bytes (Write a q.left q.right) (with_rest s.bytes m rest) x r
         → Wrote (write_c from (harden f (write (decision n false mask false) a i e))) l x r
     unfolding harden write_c
     wrote_write v added parent = parent_wrote index_written v added (Write a) parent

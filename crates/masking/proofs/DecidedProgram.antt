@@ -8,9 +8,10 @@ use Rattle.masks.specs.Growth.{MasksLargeConditions}
 use Rattle.masks.specs.Hardening.{harden, hardened_program}
 use Rattle.masks.proofs.Growth.{decide_large}
 use Rattle.deciding.specs.Deciding.{decided_in, Decides}
+use Rattle.deciding.specs.declared.decisions.Decision.{Decision as Choices}
 use Rattle.masking.specs.InMemory.{hardened_at}
 
-module _ {table ds : List ℕ} (decided : Decides table ds) where
+module _ {table : List ℕ} {ds : List Choices} (decided : Decides table ds) where
   pub program_hardened : hardened_at table ds (table_of table).variables (nodes_in table - 1) ≡ hardened_program (table_of table)
   unfolding hardened_at hardened_program
   program_hardened = ap (harden (table_of table).variables) decided.program

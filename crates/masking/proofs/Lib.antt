@@ -1,6 +1,5 @@
 -- Laws for what masks and flag updates write.
 pub mod DecidedProgram
 pub mod TwoParts
-pub mod AppendedNodes
 pub mod Masking
 pub mod AccessWrites

@@ -1,5 +1,5 @@
 -- Two parts, the second in the rest of the slice behind the first: what each step of writing them asks, once the first is written.
-use Prim.Native.Nat.{ℕ, ◌+◌, ◌^◌, ◌≤◌, ◌<◌}
+use Prim.Native.Nat.{ℕ, ◌+◌, ◌≤◌, ◌<◌}
 use native.Mathlib.Omega.{arith}
 use mathlib.Core.List.{List, [], ◌∷◌, ◌++◌}
 use lib.ListN.{length}
@@ -9,7 +9,7 @@ use Rattle.awhile.specs.Encoding.{binary}
 use Rattle.awhile.specs.declared.Node.{Node}
 use Rattle.awhile.specs.declared.Node.TheVariants.{Sequence}
 use Rattle.copier.specs.Sizes.{Few}
-use Rattle.copier.specs.Written.{Appended, Wrote, WroteTwo, Both, pair_of, SpaceFor}
+use Rattle.copier.specs.Written.{Appended, Wrote, WroteTwo, Both, pair_of, SpaceFor, RoomBehind}
 use Rattle.copier.specs.declared.Pair.{Pair}
 use Rattle.copier.specs.declared.Size.{Size}
 use Rattle.copier.proofs.Lengths.{Short, Counted}
@@ -56,11 +56,11 @@ module _ {from : ℕ} {ms : List Node} {ns : ℕ → List Node} {i j k h more si
 
     module _ {q : Pair} (added : Both from s u q) where
       -- their parent has room
-      pub parent_room : 1 ≤ more → (q.bytes + size ≤ length (with_rest s.bytes m rest)) × (q.nodes < 2 ^ 32)
+      pub parent_room : 1 ≤ more → RoomBehind q.size 1 size (with_rest s.bytes m rest)
       parent_room own = two_room from ns p.wrote p.first v p.second added size p.room (omega arith) (omega arith)
 
       -- and is written behind them
-      pub parent_wrote : (f : ℕ → ℕ → Node) {x : List ℕ} {r : Size} → Appended q.nodes q.bytes (f q.left q.right) (with_rest s.bytes m rest) x r
+      pub parent_wrote : (f : ℕ → ℕ → Node) {x : List ℕ} {r : Size} → Appended q.size.nodes q.size.bytes (f q.left q.right) (with_rest s.bytes m rest) x r
           → Wrote (ms ++ (ns (from + i) ++ (binary f from i k ∷ []))) l x r
       parent_wrote f parent = two_parent from ns p.wrote p.first v p.second added f (omega (arith, p.room.fits)) parent
 
@@ -72,7 +72,7 @@ module _ {from : ℕ} {ms : List Node} {ns : ℕ → List Node} {i j k h more si
 module _ {from : ℕ} {ms : List Node} {ns : ℕ → List Node} {i j k h : ℕ} {l m : List ℕ} {s : Size} (p : FirstWritten from ms ns i j k h 1 8 l m s)
     {rest : List ℕ} {u : Size} (v : Wrote (ns (from + s.nodes)) (rest_of s.bytes m) rest u) where
   pub joined_asks : (Few (from + s.nodes + u.nodes) (s.bytes + u.bytes) × (0 < s.nodes)) × (s.bytes + u.bytes + 8 ≤ length (with_rest s.bytes m rest))
-  joined_asks = (both_few p v, (parent_room p v (both_of from s u) (omega arith)).0)
+  joined_asks = (both_few p v, (parent_room p v (both_of from s u) (omega arith)).fits)
 
   pub joined_wrote : {x : List ℕ} {r : Size}
       → Appended (s.nodes + u.nodes) (s.bytes + u.bytes) (Sequence (pair_of from s u).left (pair_of from s u).right) (with_rest s.bytes m rest) x r

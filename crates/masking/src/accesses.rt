@@ -1,75 +1,60 @@
 // Hardened reads and writes, and what is joined on by a sequence.
-ghost use Rattle.std.specs.Prelude.{◌+◌, ◌≤◌, ◌<◌, false, length};
-ghost use Rattle.awhile.specs.Encoding.{nodes_of, write_c};
-ghost use Rattle.reader.specs.Index.{numeric_in, OfSort};
-ghost use Rattle.awhile.specs.Language.{read, write};
+ghost use Rattle.std.specs.Prelude.{◌+◌, ◌≤◌, ◌<◌, length};
+ghost use Rattle.awhile.specs.Encoding.{write_c};
+ghost use Rattle.reader.specs.Index.{HasSort};
 ghost use Rattle.awhile.specs.declared.Node.TheVariants.{Sequence as SequenceNode};
 ghost use Rattle.awhile.specs.declared.Sort.TheVariants.{Numeric};
-ghost use Rattle.masks.specs.Decisions.{decision};
-ghost use Rattle.masks.specs.Hardening.{harden};
-ghost use Rattle.copier.specs.Sizes.{bytes_of, Few};
-ghost use Rattle.copier.specs.Written.{Appended, SpaceFor, Wrote, pair_of};
+ghost use Rattle.masking.specs.InMemory.{read_in, write_in};
+ghost use Rattle.copier.specs.Sizes.{Few};
+ghost use Rattle.copier.specs.Written.{Appended, SpaceForCommand, Wrote, pair_of};
 
+use crate::Maskable;
 use crate::masked::{copy_index, put_value_mask};
 use awhile::Node;
 use copier::Size;
 use copier::copies::{both, copy_numeric, last};
 use copier::records::append;
+use reader::accepted::Accepted;
 
 // A sequence over two parts that stand one behind the other.
 pub fn append_sequence(out: &mut [u8], from: usize, first: Size, second: Size) -> Size
     requires few { Few (from + first.nodes + second.nodes) (first.bytes + second.bytes) × (0 < first.nodes) }
     requires bytes_in_bounds { (first.bytes + second.bytes) + 8 ≤ length out.old }
-    ensures { Appended (pair_of from first second).nodes (pair_of from first second).bytes
+    ensures { Appended (pair_of from first second).size.nodes (pair_of from first second).size.bytes
         (SequenceNode (pair_of from first second).left (pair_of from first second).right) out.old out.new result }
 {
     let parts = both(from, first, second);
-    append(
-        out,
-        parts.nodes,
-        parts.bytes,
-        Node::Sequence {
-            first: parts.left,
-            second: parts.right,
-        },
-    )
+    let node = Node::Sequence {
+        first: parts.left,
+        second: parts.right,
+    };
+    append(out, parts.size, node)
 }
 
-// A read: its index masked or not, and followed by a mask that hides its value or not.
+// A read: its index masked or not, and followed by a mask that hides its value or not. Variable, array and index are fields of its node.
 pub fn harden_read(
-    table: &[u8],
-    index: &[u16],
+    table: &Accepted,
     flag: usize,
     variable: usize,
     array: usize,
-    place: usize,
-    mask: bool,
+    place: Maskable,
     hide: bool,
     from: usize,
     out: &mut [u8],
 ) -> Size
-    requires of_sort { OfSort table.now index.now Numeric place }
-    requires space_for { SpaceFor from
-        (nodes_of (harden flag (read (decision 0 false mask hide) variable array (numeric_in table.now place))))
-        (bytes_of (harden flag (read (decision 0 false mask hide) variable array (numeric_in table.now place))))
-        out.old }
-    ensures { Wrote (write_c from (harden flag (read (decision 0 false mask hide) variable array (numeric_in table.now place))))
-        out.old out.new result }
+    requires of_sort { HasSort table.now Numeric place.node }
+    requires space_for { SpaceForCommand from (read_in table.now flag variable array place hide) out.old }
+    ensures { Wrote (write_c from (read_in table.now flag variable array place hide)) out.old out.new result }
 {
-    let part = copy_index(table, index, place, mask, flag, from, &mut *out);
-    let copy = append(
-        &mut *out,
-        part.nodes,
-        part.bytes,
-        Node::Read {
-            variable,
-            array,
-            index: last(from, part.nodes),
-        },
-    );
+    let part = copy_index(table, place, flag, from, &mut *out);
+    let node = Node::Read {
+        variable,
+        array,
+        index: last(from, part.nodes),
+    };
+    let copy = append(&mut *out, part, node);
     if hide {
-        let at = copy.bytes;
-        let value = put_value_mask(flag, variable, from + copy.nodes, &mut out[at..]);
+        let value = put_value_mask(flag, variable, from + copy.nodes, &mut out[copy.bytes..]);
         append_sequence(out, from, copy, value)
     } else {
         copy
@@ -78,36 +63,25 @@ pub fn harden_read(
 
 // A write: its index masked or not.
 pub fn harden_write(
-    table: &[u8],
-    index: &[u16],
+    table: &Accepted,
     flag: usize,
     array: usize,
-    place: usize,
+    place: Maskable,
     value: usize,
-    mask: bool,
     from: usize,
     out: &mut [u8],
 ) -> Size
-    requires of_sort { OfSort table.now index.now Numeric place × OfSort table.now index.now Numeric value }
-    requires space_for { SpaceFor from
-        (nodes_of (harden flag (write (decision 0 false mask false) array (numeric_in table.now place) (numeric_in table.now value))))
-        (bytes_of (harden flag (write (decision 0 false mask false) array (numeric_in table.now place) (numeric_in table.now value))))
-        out.old }
-    ensures { Wrote (write_c from (harden flag (write (decision 0 false mask false) array (numeric_in table.now place) (numeric_in table.now value))))
-        out.old out.new result }
+    requires of_sort { HasSort table.now Numeric place.node × HasSort table.now Numeric value }
+    requires space_for { SpaceForCommand from (write_in table.now flag array place value) out.old }
+    ensures { Wrote (write_c from (write_in table.now flag array place value)) out.old out.new result }
 {
-    let first = copy_index(table, index, place, mask, flag, from, &mut *out);
-    let at = first.bytes;
-    let second = copy_numeric(table, index, value, from + first.nodes, &mut out[at..]);
+    let first = copy_index(table, place, flag, from, &mut *out);
+    let second = copy_numeric(table, value, from + first.nodes, &mut out[first.bytes..]);
     let parts = both(from, first, second);
-    append(
-        out,
-        parts.nodes,
-        parts.bytes,
-        Node::Write {
-            array,
-            index: parts.left,
-            value: parts.right,
-        },
-    )
+    let node = Node::Write {
+        array,
+        index: parts.left,
+        value: parts.right,
+    };
+    append(out, parts.size, node)
 }

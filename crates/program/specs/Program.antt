@@ -1,5 +1,7 @@
 -- "A program reads a table on standard input and writes the hardened one, or kind 240 (refusal, place in 4 bytes; length 10)."
-use Rattle.std.specs.Prelude.{ℕ, ◌≤◌, List, ◌++◌, ◌≡◌, length, take}
+use Rattle.std.specs.Prelude.{ℕ, ◌≤◌, List, ◌++◌, ◌≡◌, length, take, ⊤, None, Some}
+use Rattle.std.specs.Io.KnownBytes.{Appends}
+use Rattle.std.specs.declared.option.Option.{Option}
 use Rattle.bytes_le.specs.Numbers.{le}
 use Rattle.bytes_le.proofs.Numbers.{Below}
 use Rattle.awhile.specs.Refusals.{refused, got, and_then, refusal_number, refusal_place}
@@ -28,3 +30,9 @@ pub record AnswersRead (buffer : List ℕ) (count : ℕ) (output : List ℕ) (si
   pub fits : size ≤ length output
   pub counted : size ≡ length (take size output)
   pub writes : (input : List ℕ) → Below 256 input → take count buffer ≡ take (length buffer) input → take size output ≡ hardened_input input
+
+-- What the program leaves of an output, of which these bytes are known before and after: what it writes for the input stands behind what was there.
+-- (An input of which nothing is known, as that of a process, says nothing of the output.)
+abbrev pub AppendsHardened : (input before after : Option (List ℕ)) → Type 0
+AppendsHardened None before after = ⊤
+AppendsHardened (Some input) before after = Below 256 input → Appends before after (hardened_input input)

@@ -4,7 +4,8 @@ ghost use Rattle.std.proofs.lemmas.List.Edits.{sets};
 ghost use Rattle.awhile.specs.Tables.{longest_table};
 ghost use Rattle.program.specs.Program.{refusal_bytes, AnswersRead};
 
-use bytes_le::{get, put};
+use bytes_le::get::u32_at;
+use bytes_le::put::{put16, put32};
 use flow::harden::flow_harden;
 
 // The longest table has 41,080 bytes. One byte more of the input settles its answer, whatever follows.
@@ -13,19 +14,25 @@ pub const INPUT_BYTES: usize = 41081;
 // No hardened table is longer than the longest table.
 pub const OUTPUT_BYTES: usize = 41080;
 
-// The record of a refusal at the front of a slice: length, kind, refusal, place.
+// The kind of a refusal's record, and how many bytes it has: "kind 240 (refusal, place in 4 bytes; length 10)".
+const REFUSAL_KIND: usize = 240;
+
+const REFUSAL_BYTES: usize = 10;
+
+// The record of a refusal at the front of a slice: length, kind, refusal, place. The refusal is the number that `flow_harden` answers, as in C.
 fn put_refusal(out: &mut [u8], refusal: usize, place: u32)
     requires { 10 ≤ length out.old }
     ensures { out.new ≡ sets out.old 0 (refusal_bytes refusal place) }
 {
-    put::put16(&mut *out, 0, 10);
-    put::put16(&mut *out, 2, 240);
-    put::put16(&mut *out, 4, refusal);
-    put::put32(&mut *out, 6, place);
+    put16(out, 0, REFUSAL_BYTES);
+    put16(out, 2, REFUSAL_KIND);
+    put16(out, 4, refusal);
+    put32(out, 6, place);
 }
 
 // The hardened table of an input, or the record of its refusal, at the front of a slice, and how many bytes it has. The input was read into the
 // buffer, which took so many bytes: it must hold more than the longest table has, or a longer input could not be told from its beginning.
+// (What was read, with no count beside it, would not tell how much the buffer holds, on which `AnswersRead` rests.)
 pub fn harden_input(buffer: &[u8], count: usize, out: &mut [u8]) -> usize
     requires longest_table_in_bounds { longest_table < length buffer.now }
     requires count_in_bounds { count ≤ length buffer.now }
@@ -33,12 +40,12 @@ pub fn harden_input(buffer: &[u8], count: usize, out: &mut [u8]) -> usize
     ensures { AnswersRead buffer.now count out.new result }
 {
     let mut answer = [0u8; 16];
-    let refusal = flow_harden(&buffer[..count], &mut *out, &mut answer);
+    let refusal = flow_harden(&buffer[..count], out, &mut answer);
     // the second number is the length of what was written, or the refusal's place
-    let second = get::u32_at(&answer, 8);
+    let second = u32_at(&answer, 8);
     if refusal == 0 {
         return second as usize;
     }
-    put_refusal(&mut *out, refusal as usize, second);
-    10
+    put_refusal(out, refusal as usize, second);
+    REFUSAL_BYTES
 }

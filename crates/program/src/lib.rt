@@ -2,3 +2,4 @@
 #![tactic(auto)]
 
 pub mod input;
+pub mod stream;

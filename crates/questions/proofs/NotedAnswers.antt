@@ -1,8 +1,9 @@
 -- The answers by the notes of an analysis are those of the annotated program.
-use Prim.Native.Nat.{ℕ, zero, suc, ◌+◌, ◌*◌, ◌<◌}
+use Prim.Native.Nat.{ℕ, zero, suc, ◌+◌, ◌<◌}
 use native.Mathlib.Omega.{arith}
 use native.Mathlib.Numerals.{add-one}
-use mathlib.Core.Bool.{true, cond}
+use mathlib.Core.Bool.{Bool, true, false, cond}
+use mir.Val.{bool_byte}
 use mathlib.Core.Logic.{⊎_elim}
 use mathlib.Core.List.Memᴰ
 use mathlib.Core.List.{List, [], ◌∷◌, ◌++◌, Memᴰ}
@@ -24,12 +25,13 @@ use Rattle.labels.specs.Sheet.{entry_of, annotated}
 use Rattle.labels.specs.Questions.{pairs_in, question_at, is_command, askable, all_askable, answerable, answer_to, answers_to, answer_bytes}
 use Rattle.labels.specs.declared.Question.{Question}
 use Rattle.labels.proofs.Questions.{answerable_list, askable_at, command_found}
+use Rattle.analysis.specs.declared.noting.Note.{Note}
 use Rattle.analysis.specs.Notes.{note_in, Noted}
 use Rattle.analysis.specs.Conditions.{Labelled}
 use Rattle.questions.specs.Noted.{noted_answer, noted_answers, NotesReach}
 
 -- ---- every command of a noted program has its note
-module _ (ns : List ℕ) (p : Com Entry) where
+module _ (ns : List Note) (p : Com Entry) where
   -- p, or one of its parts
   abbrev Has : Com Entry → Type 0
   Has a = note_in ns (note_of a).node ≡ note_of a
@@ -50,7 +52,7 @@ module _ (ns : List ℕ) (p : Com Entry) where
   part_noted (write e x i v) h m = this h (Memᴰ.eq_of_singleton m)
 
 -- ---- the answers
-module _ {table ns : List ℕ} {l : Labelling} (w : WellFormed (table_of table)) (labelled : Labelled table ns l) where
+module _ {table : List ℕ} {ns : List Note} {l : Labelling} (w : WellFormed (table_of table)) (labelled : Labelled table ns l) where
   abbrev t : Table
   t = table_of table
 
@@ -94,11 +96,11 @@ module _ {table ns : List ℕ} {l : Labelling} (w : WellFormed (table_of table))
     list_noted = notes_reach s (pairs_in s) (answerable_list t s ok).all
 
 -- a question that was read from the list has its note
-pub reaches : {ns s : List ℕ} {n i : ℕ} {q : Question} → NotesReach ns s n → q ≡ question_at s i → i < n → 2 * q.node + 1 < length ns
+pub reaches : {ns : List Note} {s : List ℕ} {n i : ℕ} {q : Question} → NotesReach ns s n → q ≡ question_at s i → i < n → q.node < length ns
 reaches {i = i} h e k = rw e (h.each i k)
 
 -- ---- the answers written one behind the other
-module _ (ns s : List ℕ) where
+module _ (ns : List Note) (s : List ℕ) where
   pub length_noted : (n : ℕ) → length (noted_answers ns s n) ≡ n
   unfolding noted_answers
   length_noted zero = refl
@@ -117,3 +119,11 @@ module _ (ns s : List ℕ) where
       ∙ ap (λ (k : ℕ). sets (sets out₀ 0 (noted_answers ns s i)) k (noted_answer ns (question_at s i) ∷ [])) (sym behind)
       ∙ sym (sets-append (noted_answers ns s i) (noted_answer ns (question_at s i) ∷ []) out₀ 0)
       ∙ ap (λ (k : ℕ). sets out₀ 0 (noted_answers ns s k)) (sym (add-one i))
+
+-- the byte of a label
+pub answer_byte : (b : Bool) → bool_byte b ≡ cond b 1 0
+answer_byte true = refl
+answer_byte false = refl
+
+-- a loop over the questions writes one more answer
+pub ruleset one_more = (none_yet, one_more_written)

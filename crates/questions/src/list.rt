@@ -1,12 +1,12 @@
-// A list of questions in bytes: pairs of a node and a variable, 2 bytes each. Whether all that it asks can be asked is told before anything is labelled.
+// A list of questions in bytes: pairs of a node and a variable, 2 bytes each. Whether all that it asks can be asked is told before anything is
+// labelled. C lends bytes, and a pair goes by its number in them, as in the definitions (`question_at`, `all_askable`, `noted_answers`).
 ghost use Rattle.std.specs.Prelude.{◌+◌, ◌*◌, ◌≤◌, ◌≡◌, length};
-ghost use Rattle.reader.specs.Index.{Ready, table_of};
+ghost use Rattle.reader.specs.Index.{table_of};
 ghost use Rattle.labels.specs.Questions.{pairs_in, question_at, askable as can_be_asked, all_askable, answerable as can_be_answered};
 
-use awhile::Declarations;
 use bytes_le::get::whole_u16;
 use labels::{MAX_QUESTIONS, Question};
-use reader::lookup::is_command;
+use reader::accepted::Accepted;
 
 const PAIR_BYTES: usize = 4;
 
@@ -18,6 +18,7 @@ pub fn pairs_in(questions: &[u8]) -> usize
 }
 
 // Pair i of a list.
+#[tactic(auto, unfolding(labels::specs::Questions::question_at))]
 pub fn question_at(questions: &[u8], i: usize) -> Question
     requires { 4 * i + 4 ≤ length questions.now }
     ensures { result ≡ question_at questions.now i }
@@ -30,53 +31,29 @@ pub fn question_at(questions: &[u8], i: usize) -> Question
 }
 
 // Whether a question can be asked: its node is a command, and its variable is declared.
-fn askable(table: &[u8], index: &[u16], declared: Declarations, question: Question) -> bool
-    requires { Ready table.now index.now declared }
+#[tactic(auto, using(crate::proofs::Lists::by_tests))]
+fn askable(table: &Accepted, question: Question) -> bool
     ensures { result ≡ can_be_asked (table_of table.now) question }
 {
-    let header = declared.header;
-    if header.nodes <= question.node {
-        return false;
-    }
-    if header.variables <= question.variable {
-        return false;
-    }
-    is_command(table, index, question.node)
+    question.node < table.count()
+        && table.is_command(question.node)
+        && question.variable < table.declared().header.variables
 }
 
-// Whether the first so many questions of a list can.
-fn all_askable(
-    table: &[u8],
-    index: &[u16],
-    declared: Declarations,
-    questions: &[u8],
-    count: usize,
-) -> bool
-    requires { Ready table.now index.now declared × (4 * count ≤ length questions.now) }
-    ensures { result ≡ all_askable (table_of table.now) questions.now count }
+// Whether all questions of a list can.
+fn all_askable(table: &Accepted, questions: &[u8]) -> bool
+    ensures { result ≡ all_askable (table_of table.now) questions.now (pairs_in questions.now) }
 {
-    let mut i = 0;
-    while i < count {
-        let question = question_at(questions, i);
-        if !askable(table, index, declared, question) {
-            return false;
-        }
-        i += 1;
-    }
-    true
+    (0..pairs_in(questions)).all(|i| askable(table, question_at(questions, i)))
 }
 
 // Whether a list is answered: it is not too long, it does not end inside a pair, and all of it can be asked.
-pub fn answerable(table: &[u8], index: &[u16], declared: Declarations, questions: &[u8]) -> bool
-    requires { Ready table.now index.now declared }
+#[tactic(auto, using(crate::proofs::Lists::by_tests))]
+pub fn answerable(table: &Accepted, questions: &[u8]) -> bool
     ensures { result ≡ can_be_answered (table_of table.now) questions.now }
 {
     let length = questions.len();
-    if PAIR_BYTES * MAX_QUESTIONS < length {
-        return false;
-    }
-    if length % PAIR_BYTES != 0 {
-        return false;
-    }
-    all_askable(table, index, declared, questions, length / PAIR_BYTES)
+    length <= PAIR_BYTES * MAX_QUESTIONS
+        && length % PAIR_BYTES == 0
+        && all_askable(table, questions)
 }

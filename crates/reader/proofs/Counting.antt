@@ -6,13 +6,10 @@ use mathlib.Core.List.{List, [], ◌∷◌, ◌++◌}
 use Rattle.awhile.specs.Lists.{sum}
 use Rattle.awhile.specs.Refusals.{Answer, refused, got}
 use Rattle.awhile.specs.Tables.{array_size, counts_start, read_count, read_counts}
-use Rattle.record.specs.RecordRead.{count_as}
 use Rattle.reader.specs.Walk.{CountsLeft}
 use Rattle.awhile.proofs.Lists.{sum-append}
 use Rattle.awhile.proofs.Cases.{counts_next, counts_refused}
 use Rattle.awhile.proofs.Accepted.{count_fits}
-use Rattle.record.proofs.Declaring.{count_got, count_not_got}
-use Rattle.record.specs.declared.declarations.CountRead.TheVariants.{Refused as CountRefused, Count}
 use Rattle.awhile.specs.declared.Header.{Header}
 use Rattle.awhile.specs.declared.Refusal.{Refusal}
 
@@ -27,10 +24,9 @@ module _ (s : List ℕ) where
     counted a e = rw h.summed e
 
     -- a count that was read is added
-    pub counts_more : 0 < left → (n : ℕ) → count_as (read_count s at cells) ≡ Count n → CountsLeft s header (left - 1) (at + array_size) (cells + n)
+    pub counts_more : 0 < left → (n : ℕ) → read_count s at cells ≡ got n → CountsLeft s header (left - 1) (at + array_size) (cells + n)
     unfolding sum
-    counts_more some n e =
-        let read = count_got (read_count s at cells) n e in
+    counts_more some n read =
         let next : left ≡ suc (left - 1) = omega arith in
         record {
           before = h.before ++ (n ∷ []);
@@ -41,10 +37,10 @@ module _ (s : List ℕ) where
         }
 
     -- a refused count refuses them all
-    pub counts_stop : 0 < left → (r : Refusal) → count_as (read_count s at cells) ≡ CountRefused r → read_counts header.arrays s (counts_start header) [] ≡ refused r
+    pub counts_stop : 0 < left → (r : Refusal) → read_count s at cells ≡ refused r → read_counts header.arrays s (counts_start header) [] ≡ refused r
     counts_stop some r e =
         let next : left ≡ suc (left - 1) = omega arith in
-        h.same ∙ ap (λ k. read_counts k s at h.before) next ∙ counts_refused _ _ _ _ _ (counted (refused r) (count_not_got (read_count s at cells) r e))
+        h.same ∙ ap (λ k. read_counts k s at h.before) next ∙ counts_refused _ _ _ _ _ (counted (refused r) e)
 
     -- with none left all were read
     pub counts_done : left ≡ 0 → read_counts header.arrays s (counts_start header) [] ≡ got h.before

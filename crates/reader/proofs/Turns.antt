@@ -1,35 +1,24 @@
 -- A turn of the reader's walk: what is due by what is known, and what is known after one record more.
 use Prim.Native.Nat.{ℕ, ◌+◌, ◌-◌, ◌≤◌, ◌<◌}
 use native.Mathlib.Omega.{arith}
-use mathlib.Core.Logic.{⊎_elim}
-use mathlib.Core.Path.{◌≡◌, refl, sym, ap, subst}
-use mathlib.Core.List.{List, [], ◌∷◌}
+use mathlib.Core.Path.{◌≡◌, refl, ap, subst}
+use mathlib.Core.List.{List}
 use lib.ListN.{length}
-use types.Run.{OneOf}
-use denote.Enum.Declared.{tag_of}
-use Rattle.awhile.specs.Refusals.{got}
-use Rattle.awhile.specs.Tables.{max_arrays, max_nodes, labels_start, nodes_start, read_header, read_labels, read_count}
+use Rattle.std.proofs.Common.{Result}
+use Rattle.awhile.specs.Refusals.{Answer, as_result, refused, got, and_then}
+use Rattle.awhile.specs.Tables.{max_arrays, max_nodes, labels_start, nodes_start, read_header, read_labels, read_count, read_table}
 use Rattle.awhile.proofs.Accepted.{HeaderFits, header_fits}
 use Rattle.awhile.proofs.Versions.{mask_most}
-use Rattle.record.specs.RecordRead.{header_as, labels_as, count_as, Heads}
-use Rattle.reader.specs.Index.{Answers, Finishes}
-use Rattle.reader.specs.Walk.{begun, done_with, header_due, labels_due, count_due, node_due, CountsLeft, NodesLeft, Long, Fresh, Declared, Counted, Walking, at_header, at_labels, at_array, at_node, at_end}
-use Rattle.reader.specs.Walk.{Turned, Ends, BodyDue, NodeReady, NodeTurned, node_refused, node_read}
+use Rattle.record.specs.RecordRead.{Heads}
+use Rattle.reader.specs.Index.{Ready, EndedAs, Finishes}
+use Rattle.reader.specs.Walk.{begun, header_due, labels_due, count_due, node_due, end_due, read_on, CountsLeft, NodesLeft, Long, Fresh, Declared, Counted, Walking, at_header, at_labels, at_array, at_node, at_end}
+use Rattle.reader.specs.Walk.{Turned, TurnedAs, BodyDue, NodeReady, NodeTurned, node_refused, node_read}
 use Rattle.reader.proofs.Counting.{counts_start_lem, counts_more, counts_stop, counts_done}
 use Rattle.reader.proofs.Walking.{nodes_start_lem, offset_small, heads_before}
-use Rattle.reader.proofs.Answering.{header_stop, header_got, labels_got, labels_stop, arrays_stop, nodes_stopped, nodes_finished}
-use Rattle.reader.specs.declared.Read.{Read}
-use Rattle.reader.specs.declared.Read.TheVariants.{Refused}
-use Rattle.record.specs.declared.declarations.HeaderRead.{HeaderRead}
-use Rattle.record.specs.declared.declarations.HeaderRead.TheVariants.{Refused as HeaderRefused, Header as HeaderGot}
-use Rattle.record.specs.declared.declarations.LabelsRead.{LabelsRead}
-use Rattle.record.specs.declared.declarations.LabelsRead.TheVariants.{Refused as LabelsRefused, Labels as LabelsGot}
-use Rattle.record.specs.declared.declarations.CountRead.{CountRead}
-use Rattle.record.specs.declared.declarations.CountRead.TheVariants.{Refused as CountRefused, Count as CountGot}
+use Rattle.reader.proofs.Answering.{header_stop, labels_stop, arrays_stop, nodes_stopped, nodes_finished}
+use Rattle.awhile.specs.declared.Refusal.{Refusal}
 use Rattle.reader.specs.declared.records.Progress.{Progress}
-use Rattle.reader.specs.declared.records.Due.{Due}
-use Rattle.reader.specs.declared.records.Due.TheVariants.{Header as HeaderDue, Labels as LabelsDue, Body, Done}
-use Rattle.reader.specs.contracts.records.Due as due
+use Rattle.reader.specs.declared.records.Due.TheVariants.{Header as HeaderDue, Labels as LabelsDue, Body}
 
 -- where two things are due at once, `cc` shows this
 never : ◌≡◌ {A = ℕ} 0 1 → ⊥
@@ -50,7 +39,7 @@ at_small s at p index uses n c h =
     let fit = header_fits s p.declared.header c.declared.is_header in
     omega (arith, offset_small _ _ _ _ _ _ h)
 
-module _ (s : List ℕ) (at : ℕ) (p : Progress) (index uses : List ℕ) where
+module _ (s : List ℕ) (at : ℕ) (p : Progress) (index uses : List ℕ) (some : 0 < p.left) where
   -- ---- what is due, by what is known
   -- the header
   pub record HeaderReady : Type 0 where
@@ -63,7 +52,7 @@ module _ (s : List ℕ) (at : ℕ) (p : Progress) (index uses : List ℕ) where
   header_ready (at_labels z e l h f) d = absurd (never (cc))
   header_ready (at_array e left l h c f) d = absurd (never (cc))
   header_ready (at_node e n l c h g) d = absurd (never (cc))
-  header_ready (at_end a e l w) d = absurd (never (cc))
+  header_ready (at_end l w) d = absurd (omega arith)
 
   -- the labels
   pub record LabelsReady : Type 0 where
@@ -77,7 +66,7 @@ module _ (s : List ℕ) (at : ℕ) (p : Progress) (index uses : List ℕ) where
   labels_ready (at_labels z e l h f) d = record { here = z; sum_left = l; is_header = h; fresh = f }
   labels_ready (at_array e left l h c f) d = absurd (never (cc))
   labels_ready (at_node e n l c h g) d = absurd (never (cc))
-  labels_ready (at_end a e l w) d = absurd (never (cc))
+  labels_ready (at_end l w) d = absurd (omega arith)
 
   -- an array
   pub record ArrayReady : Type 0 where
@@ -93,7 +82,7 @@ module _ (s : List ℕ) (at : ℕ) (p : Progress) (index uses : List ℕ) where
   array_ready (at_labels z e l h f) d more = absurd (never (cc))
   array_ready (at_array e left l h c f) d more = record { left = left; more = omega arith; sum_left = l; declared = h; counts = c; fresh = f }
   array_ready (at_node e n l c h g) d more = absurd (omega arith)
-  array_ready (at_end a e l w) d more = absurd (never (cc))
+  array_ready (at_end l w) d more = absurd (omega arith)
 
   -- a node or the end
   pub record AfterArrays : Type 0 where
@@ -117,7 +106,7 @@ module _ (s : List ℕ) (at : ℕ) (p : Progress) (index uses : List ℕ) where
         long = f.long;
       }
   after_arrays (at_node e n l c h g) d few = record { n = n; sum_left = l; counted = c; nodes_left = h; long = g }
-  after_arrays (at_end a e l w) d few = absurd (never (cc))
+  after_arrays (at_end l w) d few = absurd (omega arith)
 
   -- after the header its limits hold
   pub body_limits : Walking s at p index uses → p.due ≡ Body → HeaderFits s p.declared.header
@@ -125,7 +114,7 @@ module _ (s : List ℕ) (at : ℕ) (p : Progress) (index uses : List ℕ) where
   body_limits (at_labels z e l h f) d = absurd (never (cc))
   body_limits (at_array e left l h c f) d = header_fits s p.declared.header h.is_header
   body_limits (at_node e n l c h g) d = header_fits s p.declared.header c.declared.is_header
-  body_limits (at_end a e l w) d = absurd (never (cc))
+  body_limits (at_end l w) d = absurd (omega arith)
 
   -- a node
   pub node_ready : BodyDue s at p index uses → p.left ≤ p.declared.header.nodes + 1 → 1 < p.left → NodeReady s at p (p.declared.header.nodes + 1 - p.left) index uses
@@ -143,78 +132,76 @@ module _ (s : List ℕ) (at : ℕ) (p : Progress) (index uses : List ℕ) where
         long_uses = k.long.long_uses.holds _ is_header;
       }
 
-  -- while records are left, no answer is there
-  pub never_done : (a : Read) → p.due ≡ Done a → 0 < p.left → Walking s at p index uses → ⊥
-  never_done a d some (at_header z b f) = never (cc (begun_due p b))
-  never_done a d some (at_labels z e l h f) = never (cc)
-  never_done a d some (at_array e left l h c f) = never (cc)
-  never_done a d some (at_node e n l c h g) = never (cc)
-  never_done a d some (at_end b e l w) = omega arith
-
   -- ---- what is known after one record more
-  module _ (some : 0 < p.left) where
-    -- a walk that ends here
-    turn_done : (answer : Read) (r : Progress) → at < 65536 → r ≡ done_with answer → Answers s index answer → Turned s at p r index uses
-    unfolding done_with
-    turn_done answer r small e a = rw e (record { walking = at_end answer refl refl a; fewer = some; fits = omega arith })
+  -- what was read leads on, and a refusal refuses the table
+  read_turn : {A : Type 0} (a : Answer A) (after : A → Progress) (r : Result Progress Refusal) → r ≡ read_on a after
+      → ((x : Refusal) → a ≡ refused x → read_table s ≡ refused x) → ((v : A) → a ≡ got v → Turned s at p (after v) index uses) → TurnedAs s at p r index uses
+  unfolding read_on as_result and_then
+  read_turn (refused x) after r e stops goes = rw e (stops x refl)
+  read_turn (got v) after r e stops goes = rw e (goes v refl)
 
-    -- after the header
-    pub header_turn : HeaderReady → (h : HeaderRead) → h ≡ header_as (read_header s) → (r : Progress) → r ≡ header_due h → Turned s at p r index uses
-    unfolding header_due
-    header_turn k (HeaderRefused x) e r q = turn_done (Refused x) r (omega arith) q (header_stop s index x e)
-    header_turn k (HeaderGot g) e r q =
-        let read = header_got _ _ e in
-        let fit = header_fits s g read in
-        rw q (record {
-          walking = at_labels (omega arith) refl refl read k.fresh;
-          fewer = omega arith;
-          fits = omega arith;
-        })
+  -- after the header
+  pub header_turn : HeaderReady → (r : Result Progress Refusal) → r ≡ read_on (read_header s) header_due → TurnedAs s at p r index uses
+  unfolding header_due
+  header_turn k r e =
+      read_turn (read_header s) header_due r e (header_stop s)
+      (λ g read.
+      let fit = header_fits s g read in
+      record {
+        walking = at_labels (omega arith) refl refl read k.fresh;
+        fewer = omega arith;
+        fits = omega arith;
+      })
 
-    -- after the labels
-    pub labels_turn : LabelsReady → (h : LabelsRead) → h ≡ labels_as (read_labels s p.declared.header at) → (r : Progress) → r ≡ labels_due p h → Turned s at p r index uses
-    unfolding labels_due
-    labels_turn k (LabelsRefused x) e r q = turn_done (Refused x) r (omega arith) q (labels_stop s index p.declared x k.is_header (rw k.here at e))
-    labels_turn k (LabelsGot ls) e r q =
-        rw (q, k.here) (record {
-          walking = at_array refl p.declared.header.arrays (omega arith) (record { is_header = k.is_header; is_labels = labels_got _ ls (rw k.here at e) }) (counts_start_lem s p.declared.header) k.fresh;
-          fewer = omega arith;
-          fits = omega (arith, mask_most p.declared.header.version);
-        })
+  -- after the labels
+  pub labels_turn : LabelsReady → (r : Result Progress Refusal) → r ≡ read_on (read_labels s p.declared.header at) (labels_due p) → TurnedAs s at p r index uses
+  unfolding labels_due
+  labels_turn k r e =
+      read_turn (read_labels s p.declared.header at) (labels_due p) r e
+      (λ x stop. labels_stop s index p.declared x k.is_header (rw k.here at stop))
+      (λ ls read.
+      rw k.here (record {
+        walking = at_array refl p.declared.header.arrays (omega arith) (record { is_header = k.is_header; is_labels = rw k.here at read }) (counts_start_lem s p.declared.header) k.fresh;
+        fewer = omega arith;
+        fits = omega (arith, mask_most p.declared.header.version);
+      }))
 
-    -- after an array
-    pub array_small : (k : ArrayReady) → at < 65000
-    array_small k = omega (arith, (header_fits s p.declared.header k.declared.is_header).arrays_fit, mask_most p.declared.header.version)
+  -- after an array
+  pub array_small : (k : ArrayReady) → at < 65000
+  array_small k = omega (arith, (header_fits s p.declared.header k.declared.is_header).arrays_fit, mask_most p.declared.header.version)
 
-    pub array_turn : (k : ArrayReady) → (h : CountRead) → h ≡ count_as (read_count s at p.declared.cells) → (r : Progress) → r ≡ count_due p h → Turned s at p r index uses
-    unfolding count_due
-    array_turn k (CountRefused x) e r q =
-        turn_done (Refused x) r (omega (arith, array_small k)) q (arrays_stop s index p.declared x k.declared (counts_stop s p.declared.header k.left at p.declared.cells k.counts k.more x (sym e)))
-    array_turn k (CountGot n) e r q =
-        rw q (record {
-          walking = at_array refl (k.left - 1) (omega arith) (record { is_header = k.declared.is_header; is_labels = k.declared.is_labels })
-              (counts_more s p.declared.header k.left at p.declared.cells k.counts k.more n (sym e)) k.fresh;
-          fewer = omega arith;
-          fits = omega (arith, array_small k);
-        })
+  pub array_turn : (k : ArrayReady) → (r : Result Progress Refusal) → r ≡ read_on (read_count s at p.declared.cells) (count_due p) → TurnedAs s at p r index uses
+  unfolding count_due
+  array_turn k r e =
+      read_turn (read_count s at p.declared.cells) (count_due p) r e
+      (λ x stop. arrays_stop s index p.declared x k.declared (counts_stop s p.declared.header k.left at p.declared.cells k.counts k.more x stop))
+      (λ n read.
+      record {
+        walking = at_array refl (k.left - 1) (omega arith) (record { is_header = k.declared.is_header; is_labels = k.declared.is_labels })
+            (counts_more s p.declared.header k.left at p.declared.cells k.counts k.more n read) k.fresh;
+        fewer = omega arith;
+        fits = omega (arith, array_small k);
+      })
 
-    -- at the end all records are whole
-    pub end_heads : (k : AfterArrays) → p.left ≤ 1 → Heads s index p.declared.header.nodes
-    end_heads k few =
-        let all : k.n ≡ p.declared.header.nodes = omega (arith, k.sum_left, some, few) in
-        subst (λ n. Heads s index n) all (heads_before s p.declared.header index uses at k.n k.nodes_left (omega (arith, all, k.long.long_index.holds _ k.counted.declared.is_header)))
+  -- at the end all records are whole
+  pub end_heads : (k : AfterArrays) → p.left ≤ 1 → Heads s index p.declared.header.nodes
+  end_heads k few =
+      let all : k.n ≡ p.declared.header.nodes = omega (arith, k.sum_left, some, few) in
+      subst (λ n. Heads s index n) all (heads_before s p.declared.header index uses at k.n k.nodes_left (omega (arith, all, k.long.long_index.holds _ k.counted.declared.is_header)))
 
-    pub end_turn : (k : AfterArrays) → p.left ≤ 1 → (answer : Read) → Finishes s index uses p.declared at answer → (r : Progress) → r ≡ done_with answer → Turned s at p r index uses
-    end_turn k few answer f r e =
-        turn_done answer r (omega (arith, at_small s at p index uses k.n k.counted k.nodes_left)) e
-        (nodes_finished s index p.declared uses at k.n answer k.counted k.nodes_left (omega arith) f)
+  -- and the table is refused or ready
+  pub ended : (k : AfterArrays) → p.left ≤ 1 → (answer : Result (Unit {0}) Refusal) → Finishes s index uses p.declared at answer → EndedAs s index p.declared answer
+  ended k few answer f = nodes_finished s index p.declared uses at k.n answer k.counted k.nodes_left (omega arith) f
+
+  pub end_turn : (k : AfterArrays) → Ready s index p.declared → Turned s at p (end_due p) index uses
+  unfolding end_due
+  end_turn k ready = record { walking = at_end refl ready; fewer = some; fits = omega (arith, at_small s at p index uses k.n k.counted k.nodes_left) }
 
 -- after a node: index and uses were written, and are as long as they were
-module _ (s : List ℕ) (at : ℕ) (p : Progress) (index uses index' uses' : List ℕ) (some : 0 < p.left) (k : AfterArrays s at p index uses) where
-  pub node_turn : (n : ℕ) → n ≡ k.n → length index' ≡ length index → length uses' ≡ length uses → (r : Progress) → NodeTurned s at p n index' uses' r → Turned s at p r index' uses'
+module _ (s : List ℕ) (at : ℕ) (p : Progress) (index uses index' uses' : List ℕ) (some : 0 < p.left) (k : AfterArrays s at p index uses some) where
+  pub node_turn : (n : ℕ) → n ≡ k.n → length index' ≡ length index → length uses' ≡ length uses → (r : Result Progress Refusal) → NodeTurned s at p n index' uses' r → TurnedAs s at p r index' uses'
   unfolding node_due
-  node_turn n e li lu r (node_refused x refuses q) =
-      turn_done s at p index' uses' some (Refused x) r (omega (arith, at_small s at p index uses k.n k.counted k.nodes_left)) q (nodes_stopped s index' p.declared x k.counted refuses)
+  node_turn n e li lu r (node_refused x refuses q) = rw q (nodes_stopped s index' p.declared x k.counted refuses)
   node_turn n e li lu r (node_read size q h) =
       let c = k.counted in
       rw q (record {
@@ -225,27 +212,10 @@ module _ (s : List ℕ) (at : ℕ) (p : Progress) (index uses index' uses' : Lis
       })
 
 -- ---- the end
-same_done : (d : Due) (a b : Read) → d ≡ Done a → d ≡ Done b → a ≡ b
-same_done d a b e f = cc
-
-never_others : (d : Due) (a : Read) → d ≡ Done a → OneOf (0 ∷ 1 ∷ 2 ∷ []) (tag_of due.the_type d) → ⊥
-never_others d a e h = ⊎_elim (λ x. omega arith) (λ r. ⊎_elim (λ x. omega arith) (λ x. omega arith) r) (rw e at h)
-
-module _ (s index uses : List ℕ) (p : Progress) where
-  -- after the last record the answer is there
-  ends_done : Ends s p index uses → (Q : Type 0) → ((a : Read) → p.due ≡ Done a → Answers s index a → Q) → Q
-  ends_done e Q next = go e.walked
-    where
-      go : Walking s e.end p index uses → Q
-      go (at_header z b f) = absurd (omega (arith, begun_left p b))
-      go (at_labels z q l h f) = absurd (omega arith)
-      go (at_array q left l h c f) = absurd (omega arith)
-      go (at_node q n l c h g) = absurd (omega arith)
-      go (at_end a q l w) = next a q w
-
-  pub ends_answers : Ends s p index uses → (a : Read) → p.due ≡ Done a → Answers s index a
-  ends_answers e a d = ends_done e _ (λ b q w. rw (same_done p.due a b d q) w)
-
-  -- and nothing is due
-  pub never_due : Ends s p index uses → OneOf (0 ∷ 1 ∷ 2 ∷ []) (tag_of due.the_type p.due) → ⊥
-  never_due e h = ends_done e ⊥ (λ a q w. never_others p.due a q h)
+-- after the last record the table is ready
+pub walked_ready : (s : List ℕ) (at : ℕ) (p : Progress) (index uses : List ℕ) → Walking s at p index uses → p.left < 1 → Ready s index p.declared
+walked_ready s at p index uses (at_header z b f) none = absurd (omega (arith, begun_left p b))
+walked_ready s at p index uses (at_labels z q l h f) none = absurd (omega arith)
+walked_ready s at p index uses (at_array q left l h c f) none = absurd (omega arith)
+walked_ready s at p index uses (at_node q n l c h g) none = absurd (omega arith)
+walked_ready s at p index uses (at_end l w) none = w

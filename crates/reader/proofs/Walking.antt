@@ -9,7 +9,7 @@ use lib.Seq.{get_or-set_same, get_or-set_other, get_or_at, take-append-le, take_
 use Rattle.bytes_le.proofs.Numbers.{Below}
 use Rattle.awhile.specs.Lists.{sum, all, occurrences}
 use Rattle.awhile.specs.Refusals.{refused, got}
-use Rattle.awhile.specs.Nodes.{size_of, decode_at, field_in_range, in_range, field_children, children_of}
+use Rattle.awhile.specs.Nodes.{field_size, size_of, decode_at, field_in_range, in_range, field_children, children_of}
 use Rattle.awhile.specs.Tables.{max_nodes, nodes_start, read_node, read_nodes, uses_of, header_size, array_size}
 use Rattle.awhile.proofs.Versions.{mask_most}
 use Rattle.record.specs.RecordRead.{fields_of, tally, all_below, CountsBelow, Heads, Kept, NodeKnown, NodeChecked}
@@ -19,15 +19,14 @@ use Rattle.awhile.proofs.Cases.{nodes_next, nodes_refused}
 use Rattle.awhile.proofs.Records.{sizes_most}
 use Rattle.awhile.proofs.Accepted.{NodeRead, node_read_lem}
 use Rattle.record.proofs.RecordForms.{fields_few}
-use Rattle.record.proofs.Searching.{up_to}
+use borrow.Author.Count.{below_more}
 use Rattle.record.proofs.Tally.{get_or-tally, occurrences_most, fields_children, fields_below, below_weaken}
 use Rattle.awhile.specs.declared.Header.{Header}
 use Rattle.awhile.specs.declared.Node.{Node}
 use Rattle.awhile.specs.declared.Node.TheVariants.{Skip}
-use Rattle.awhile.specs.declared.Decoded.TheVariants.{Known}
+use Rattle.std.proofs.Common.{Some, Ok, Err}
 use Rattle.awhile.specs.declared.Refusal.{Refusal}
 use Rattle.record.specs.declared.forms.Fields.{Fields}
-use Rattle.record.specs.declared.node.NodeRead.TheVariants.{Refused as NodeRefused, Node as NodeGot}
 
 -- ---- what is kept of one node more
 module _ (ns : List Node) (m : Node) where
@@ -47,12 +46,12 @@ module _ (ns : List Node) (m : Node) where
     index_here = get_or-set_same index (length ns) at 0 long
 
     each : (P : ℕ → Type 0) → ((i : ℕ) → i < length ns → P i) → P (length ns) → (i : ℕ) → i < length (ns ++ (m ∷ [])) → P i
-    each P before here i inside = up_to (length ns) P before here i (omega (arith, length-append ns (m ∷ [])))
+    each P before here i inside = below_more P (length ns) before here i (omega (arith, length-append ns (m ∷ [])))
 
-    leads_more : decode_at s at ≡ Known m → (i : ℕ) → i < length (ns ++ (m ∷ []))
-        → decode_at s (get_or (set index (length ns) at) i 0) ≡ Known (get_or (ns ++ (m ∷ [])) i Skip)
+    leads_more : decode_at s at ≡ Some m → (i : ℕ) → i < length (ns ++ (m ∷ []))
+        → decode_at s (get_or (set index (length ns) at) i 0) ≡ Some (get_or (ns ++ (m ∷ [])) i Skip)
     leads_more d =
-        each (λ i. decode_at s (get_or (set index (length ns) at) i 0) ≡ Known (get_or (ns ++ (m ∷ [])) i Skip))
+        each (λ i. decode_at s (get_or (set index (length ns) at) i 0) ≡ Some (get_or (ns ++ (m ∷ [])) i Skip))
         (λ i below. rw (index_before i below, before_same i below) (k.leads.decoded i below))
         (rw (index_here, get_or_at ns m [] Skip (length ns) refl) d)
 
@@ -69,7 +68,7 @@ module _ (ns : List Node) (m : Node) where
         (rw index_here inside)
 
     -- what is kept of one node more
-    kept_more : (cs : List ℕ) → cs ≡ children_of m → all_below (length uses) cs ≡ true → decode_at s at ≡ Known m → at + 4 ≤ length s
+    kept_more : (cs : List ℕ) → cs ≡ children_of m → all_below (length uses) cs ≡ true → decode_at s at ≡ Some m → at + 4 ≤ length s
         → Kept s (set index (length ns) at) (tally uses cs) start (ns ++ (m ∷ []))
     kept_more cs same below d inside =
         record {
@@ -121,13 +120,13 @@ module _ (s : List ℕ) (header : Header) where
       next = omega arith
 
       -- a refused record refuses them all
-      pub nodes_stop : (x : Refusal) → NodeChecked s index header.variables header.arrays n at (NodeRefused x) → read_nodes header.nodes header s (nodes_start header) [] ≡ refused x
+      pub nodes_stop : (x : Refusal) → NodeChecked s index header n at (Err x) → read_nodes header.nodes header s (nodes_start header) [] ≡ refused x
       nodes_stop x c =
           let e = c.is_read h.before h.counted h.kept.leads header.version header.nodes in
           h.same ∙ ap (λ k. read_nodes k header s at h.before) next ∙ nodes_refused _ _ _ _ _ _ e
 
-      module _ (bytes : Below 256 s) (size : ℕ) (fs : Fields) (c : NodeChecked s index header.variables header.arrays n at (NodeGot size fs)) where
-        was_read : NodeKnown (read_node header s at h.before) size fs
+      module _ (bytes : Below 256 s) (fs : Fields) (c : NodeChecked s index header n at (Ok fs)) where
+        was_read : NodeKnown (read_node header s at h.before) fs
         was_read = c.is_read h.before h.counted h.kept.leads header.version header.nodes
 
         abbrev m : Node
@@ -139,6 +138,11 @@ module _ (s : List ℕ) (header : Header) where
         whole : at + 4 ≤ length s
         unfolding size_of
         whole = omega (arith, known.there.inside)
+
+        -- it is as long as its fields say
+        long_as : 4 + sum (map field_size (fields_of fs)) ≡ size_of m
+        unfolding size_of
+        long_as = ap (λ fs. 4 + sum (map field_size fs)) was_read.is_fields
 
         same_children : flat_map field_children (fields_of fs) ≡ children_of m
         unfolding children_of
@@ -152,10 +156,11 @@ module _ (s : List ℕ) (header : Header) where
             below_weaken n bound (flat_map field_children (fields_of fs)) (omega arith) (fields_below header.variables header.arrays n (fields_of fs) ranged)
 
         -- a record that was read is one node more
-        pub nodes_more : header.nodes ≤ length index → header.nodes ≤ length uses
+        pub nodes_more : header.nodes ≤ length index → header.nodes ≤ length uses → (size : ℕ) → size ≡ 4 + sum (map field_size (fields_of fs))
             → NodesLeft s header (set index n at) (tally uses (flat_map field_children (fields_of fs))) (at + size) (n + 1)
         unfolding sum flat_map
-        nodes_more long_index long_uses =
+        nodes_more long_index long_uses size is_fields_size =
+            let is_size : size ≡ size_of m = is_fields_size ∙ long_as in
             record {
               before = h.before ++ (m ∷ []);
               counted = length-append h.before (m ∷ []) ∙ omega (arith, h.counted);
@@ -163,8 +168,8 @@ module _ (s : List ℕ) (header : Header) where
                   h.same
                   ∙ ap (λ k. read_nodes k header s at h.before) next
                   ∙ nodes_next _ _ _ _ _ _ was_read.is_node
-                  ∙ ap (λ k. read_nodes (header.nodes - (n + 1)) header s k (h.before ++ (m ∷ []))) (omega (arith, was_read.is_size));
-              place = rw (map-append, sum-append) (omega (arith, h.place, was_read.is_size));
+                  ∙ ap (λ k. read_nodes (header.nodes - (n + 1)) header s k (h.before ++ (m ∷ []))) (omega (arith, is_size));
+              place = rw (map-append, sum-append) (omega (arith, h.place, is_size));
               kept =
                   subst (λ k. Kept s (set index k at) (tally uses (flat_map field_children (fields_of fs))) (nodes_start header) (h.before ++ (m ∷ []))) h.counted
                   (kept_more _ m _ _ _ _ _ h.kept (omega (arith, h.counted)) h.place

@@ -1,5 +1,5 @@
 -- The index of record offsets: what the code keeps of a table that it has read once, and what it stands for.
-use Rattle.std.specs.Prelude.{ℕ, ◌<◌, ◌≤◌, List, [], ◌≡◌, length, get_or}
+use Rattle.std.specs.Prelude.{ℕ, ◌<◌, ◌≤◌, List, [], ◌≡◌, length, get_or, Result, Ok, Err}
 use Rattle.awhile.specs.Tables.{Table, header_of, declarations_of, read_table, offset_of, nodes_start, read_records}
 use Rattle.awhile.specs.Refusals.{Answer, refused, got}
 use Rattle.record.specs.RecordRead.{Kept}
@@ -7,8 +7,7 @@ use Rattle.awhile.specs.Language.{AExp, BExp, Com}
 use Rattle.awhile.specs.Trees.{Tree, tree_at, trees, as_numeric, as_truth, as_command}
 use Rattle.awhile.specs.declared.Declarations.{Declarations}
 use Rattle.awhile.specs.declared.Header.{Header}
-use Rattle.reader.specs.declared.Read.{Read}
-use Rattle.reader.specs.declared.Read.TheVariants.{Refused, Accepted}
+use Rattle.awhile.specs.declared.Refusal.{Refusal}
 use Rattle.awhile.specs.Nodes.{sort_of}
 use Rattle.awhile.specs.declared.Sort.{Sort}
 use Rattle.awhile.specs.declared.Node.{Node}
@@ -67,6 +66,11 @@ pub record OfSort (table index : List ℕ) (sort : Sort) (n : ℕ) : Type 0 wher
   pub inside : n < nodes_in table
   pub is_sort : sort_of (node_in table n) ≡ sort
 
+-- a node of this sort, in an accepted table
+pub record HasSort (table : List ℕ) (sort : Sort) (n : ℕ) : Type 0 where
+  pub inside : n < nodes_in table
+  pub is_sort : sort_of (node_in table n) ≡ sort
+
 -- a node that is no command with command parts
 pub record Single (node : Node) : Type 0 where
   pub no_sequence : (c d : ℕ) → node ≡ Sequence c d → ⊥
@@ -75,16 +79,29 @@ pub record Single (node : Node) : Type 0 where
 
 -- ---- what the reader answers
 -- a refusal, or what an accepted table declares
-unfoldable pub read_as : Answer Table → Read
-read_as (refused r) = Refused r
-read_as (got t) = Accepted (declarations_of t)
+unfoldable pub read_as : Answer Table → Result Declarations Refusal
+read_as (refused r) = Err r
+read_as (got t) = Ok (declarations_of t)
+
+-- or a refusal, or the accepted table itself, which is the list of its bytes
+unfoldable pub accepted_as : List ℕ → Result (List ℕ) Refusal
+accepted_as s =
+    elim (read_table s) [
+      | refused r ↦ Err r
+      | got t ↦ Ok s
+    ]
 
 -- The reader answers what the bytes read as; of an accepted table the index is left. Of the index of a refused one nothing is said.
-pub record Answers (s index : List ℕ) (answer : Read) : Type 0 where
+pub record Answers (s index : List ℕ) (answer : Result Declarations Refusal) : Type 0 where
   pub answers : answer ≡ read_as (read_table s)
   pub indexes : (t : Table) → read_table s ≡ got t → Indexed s index
 
--- the answer where all records were read, kept in an index and in counts of uses
-pub record Finishes (s index uses : List ℕ) (declared : Declarations) (end : ℕ) (answer : Read) : Type 0 where
+-- after the last record: the table is refused, or ready
+abbrev pub EndedAs : (s index : List ℕ) → Declarations → Result (Unit {0}) Refusal → Type 0
+EndedAs s index declared (Err r) = read_table s ≡ refused r
+EndedAs s index declared (Ok w) = Ready s index declared
+
+-- where all records were read, kept in an index and in counts of uses, this is how it ends
+pub record Finishes (s index uses : List ℕ) (declared : Declarations) (end : ℕ) (answer : Result (Unit {0}) Refusal) : Type 0 where
   pub answers : (t : Table) → read_records s ≡ got t → declarations_of t ≡ declared → offset_of t (length t.nodes) ≡ end
-      → Kept s index uses (nodes_start (header_of t)) t.nodes → Answers s index answer
+      → Kept s index uses (nodes_start (header_of t)) t.nodes → EndedAs s index declared answer

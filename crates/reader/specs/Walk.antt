@@ -1,29 +1,20 @@
 -- What the reader knows between two records.
-use Rattle.std.specs.Prelude.{ℕ, ◌+◌, ◌-◌, ◌*◌, ◌^◌, ◌<◌, ◌≤◌, ◌≡◌, length}
+use Rattle.std.specs.Prelude.{ℕ, ◌+◌, ◌-◌, ◌*◌, ◌^◌, ◌<◌, ◌≤◌, ◌≡◌, length, Result, Ok, Err}
 use mathlib.Core.List.{List, [], map, flat_map}
 use Rattle.awhile.specs.Lists.{sum}
-use Rattle.awhile.specs.Refusals.{refused, got}
+use Rattle.awhile.specs.Refusals.{Answer, as_result, refused, got, and_then}
 use Rattle.awhile.specs.Nodes.{size_of, children_of}
-use Rattle.awhile.specs.Tables.{max_arrays, max_cells, max_nodes, header_size, labels_size, array_size, labels_start, counts_start, nodes_start, read_header, read_labels, read_counts, read_nodes}
+use Rattle.awhile.specs.Tables.{max_arrays, max_cells, max_nodes, header_size, labels_size, array_size, labels_start, counts_start, nodes_start, read_header, read_labels, read_counts, read_nodes, read_table}
 use Rattle.record.specs.RecordRead.{Kept, CountsBelow}
-use Rattle.reader.specs.Index.{Answers}
+use Rattle.reader.specs.Index.{Ready}
 use Rattle.reader.specs.Classes.{RoomFor}
 use Rattle.awhile.specs.declared.Declarations.{Declarations}
 use Rattle.awhile.specs.declared.Header.{Header}
 use Rattle.awhile.specs.declared.Labelling.{Labelling}
 use Rattle.awhile.specs.declared.Node.{Node}
 use Rattle.awhile.specs.declared.Refusal.{Refusal}
-use Rattle.reader.specs.declared.Read.{Read}
-use Rattle.reader.specs.declared.Read.TheVariants.{Refused}
-use Rattle.record.specs.declared.declarations.HeaderRead.{HeaderRead}
-use Rattle.record.specs.declared.declarations.HeaderRead.TheVariants.{Refused as HeaderRefused, Header as HeaderGot}
-use Rattle.record.specs.declared.declarations.LabelsRead.{LabelsRead}
-use Rattle.record.specs.declared.declarations.LabelsRead.TheVariants.{Refused as LabelsRefused, Labels as LabelsGot}
-use Rattle.record.specs.declared.declarations.CountRead.{CountRead}
-use Rattle.record.specs.declared.declarations.CountRead.TheVariants.{Refused as CountRefused, Count as CountGot}
 use Rattle.reader.specs.declared.records.Progress.{Progress}
-use Rattle.reader.specs.declared.records.Due.{Due}
-use Rattle.reader.specs.declared.records.Due.TheVariants.{Header as HeaderDue, Labels as LabelsDue, Body, Done}
+use Rattle.reader.specs.declared.records.Due.TheVariants.{Header as HeaderDue, Labels as LabelsDue, Body}
 
 abbrev no_header : Header
 no_header = record { version = 0; variables = 0; arrays = 0; nodes = 0 }
@@ -31,29 +22,19 @@ no_header = record { version = 0; variables = 0; arrays = 0; nodes = 0 }
 abbrev no_labels : Labelling
 no_labels = record { variables = 0; arrays = 0 }
 
--- nothing is declared
-abbrev pub undeclared_with : ℕ → Due → Progress
-undeclared_with left due = record { left = left; size = 0; due = due; declared = record { header = no_header; cells = 0; labels = no_labels } }
-
--- before the first record, and after the last
+-- before the first record
 unfoldable pub begun : Progress
-begun = undeclared_with (3 + max_arrays + max_nodes) HeaderDue
+begun = record { left = 3 + max_arrays + max_nodes; size = 0; due = HeaderDue; declared = record { header = no_header; cells = 0; labels = no_labels } }
 
-unfoldable pub done_with : Read → Progress
-done_with answer = undeclared_with 0 (Done answer)
+-- after one record more: header, labels, array, node, and the end
+unfoldable pub header_due : Header → Progress
+header_due h = record { left = 2 + h.arrays + h.nodes; size = header_size; due = LabelsDue; declared = record { header = h; cells = 0; labels = no_labels } }
 
--- after one record more: header, labels, array, node
-unfoldable pub header_due : HeaderRead → Progress
-header_due (HeaderRefused r) = done_with (Refused r)
-header_due (HeaderGot h) = record { left = 2 + h.arrays + h.nodes; size = header_size; due = LabelsDue; declared = record { header = h; cells = 0; labels = no_labels } }
+unfoldable pub labels_due : Progress → Labelling → Progress
+labels_due p l = record { left = p.left - 1; size = labels_size p.declared.header.version; due = Body; declared = record { header = p.declared.header; cells = 0; labels = l } }
 
-unfoldable pub labels_due : Progress → LabelsRead → Progress
-labels_due p (LabelsRefused r) = done_with (Refused r)
-labels_due p (LabelsGot l) = record { left = p.left - 1; size = labels_size p.declared.header.version; due = Body; declared = record { header = p.declared.header; cells = 0; labels = l } }
-
-unfoldable pub count_due : Progress → CountRead → Progress
-count_due p (CountRefused r) = done_with (Refused r)
-count_due p (CountGot n) =
+unfoldable pub count_due : Progress → ℕ → Progress
+count_due p n =
     record {
       left = p.left - 1;
       size = array_size;
@@ -63,6 +44,13 @@ count_due p (CountGot n) =
 
 unfoldable pub node_due : Progress → (size : ℕ) → Progress
 node_due p size = record { left = p.left - 1; size = size; due = Body; declared = p.declared }
+
+unfoldable pub end_due : Progress → Progress
+end_due p = record { left = 0; size = 0; due = Body; declared = p.declared }
+
+-- reading goes on after a record that was read; a refusal stays
+unfoldable pub read_on : {A : Type 0} → Answer A → (A → Progress) → Result Progress Refusal
+read_on a after = as_result (and_then a (λ x. got (after x)))
 
 -- what is left to read from here is what is to be read of all arrays
 pub record CountsLeft (s : List ℕ) (header : Header) (left at cells : ℕ) : Type 0 where
@@ -112,7 +100,7 @@ pub data Walking (s : List ℕ) (at : ℕ) (p : Progress) (index uses : List ℕ
       → Fresh s index uses → Walking s at p index uses
   at_node : p.due ≡ Body → (n : ℕ) → p.left + n ≡ 1 + p.declared.header.nodes → Counted s p.declared → NodesLeft s p.declared.header index uses at n
       → Long s index uses → Walking s at p index uses
-  at_end : (answer : Read) → p.due ≡ Done answer → p.left ≡ 0 → Answers s index answer → Walking s at p index uses
+  at_end : p.left ≡ 0 → Ready s index p.declared → Walking s at p index uses
 
 -- a record is read and fewer are left: what is known past it, at an offset that fits a machine's number
 pub record Turned (s : List ℕ) (at : ℕ) (p r : Progress) (index uses : List ℕ) : Type 0 where
@@ -120,11 +108,10 @@ pub record Turned (s : List ℕ) (at : ℕ) (p r : Progress) (index uses : List 
   pub fewer : r.left < p.left
   pub fits : at + r.size < 2 ^ 64
 
--- what is known after the last one
-pub record Ends (s : List ℕ) (p : Progress) (index uses : List ℕ) : Type 0 where
-  pub end : ℕ
-  pub walked : Walking s end p index uses
-  pub none_left : p.left < 1
+-- or it is refused, and so is the table
+abbrev pub TurnedAs : (s : List ℕ) (at : ℕ) (p : Progress) → Result Progress Refusal → (index uses : List ℕ) → Type 0
+TurnedAs s at p (Err x) index uses = read_table s ≡ refused x
+TurnedAs s at p (Ok r) index uses = Turned s at p r index uses
 
 -- the record that is due after header and labels
 pub record BodyDue (s : List ℕ) (at : ℕ) (p : Progress) (index uses : List ℕ) : Type 0 where
@@ -141,6 +128,6 @@ pub record NodeReady (s : List ℕ) (at : ℕ) (p : Progress) (n : ℕ) (index u
   pub long_index : p.declared.header.nodes ≤ length index
   pub long_uses : p.declared.header.nodes ≤ length uses
 
-pub data NodeTurned (s : List ℕ) (at : ℕ) (p : Progress) (n : ℕ) (index uses : List ℕ) (r : Progress) : Type 0 where
-  node_refused : (x : Refusal) → read_nodes p.declared.header.nodes p.declared.header s (nodes_start p.declared.header) [] ≡ refused x → r ≡ done_with (Refused x) → NodeTurned s at p n index uses r
-  node_read : (size : ℕ) → r ≡ node_due p size → NodesLeft s p.declared.header index uses (at + size) (n + 1) → NodeTurned s at p n index uses r
+pub data NodeTurned (s : List ℕ) (at : ℕ) (p : Progress) (n : ℕ) (index uses : List ℕ) (r : Result Progress Refusal) : Type 0 where
+  node_refused : (x : Refusal) → read_nodes p.declared.header.nodes p.declared.header s (nodes_start p.declared.header) [] ≡ refused x → r ≡ Err x → NodeTurned s at p n index uses r
+  node_read : (size : ℕ) → r ≡ Ok (node_due p size) → NodesLeft s p.declared.header index uses (at + size) (n + 1) → NodeTurned s at p n index uses r

@@ -20,7 +20,9 @@ pub const MEDIUM_NODES: usize = 512;
 // Where a header says how many nodes there are.
 const NODES_AT: usize = 8;
 
-// Whether a class holds a table, by the node count that its header's bytes state. They are not tested here: where the header is refused, no node is read.
+// Whether a class holds a table, by the node count that its header's bytes state. They are not tested here: where the header is refused, no node is
+// read. This and `next` are functions by the names that run_entries and write_entries call.
+#[tactic(auto, unfolding(crate::specs::Classes::holds_table, crate::specs::Classes::class_nodes))]
 pub fn holds(class: Class, table: &[u8]) -> bool
     ensures { result ≡ holds_table class table.now }
 {
@@ -33,6 +35,7 @@ pub fn holds(class: Class, table: &[u8]) -> bool
 }
 
 // The next larger class.
+#[tactic(auto, unfolding(crate::specs::Classes::next_class))]
 pub fn next(class: Class) -> Class
     ensures { result ≡ next_class class }
 {

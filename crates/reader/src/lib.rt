@@ -1,17 +1,10 @@
-// Reads a table of records: the refusal and its place, or what the table declares and an index of its records.
+// Reads a table of records: the refusal and its place, or an accepted table, in which nodes are looked up by their numbers.
 #![tactic(auto)]
 
-use awhile::{Declarations, Refusal};
-
+pub mod accepted;
 pub mod classes;
+pub mod declared;
 pub mod lookup;
 pub mod reader;
 pub mod records;
 pub mod tables;
-
-// What reading a table answers: why it is refused, or what it declares.
-#[derive(Clone, Copy)]
-pub enum Read {
-    Refused { refusal: Refusal },
-    Accepted { declared: Declarations },
-}

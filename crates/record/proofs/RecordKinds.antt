@@ -5,10 +5,10 @@ use mathlib.Core.Bool.{Bool, true, false, cond}
 use mathlib.Core.Path.{◌≡◌, refl, subst}
 use mathlib.Core.List.{List}
 use lib.ListN.{length}
-use lib.Dec.{eqb, leb}
-use borrow.Author.Tests.{eqb-true, le-leb, lt-leb}
+use lib.Dec.{eqb}
+use borrow.Author.Tests.{eqb-true}
 use Rattle.bytes_le.specs.Numbers.{le_at}
-use Rattle.awhile.specs.Nodes.{form, size_of, sort_of, same_sort, node_of, decode_at}
+use Rattle.awhile.specs.Nodes.{form, size_of, sort_of, node_of, decode_at}
 use Rattle.awhile.proofs.Cases.{decoded_same}
 use Rattle.awhile.proofs.Records.{NodeAt, size_least}
 use Rattle.record.specs.RecordRead.{SortAt}
@@ -18,15 +18,14 @@ use Rattle.awhile.specs.declared.Node.{Node}
 use Rattle.awhile.specs.declared.Node.TheVariants.{Number, Variable, Add, Subtract, Multiply, Choice}
 use Rattle.awhile.specs.declared.Node.TheVariants.{Constant, Equal, Less, Not, And}
 use Rattle.awhile.specs.declared.Node.TheVariants.{Skip, Assign, Sequence, If, While, Read, Write}
-use Rattle.awhile.specs.declared.Decoded.{Decoded}
-use Rattle.awhile.specs.declared.Decoded.TheVariants.{Known, Unknown}
+use Rattle.std.proofs.Common.{Option, Some, None}
 
 -- ---- a kind that decodes is the node's
-abbrev KindIs : (kind : ℕ) → Decoded → Type 0
-KindIs k (Known n) = k ≡ (form n).kind
-KindIs k Unknown = Unit
+abbrev KindIs : (kind : ℕ) → Option Node → Type 0
+KindIs k (Some n) = k ≡ (form n).kind
+KindIs k None = Unit
 
-kind_case : (k wanted : ℕ) (x y : Decoded) → (k ≡ wanted → KindIs k x) → KindIs k y → KindIs k (cond (eqb k wanted) x y)
+kind_case : (k wanted : ℕ) (x y : Option Node) → (k ≡ wanted → KindIs k x) → KindIs k y → KindIs k (cond (eqb k wanted) x y)
 kind_case k wanted x y p q = go (eqb k wanted) refl
   where
     go : (b : Bool) → eqb k wanted ≡ b → KindIs k (cond b x y)
@@ -55,46 +54,13 @@ node_of_kind k f g h w =
     (kind_case k 53 _ _ (λ e. e)
     (kind_case k 54 _ _ (λ e. e) tt)))))))))))))))))
 
--- ---- what is decoded of a kind has one sort, whatever its fields hold
-abbrev Alike : Decoded → Decoded → Type 0
-Alike (Known m) (Known n) = sort_of m ≡ sort_of n
-Alike (Known m) Unknown = ⊥
-Alike Unknown (Known n) = ⊥
-Alike Unknown Unknown = Unit
-
-alike_case : (b : Bool) (x y z w : Decoded) → Alike x y → Alike z w → Alike (cond b x z) (cond b y w)
-alike_case true x y z w p q = p
-alike_case false x y z w p q = q
-
-kinds_alike : (k f g h w a b c d : ℕ) → Alike (node_of k f g h w) (node_of k a b c d)
-unfolding node_of sort_of form
-kinds_alike k f g h w a b c d =
-    alike_case (eqb k 16) _ _ _ _ refl
-    (alike_case (eqb k 17) _ _ _ _ refl
-    (alike_case (eqb k 18) _ _ _ _ refl
-    (alike_case (eqb k 19) _ _ _ _ refl
-    (alike_case (eqb k 20) _ _ _ _ refl
-    (alike_case (eqb k 21) _ _ _ _ refl
-    (alike_case (eqb k 32) _ _ _ _ refl
-    (alike_case (eqb k 33) _ _ _ _ refl
-    (alike_case (eqb k 34) _ _ _ _ refl
-    (alike_case (eqb k 35) _ _ _ _ refl
-    (alike_case (eqb k 36) _ _ _ _ refl
-    (alike_case (eqb k 48) _ _ _ _ refl
-    (alike_case (eqb k 49) _ _ _ _ refl
-    (alike_case (eqb k 50) _ _ _ _ refl
-    (alike_case (eqb k 51) _ _ _ _ refl
-    (alike_case (eqb k 52) _ _ _ _ refl
-    (alike_case (eqb k 53) _ _ _ _ refl
-    (alike_case (eqb k 54) _ _ _ _ refl tt)))))))))))))))))
-
 -- ---- the kinds of a sort stand side by side
-abbrev first_kind : Sort → ℕ
+abbrev pub first_kind : Sort → ℕ
 first_kind Numeric = 16
 first_kind Truth = 32
 first_kind Command = 48
 
-abbrev last_kind : Sort → ℕ
+abbrev pub last_kind : Sort → ℕ
 last_kind Numeric = 21
 last_kind Truth = 36
 last_kind Command = 54
@@ -130,7 +96,7 @@ kind_of (Read a b c) = (omega arith, omega arith)
 kind_of (Write a b c) = (omega arith, omega arith)
 
 -- a number is none of so many from a least one up
-abbrev Others : (least count k : ℕ) → Type 0
+abbrev pub Others : (least count k : ℕ) → Type 0
 Others least zero k = Unit
 Others least (suc count) k = Others least count k × (k ≡ least + count → ⊥)
 
@@ -140,25 +106,27 @@ above least zero k low others = omega arith
 above least (suc count) k low others = omega (arith, above least count k low others.0, others.1)
 
 module _ (s : List ℕ) (at : ℕ) where
-  decoded_kind : (n : Node) → decode_at s at ≡ Known n → le_at 2 s (at + 2) ≡ (form n).kind
+  decoded_kind : (n : Node) → decode_at s at ≡ Some n → le_at 2 s (at + 2) ≡ (form n).kind
   unfolding decode_at
   decoded_kind n d = subst (KindIs (le_at 2 s (at + 2))) d (node_of_kind (le_at 2 s (at + 2)) (le_at 2 s (at + 4)) (le_at 2 s (at + 6)) (le_at 2 s (at + 8)) (le_at 4 s (at + 4)))
 
-  decoded_range : (n : Node) → decode_at s at ≡ Known n → KindOf (sort_of n) (le_at 2 s (at + 2))
+  decoded_range : (n : Node) → decode_at s at ≡ Some n → KindOf (sort_of n) (le_at 2 s (at + 2))
   decoded_range n d = rw (decoded_kind n d) (kind_of n)
 
-  -- what the record's kind makes with any fields has the sort of its node
-  module _ (k : ℕ) (read : k ≡ le_at 2 s (at + 2)) (d : Decoded) (made : d ≡ node_of k 0 0 0 0) where
-    same_kind : Alike d (decode_at s at)
-    unfolding decode_at
-    same_kind = rw (made, read) (kinds_alike (le_at 2 s (at + 2)) 0 0 0 0 _ _ _ _)
-
-    pub sort_by_kind : (m : Node) → d ≡ Known m → SortAt s at (sort_of m)
-    sort_by_kind m e = record { is_sort = λ n there. rw (e, there) at same_kind }
-
-    -- and where it makes none no node stands
-    pub no_sort : (r : Sort) → d ≡ Unknown → SortAt s at r
-    no_sort r e = record { is_sort = λ n there. absurd (rw (e, there) at same_kind) }
+  -- a sort is told by where the kinds of the next begin
+  pub kind_tells : (t : Sort) (k : ℕ) → k ≡ le_at 2 s (at + 2) → Span t k → SortAt s at t
+  kind_tells t k e span = record { is_sort = λ n d. go t (sort_of n) span (rw e (decoded_range n d)) }
+    where
+      go : (t u : Sort) → Span t k → KindOf u k → t ≡ u
+      go Numeric Numeric p r = refl
+      go Numeric Truth p r = absurd (omega (arith, r.0))
+      go Numeric Command p r = absurd (omega (arith, r.0))
+      go Truth Numeric p r = absurd (omega (arith, p.0, r.1))
+      go Truth Truth p r = refl
+      go Truth Command p r = absurd (omega (arith, p.1, r.0))
+      go Command Numeric p r = absurd (omega (arith, r.1))
+      go Command Truth p r = absurd (omega (arith, r.1))
+      go Command Command p r = refl
 
   -- ---- the node of a record, by its kind
   module _ (n : Node) (there : NodeAt s at n) where
@@ -171,7 +139,7 @@ module _ (s : List ℕ) (at : ℕ) where
     abbrev pub StoredAs : (k : ℕ) → Type 0
     StoredAs k =
         (kind : ℕ) → k ≡ kind → (m : Node)
-        → node_of kind (le_at 2 s (at + 4)) (le_at 2 s (at + 6)) (le_at 2 s (at + 8)) (le_at 4 s (at + 4)) ≡ Known m → Stored m
+        → node_of kind (le_at 2 s (at + 4)) (le_at 2 s (at + 6)) (le_at 2 s (at + 8)) (le_at 4 s (at + 4)) ≡ Some m → Stored m
 
     pub stored : (k : ℕ) → k ≡ le_at 2 s (at + 2) → StoredAs k
     unfolding decode_at
@@ -182,31 +150,6 @@ module _ (s : List ℕ) (at : ℕ) where
     -- every record has its head
     pub head_there : at + 4 ≤ length s
     head_there = omega (arith, there.inside, size_least n)
-
-    -- a command is told by its kind
-    pub command_kind : (k : ℕ) → k ≡ le_at 2 s (at + 2) → leb 48 k ≡ same_sort (sort_of n) Command
-    unfolding same_sort
-    command_kind k e = rw e (go (sort_of n) (decoded_range n there.decoded))
-      where
-        go : (t : Sort) → KindOf t (le_at 2 s (at + 2)) → leb 48 (le_at 2 s (at + 2)) ≡ same_sort t Command
-        go Numeric r = lt-leb 48 (le_at 2 s (at + 2)) (omega (arith, r.1))
-        go Truth r = lt-leb 48 (le_at 2 s (at + 2)) (omega (arith, r.1))
-        go Command r = le-leb 48 (le_at 2 s (at + 2)) r.0
-
-    -- every sort is, by where the kinds of the next begin
-    pub kind_tells : (t : Sort) (k : ℕ) → k ≡ le_at 2 s (at + 2) → Span t k → t ≡ sort_of n
-    kind_tells t k e span = go t (sort_of n) span (rw e (decoded_range n there.decoded))
-      where
-        go : (t u : Sort) → Span t k → KindOf u k → t ≡ u
-        go Numeric Numeric p r = refl
-        go Numeric Truth p r = absurd (omega (arith, r.0))
-        go Numeric Command p r = absurd (omega (arith, r.0))
-        go Truth Numeric p r = absurd (omega (arith, p.0, r.1))
-        go Truth Truth p r = refl
-        go Truth Command p r = absurd (omega (arith, p.1, r.0))
-        go Command Numeric p r = absurd (omega (arith, r.1))
-        go Command Truth p r = absurd (omega (arith, r.1))
-        go Command Command p r = refl
 
     -- of the kinds of a sort, what is none of the others is the last
     pub last_kind_lem : (t : Sort) → sort_of n ≡ t → (k : ℕ) → k ≡ le_at 2 s (at + 2) → Others (first_kind t) (last_kind t - first_kind t) k → k ≡ last_kind t

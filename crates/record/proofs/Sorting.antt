@@ -1,134 +1,65 @@
--- Sorts and fields told apart: what the other way of a `let .. else` knows.
-use Prim.Native.Nat.{ℕ}
+-- Fields and sorts told apart, and the tests of a record in their order.
+use Prim.Native.Nat.{ℕ, ◌+◌}
 use native.Mathlib.Omega.{arith}
 use mathlib.Core.Bool.{Bool, true, false, ◌&&◌, and-true}
-use mathlib.Core.Logic.{⊎_elim}
 use mathlib.Core.Path.{◌≡◌, refl, sym, ap, ◌∙◌}
-use mathlib.Core.List.{List, [], ◌∷◌}
+use mathlib.Core.List.{List, [], ◌∷◌, map}
 use lib.ListN.{length, get_or}
 use borrow.Author.Tests.{ltb-true}
-use types.Run.{OneOf}
-use denote.Enum.Declared.{tag_of}
-use Rattle.awhile.specs.Lists.{all}
-use Rattle.awhile.specs.Refusals.{refused, got, check}
-use Rattle.awhile.specs.Nodes.{Field, word, child, form, size_of, sort_of, decode_at, field_in_range, in_range, same_sort, field_sorted, sorted, field_children}
-use Rattle.awhile.specs.Tables.{framed}
-use Rattle.record.specs.RecordRead.{checked_as, tested, first_refusal, field_of, fields_of, NodeAs, passed_node, whole_as, Heads, ChildThere, SortAt, SortsThen, RecordChecked, NodeChecked}
-use Rattle.awhile.proofs.Lists.{all_head, all_tail, all_cons}
+use denote.Enum.Bare.{sameb}
+use Rattle.std.proofs.Common.{Some, None, Result, Ok, Err}
+use Rattle.awhile.specs.Lists.{sum, all}
+use Rattle.awhile.specs.Refusals.{as_result, refused, got, check, passed, and_then}
+use Rattle.awhile.specs.Nodes.{Field, child, form, field_size, sort_of, size_of, decode_at, field_in_range, in_range, same_sort, field_sorted, sorted, field_children}
+use Rattle.awhile.specs.Tables.{framed, read_node}
+use Rattle.record.specs.RecordRead.{field_of, fields_of, Leads, Heads, ChildThere, AllThere, SortAt, SortedBy, RecordChecked, NodeChecked}
+use Rattle.awhile.proofs.Lists.{all_head, all_tail}
 use Rattle.awhile.proofs.Cases.{node_known, node_unknown}
-use Rattle.awhile.specs.declared.Sort.{Sort}
+use Rattle.record.proofs.Passing.{then_refused, then_passed, check_then, framed_then, framed_refused, framed_passed_on}
 use Rattle.awhile.specs.contracts.Sort as sort
+use Rattle.awhile.specs.declared.Sort.{Sort}
 use Rattle.awhile.specs.declared.Sort.TheVariants.{Numeric, Truth, Command}
-use Rattle.record.specs.contracts.forms.Field as field
+use Rattle.awhile.specs.declared.Header.{Header}
 use Rattle.record.specs.declared.forms.Field.{Field as FieldRead}
 use Rattle.record.specs.declared.forms.Field.TheVariants.{Constant, Variable, Array, Child}
 use Rattle.record.specs.declared.forms.Fields.{Fields}
+use Rattle.record.specs.declared.forms.Fields.TheVariants.{Word}
 use Rattle.awhile.specs.declared.Node.{Node}
 use Rattle.awhile.specs.declared.Node.TheVariants.{Skip}
-use Rattle.awhile.specs.declared.Decoded.TheVariants.{Known, Unknown}
 use Rattle.awhile.specs.declared.Refusal.{Refusal}
 use Rattle.awhile.specs.declared.Refusal.TheVariants.{OutOfRange, WrongSort}
-use Rattle.record.specs.declared.checks.Checked.{Checked}
-use Rattle.record.specs.declared.checks.Checked.TheVariants.{Refused, Passed}
-use Rattle.record.specs.declared.node.NodeRead.TheVariants.{Refused as NodeRefused}
 
--- a sort that is not the wanted one
-pub not_numeric_lem : (s : Sort) → OneOf (1 ∷ 2 ∷ []) (tag_of sort.the_type s) → same_sort s Numeric ≡ false
+-- `==` tells whether two sorts are the same
+pub sorts_equal : (a b : Sort) → sameb sort.the_type a b ≡ same_sort a b
 unfolding same_sort
-not_numeric_lem Numeric h = absurd (⊎_elim (λ e. omega arith) (λ e. omega arith) h)
-not_numeric_lem Truth h = refl
-not_numeric_lem Command h = refl
+sorts_equal Numeric Numeric = refl
+sorts_equal Numeric Truth = refl
+sorts_equal Numeric Command = refl
+sorts_equal Truth Numeric = refl
+sorts_equal Truth Truth = refl
+sorts_equal Truth Command = refl
+sorts_equal Command Numeric = refl
+sorts_equal Command Truth = refl
+sorts_equal Command Command = refl
 
--- not a truth
-pub not_truth_lem : (s : Sort) → OneOf (0 ∷ 2 ∷ []) (tag_of sort.the_type s) → same_sort s Truth ≡ false
-unfolding same_sort
-not_truth_lem Numeric h = refl
-not_truth_lem Truth h = absurd (⊎_elim (λ e. omega arith) (λ e. omega arith) h)
-not_truth_lem Command h = refl
-
--- not a command
-pub not_command_lem : (s : Sort) → OneOf (0 ∷ 1 ∷ []) (tag_of sort.the_type s) → same_sort s Command ≡ false
-unfolding same_sort
-not_command_lem Numeric h = refl
-not_command_lem Truth h = refl
-not_command_lem Command h = absurd (⊎_elim (λ e. omega arith) (λ e. omega arith) h)
-
--- a field that is a child is not one of the others
-never_child : (s : Sort) (n : ℕ) → OneOf (0 ∷ 1 ∷ 2 ∷ []) (tag_of field.the_type (Child s n)) → ⊥
-never_child s n h = ⊎_elim (λ e. omega arith) (λ r. ⊎_elim (λ e. omega arith) (λ e. omega arith) r) h
-
--- another field asks for no sort
-not_child : (f : FieldRead) → OneOf (0 ∷ 1 ∷ 2 ∷ []) (tag_of field.the_type f) → (ns : List Node) → field_sorted ns (field_of f) ≡ true
+-- a field that is no child asks for no sort
+not_child : (f : FieldRead) → ((s : Sort) (n : ℕ) → f ≡ Child s n → ⊥) → (ns : List Node) → field_sorted ns (field_of f) ≡ true
 unfolding field_sorted
 not_child (Constant n) h ns = refl
 not_child (Variable x) h ns = refl
 not_child (Array a) h ns = refl
-not_child (Child s n) h ns = absurd (never_child s n h)
+not_child (Child s n) h ns = absurd (h s n refl)
 
 -- and names no child
-pub no_children : (f : FieldRead) → OneOf (0 ∷ 1 ∷ 2 ∷ []) (tag_of field.the_type f) → field_children (field_of f) ≡ []
+pub no_children : (f : FieldRead) → ((s : Sort) (n : ℕ) → f ≡ Child s n → ⊥) → field_children (field_of f) ≡ []
 unfolding field_children
 no_children (Constant n) h = refl
 no_children (Variable x) h = refl
 no_children (Array a) h = refl
-no_children (Child s n) h = absurd (never_child s n h)
-
--- ---- checks in their order
--- where both pass, each did
-first_passed : (a b : Checked) → first_refusal a b ≡ Passed → a ≡ Passed
-unfolding first_refusal
-first_passed (Refused r) b e = e
-first_passed Passed b e = refl
-
-second_passed : (a b : Checked) → first_refusal a b ≡ Passed → b ≡ Passed
-unfolding first_refusal
-second_passed (Refused r) b e = cc
-second_passed Passed b e = e
-
-test_passed : (p : Bool) (r : Refusal) → tested p r ≡ Passed → p ≡ true
-unfolding checked_as check
-test_passed true r e = refl
-test_passed false r e = cc
-
--- what was refused stays refused
-pub refused_first : (a b : Checked) (r : Refusal) → a ≡ Refused r → a ≡ first_refusal a b
-unfolding first_refusal
-refused_first a b r e = rw e
-
--- two tests with one refusal are one
-tests_joined : (a : Checked) (p q : Bool) (r : Refusal) → first_refusal (first_refusal a (tested p r)) (tested q r) ≡ first_refusal a (tested (p && q) r)
-unfolding first_refusal checked_as check
-tests_joined (Refused x) p q r = refl
-tests_joined Passed true q r = refl
-tests_joined Passed false q r = refl
-
--- a test that passes changes nothing
-test_true : (a : Checked) (r : Refusal) → a ≡ first_refusal a (tested true r)
-unfolding first_refusal checked_as check
-test_true (Refused x) r = refl
-test_true Passed r = refl
-
--- ---- all ranges
-module _ (vs arrs n at : ℕ) where
-  -- one field after the other
-  unfoldable pub ranges_then : Checked → List Field → Checked
-  ranges_then a [] = a
-  ranges_then a (f ∷ fs) = ranges_then (first_refusal a (tested (field_in_range vs arrs n f) (OutOfRange at))) fs
-
-  ranges_all : (a : Checked) (fs : List Field) → ranges_then a fs ≡ first_refusal a (tested (all (field_in_range vs arrs n) fs) (OutOfRange at))
-  unfolding all ranges_then
-  ranges_all a [] = test_true a (OutOfRange at)
-  ranges_all a (f ∷ fs) =
-      ranges_all (first_refusal a (tested (field_in_range vs arrs n f) (OutOfRange at))) fs
-      ∙ tests_joined a (field_in_range vs arrs n f) (all (field_in_range vs arrs n) fs) (OutOfRange at)
+no_children (Child s n) h = absurd (h s n refl)
 
 -- ---- the children that fields name
--- each stands in the index
-abbrev pub AllThere : (s index : List ℕ) → List Field → Type 0
-AllThere s index [] = Unit {0}
-AllThere s index (f ∷ fs) = ChildThere s index f × AllThere s index fs
-
-module _ (s index : List ℕ) (vs arrs n at : ℕ) (h : Heads s index n) where
+module _ (s index : List ℕ) (vs arrs n : ℕ) (h : Heads s index n) where
   -- a child in range is one of the nodes before
   child_there : (f : Field) → field_in_range vs arrs n f ≡ true → ChildThere s index f
   unfolding field_in_range
@@ -139,123 +70,111 @@ module _ (s index : List ℕ) (vs arrs n at : ℕ) (h : Heads s index n) where
             (omega (arith, h.long, below), h.whole node below);
       }
 
-  all_there : (fs : List Field) → all (field_in_range vs arrs n) fs ≡ true → AllThere s index fs
+  -- so are all of them
+  pub all_there : (fs : List Field) → all (field_in_range vs arrs n) fs ≡ true → AllThere s index fs
   all_there [] e = tt
   all_there (f ∷ fs) e = (child_there f (all_head (field_in_range vs arrs n) f fs e), all_there fs (all_tail (field_in_range vs arrs n) f fs e))
 
-  -- where nothing was refused, all are
-  pub fields_there : (a ranges : Checked) (fs : List Field) → ranges ≡ ranges_then vs arrs n at a fs → ranges ≡ Passed → AllThere s index fs
-  fields_there a ranges fs g p =
-      let range = all (field_in_range vs arrs n) fs in
-      all_there fs (test_passed range (OutOfRange at) (second_passed a (tested range (OutOfRange at)) (sym (ranges_all vs arrs n at a fs) ∙ sym g ∙ p)))
-
 -- ---- all sorts
-module _ (s index : List ℕ) (at : ℕ) where
-  pub refused_then : (earlier : Checked) (fs : List Field) (r : Refusal) → earlier ≡ Refused r → SortsThen s index at earlier fs earlier
-  refused_then earlier fs r e = record { is_then = λ vs arrs ns leads ranged. refused_first earlier _ r e; passed = λ p. p }
-
-  -- no fields leave it as it was
-  pub nothing_then : (earlier : Checked) → SortsThen s index at earlier [] earlier
-  unfolding all
-  nothing_then earlier = record { is_then = λ vs arrs ns leads ranged. test_true earlier (WrongSort at); passed = λ p. p }
-
-  pub word_then : (earlier : Checked) (n : ℕ) → SortsThen s index at earlier (word n ∷ []) earlier
-  unfolding all field_sorted
-  word_then earlier n = record { is_then = λ vs arrs ns leads ranged. test_true earlier (WrongSort at); passed = λ p. p }
-
+module _ (s index : List ℕ) where
   -- a field that names no child passes
-  pub none_then : (earlier : Checked) (f : FieldRead) → earlier ≡ Passed → OneOf (0 ∷ 1 ∷ 2 ∷ []) (tag_of field.the_type f) → SortsThen s index at earlier (field_of f ∷ []) Passed
-  unfolding all checked_as check first_refusal
-  none_then earlier f e other = record { is_then = λ vs arrs ns leads ranged. rw (e, not_child f other ns); passed = λ p. e }
+  pub none_sorted : (f : FieldRead) → ((s : Sort) (n : ℕ) → f ≡ Child s n → ⊥) → SortedBy s index (field_of f ∷ []) true
+  unfolding all
+  none_sorted f other = record { is_sorted = λ vs arrs ns leads ranged. rw (not_child f other ns) }
 
   -- a child whose record is found by the index passes where it is of the wanted sort
-  pub child_then : (earlier : Checked) (wanted found : Sort) (node : ℕ) (a : Checked) → earlier ≡ Passed → SortAt s (get_or index node 0) found
-      → a ≡ tested (same_sort found wanted) (WrongSort at) → SortsThen s index at earlier (child wanted node ∷ []) a
-  unfolding all field_sorted field_in_range first_refusal
-  child_then earlier wanted found node a passed there e =
+  pub child_sorted : (wanted found : Sort) (node : ℕ) (r : Bool) → SortAt s (get_or index node 0) found → r ≡ sameb sort.the_type found wanted
+      → SortedBy s index (child wanted node ∷ []) r
+  unfolding all field_sorted field_in_range
+  child_sorted wanted found node r there e =
       record {
-        is_then = λ vs arrs ns leads ranged.
-            let below = ltb-true node (length ns) (all_head (field_in_range vs arrs (length ns)) (child wanted node) [] (ranged passed)) in
+        is_sorted = λ vs arrs ns leads ranged.
+            let below = ltb-true node (length ns) (all_head (field_in_range vs arrs (length ns)) (child wanted node) [] ranged) in
             let same : found ≡ sort_of (get_or ns node Skip) = there.is_sort (get_or ns node Skip) (leads.decoded node below) in
-            rw (passed, and-true, ← same) e;
-        passed = λ p. passed;
+            rw (and-true, ← same) (e ∙ sorts_equal found wanted);
       }
 
-  -- a field is checked before the others
-  pub sorts_then : (f : Field) (fs : List Field) (earlier a r : Checked) → SortsThen s index at earlier (f ∷ []) a → SortsThen s index at a fs r
-      → SortsThen s index at earlier (f ∷ fs) r
+  -- no fields pass
+  pub nothing_sorted : SortedBy s index [] true
   unfolding all
-  sorts_then f fs earlier a r h rest =
+  nothing_sorted = record { is_sorted = λ vs arrs ns leads ranged. refl }
+
+  -- a field is tested before the others
+  pub sorted_more : (f : Field) (fs : List Field) (a r : Bool) → SortedBy s index (f ∷ []) a → SortedBy s index fs r → SortedBy s index (f ∷ fs) (a && r)
+  unfolding all
+  sorted_more f fs a r h rest =
       record {
-        is_then = λ vs arrs ns leads ranged.
+        is_sorted = λ vs arrs ns leads ranged.
             let range = field_in_range vs arrs (length ns) in
-            let one : a ≡ first_refusal earlier (tested (all (field_sorted ns) (f ∷ [])) (WrongSort at)) = h.is_then vs arrs ns leads (λ p. all_cons range f [] (all_head range f fs (ranged p)) refl) in
-            rest.is_then vs arrs ns leads (λ p. all_tail range f fs (ranged (first_passed _ _ (sym one ∙ p))))
-            ∙ rw (one, and-true) (tests_joined earlier (field_sorted ns f) (all (field_sorted ns) fs) (WrongSort at));
-        passed = λ p. h.passed (rest.passed p);
+            let one : a ≡ field_sorted ns f = rw and-true at (h.is_sorted vs arrs ns leads (rw (all_head range f fs ranged))) in
+            rw (← one, rest.is_sorted vs arrs ns leads (all_tail range f fs ranged));
+      }
+
+  -- one that is not of the wanted sort decides
+  pub sorted_never : (f : Field) (fs : List Field) → SortedBy s index (f ∷ []) false → SortedBy s index (f ∷ fs) false
+  unfolding all
+  sorted_never f fs h =
+      record {
+        is_sorted = λ vs arrs ns leads ranged.
+            let one : false ≡ field_sorted ns f = rw and-true at (h.is_sorted vs arrs ns leads (rw (all_head (field_in_range vs arrs (length ns)) f fs ranged))) in
+            rw (← one);
       }
 
 -- ---- a whole record
--- the frame, the ranges and the sorts are tests in a row
-module _ (x y z u v : Refusal) where
-  in_a_row : (a b c p q : Bool) → first_refusal (first_refusal (checked_as (check a x (check b y (check c z (got tt))))) (tested p u)) (tested q v)
-      ≡ checked_as (check a x (check b y (check c z (check p u (check q v (got tt))))))
-  unfolding checked_as check first_refusal
-  in_a_row true true true true q = refl
-  in_a_row true true true false q = refl
-  in_a_row true true false p q = refl
-  in_a_row true false c p q = refl
-  in_a_row false b c p q = refl
+module _ (s index : List ℕ) (h : Header) (n at : ℕ) (fs : List Field) where
+  -- its frame is refused
+  pub frame_stops : (r : Refusal) → as_result (framed s at (4 + sum (map field_size fs)) passed) ≡ Err r → RecordChecked s index h n at fs (Err r)
+  unfolding as_result
+  frame_stops r e = record { is_checked = λ before counted leads. rw (framed_refused _ _ _ _ r e) }
 
-  -- and what they say of a node is what is read
-  module _ (m : Node) (size : ℕ) (fs : Fields) (long : size ≡ size_of m) (held : fields_of fs ≡ (form m).fields) where
-    row_read : (a b c p q : Bool) (r : Checked) → r ≡ checked_as (check a x (check b y (check c z (check p u (check q v (got tt))))))
-        → NodeAs (check a x (check b y (check c z (check p u (check q v (got m)))))) (passed_node size fs r)
-    unfolding checked_as check passed_node
-    row_read true true true true true r e = rw e (record { node = m; is_node = refl; is_size = long; is_fields = held })
-    row_read true true true true false r e = rw e refl
-    row_read true true true false q r e = rw e refl
-    row_read true true false p q r e = rw e refl
-    row_read true false c p q r e = rw e refl
-    row_read false b c p q r e = rw e refl
+  module _ (whole : as_result (framed s at (4 + sum (map field_size fs)) passed) ≡ Ok tt) where
+    -- a field is out of range
+    pub ranges_stop : all (field_in_range h.variables h.arrays n) fs ≡ false → RecordChecked s index h n at fs (Err (OutOfRange at))
+    unfolding as_result check
+    ranges_stop e = record { is_checked = λ before counted leads. rw (framed_passed_on _ _ _ _ whole, e) }
 
-module _ (s index : List ℕ) (vs arrs n at : ℕ) (fs : List Field) where
-  -- its frame, then all ranges, then all sorts
-  pub record_checked : (whole ranges r : Checked) → whole ≡ whole_as s at fs → ranges ≡ ranges_then vs arrs n at whole fs → SortsThen s index at ranges fs r
-      → RecordChecked s index vs arrs n at fs r
-  unfolding framed
-  record_checked whole ranges r w g h =
-      record {
-        is_checked = λ before counted leads.
-            let range = all (field_in_range vs arrs n) fs in
-            let ranged : ranges ≡ first_refusal (whole_as s at fs) (tested range (OutOfRange at)) = g ∙ ranges_all vs arrs n at whole fs ∙ rw w in
-            h.is_then vs arrs before leads (λ p. rw counted (test_passed range (OutOfRange at) (second_passed _ _ (sym ranged ∙ p))))
-            ∙ rw ranged (in_a_row _ _ _ _ _ _ _ _ _ _);
-      }
+    module _ (ranged : all (field_in_range h.variables h.arrays n) fs ≡ true) where
+      sorted_so : (r : Bool) → SortedBy s index fs r → (before : List Node) → length before ≡ n → Leads s index before → r ≡ all (field_sorted before) fs
+      sorted_so r q before counted leads = q.is_sorted h.variables h.arrays before leads (rw counted ranged)
 
--- a record without fields, and one with a word, have only a frame
-module _ (s index : List ℕ) (vs arrs n at : ℕ) (whole : Checked) where
-  pub nothing_checked : whole ≡ whole_as s at [] → RecordChecked s index vs arrs n at [] whole
-  unfolding ranges_then
-  nothing_checked w = record_checked _ _ _ _ _ _ _ _ _ _ w refl (nothing_then _ _ _ whole)
+      -- a child is of another sort
+      pub sorts_stop : SortedBy s index fs false → RecordChecked s index h n at fs (Err (WrongSort at))
+      unfolding as_result check
+      sorts_stop q = record { is_checked = λ before counted leads. rw (framed_passed_on _ _ _ _ whole, ranged, ← sorted_so false q before counted leads) }
 
-  pub word_checked : (v : ℕ) → whole ≡ whole_as s at (word v ∷ []) → RecordChecked s index vs arrs n at (word v ∷ []) whole
-  unfolding ranges_then field_in_range
-  word_checked v w = record_checked _ _ _ _ _ _ _ _ _ _ w (test_true whole (OutOfRange at)) (word_then _ _ _ whole v)
+      -- all is well
+      pub record_passes : SortedBy s index fs true → RecordChecked s index h n at fs (Ok tt)
+      unfolding as_result check
+      record_passes q = record { is_checked = λ before counted leads. rw (framed_passed_on _ _ _ _ whole, ranged, ← sorted_so true q before counted leads) }
+
+-- a word asks for no more than its frame
+pub word_checked : (s index : List ℕ) (h : Header) (n at : ℕ) (fs : Fields) {value : ℕ} → fs ≡ Word value → (r : Result (Unit {0}) Refusal)
+    → r ≡ as_result (framed s at (4 + sum (map field_size (fields_of fs))) passed) → RecordChecked s index h n at (fields_of fs) r
+unfolding all field_in_range field_sorted check
+word_checked s index h n at fs is r e = record { is_checked = λ before counted leads. rw is (rw is at e) }
 
 -- ---- a node's record, read with an index of the nodes before
-module _ (s index : List ℕ) (vs arrs n at : ℕ) where
+module _ (s index : List ℕ) (h : Header) (n at : ℕ) where
   -- of no kind
-  pub unknown_read : (x : Refusal) → decode_at s at ≡ Unknown → framed s at 0 (got Skip) ≡ refused x → NodeChecked s index vs arrs n at (NodeRefused x)
+  pub unknown_read : (x : Refusal) → decode_at s at ≡ None → framed s at 0 (got Skip) ≡ refused x → NodeChecked s index h n at (Err x)
   unknown_read x d e = record { is_read = λ before counted leads version nodes. node_unknown _ _ _ _ d ∙ e }
 
-  -- of a kind: what the tests of its record say
-  pub record_read : (m : Node) → decode_at s at ≡ Known m → (size : ℕ) (fs : Fields) → size ≡ size_of m → fields_of fs ≡ (form m).fields
-      → (r : Checked) → RecordChecked s index vs arrs n at (fields_of fs) r → NodeChecked s index vs arrs n at (passed_node size fs r)
-  unfolding framed in_range sorted size_of
-  record_read m d size fs long held r h =
-      record {
-        is_read = λ before counted leads version nodes.
-            rw (node_known _ _ _ _ _ d, counted)
-            (row_read _ _ _ _ _ m size fs long held _ _ _ _ _ r (h.is_checked before counted leads ∙ rw held));
-      }
+  -- of a kind: it is read where the tests of its record pass
+  module _ (m : Node) (d : decode_at s at ≡ Some m) (fs : Fields) (held : fields_of fs ≡ (form m).fields) where
+    node_then : (before : List Node) → length before ≡ n → (version nodes : ℕ)
+        → read_node (record { version = version; variables = h.variables; arrays = h.arrays; nodes = nodes }) s at before
+        ≡ and_then (framed s at (4 + sum (map field_size (fields_of fs))) (check (all (field_in_range h.variables h.arrays n) (fields_of fs)) (OutOfRange at) (check (all (field_sorted before) (fields_of fs)) (WrongSort at) passed))) (λ w. got m)
+    unfolding in_range sorted size_of and_then
+    node_then before counted version nodes =
+        rw (node_known _ _ _ _ _ d, counted, held) (framed_then _ _ _ _ _ _ (check_then _ _ _ _ _ (check_then _ _ _ _ _ refl)))
+
+    pub record_refused : (r : Refusal) → RecordChecked s index h n at (fields_of fs) (Err r) → NodeChecked s index h n at (Err r)
+    record_refused r q =
+        record { is_read = λ before counted leads version nodes. node_then before counted version nodes ∙ then_refused _ _ r (sym (q.is_checked before counted leads)) }
+
+    pub record_read : RecordChecked s index h n at (fields_of fs) (Ok tt) → NodeChecked s index h n at (Ok fs)
+    record_read q =
+        record {
+          is_read = λ before counted leads version nodes.
+              record { node = m; is_node = node_then before counted version nodes ∙ then_passed _ _ tt (sym (q.is_checked before counted leads)); is_fields = held };
+        }

@@ -12,6 +12,7 @@ use Rattle.awhile.specs.Lists.{all, occurrences}
 use Rattle.awhile.specs.Nodes.{Field, word, constant, variable, array, child, field_in_range, field_children}
 use Rattle.record.specs.RecordRead.{tally, all_below, CountsBelow}
 use Rattle.awhile.specs.declared.Sort.{Sort}
+use Rattle.record.proofs.Sorting.{no_children}
 use Rattle.awhile.proofs.Lists.{all_head, all_tail, all_append, all_first, all_second}
 
 -- counts of two lists, one after the other
@@ -161,3 +162,6 @@ below_weaken bound wider [] less h = refl
 below_weaken bound wider (n ∷ ns) less h =
     let test : ℕ → Bool = λ m. ltb m bound in
     rw (lt-ltb n wider (omega (arith, ltb-true n bound (all_head test n ns h))), below_weaken bound wider ns less (all_tail test n ns h))
+
+-- what counting the child of one field needs
+pub ruleset counting = (child_inside, count_child, count_none, no_children)

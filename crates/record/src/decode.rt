@@ -1,12 +1,14 @@
-// A node's record: what it decodes to.
+// A node's record: what it decodes to. Kinds of nodes are numbers here, as in `node_of` of awhile/specs/Nodes, for the bytes hold any number:
+// an enum of the 18 would first have to be made of numbers by this very list, and then be told apart again into nodes.
 ghost use Rattle.std.specs.Prelude.{◌+◌, ◌^◌, ◌<◌, ◌≡◌};
 ghost use Rattle.awhile.specs.Nodes.{node_of, decode_at};
 
-use awhile::{Decoded, Node};
+use awhile::Node;
 use bytes_le::get;
 
 // The node of a kind, from the record's first three 2-byte fields and its first 4-byte field.
-pub fn node_of(kind: usize, f: usize, g: usize, h: usize, w: u32) -> Decoded
+#[tactic(auto, unfolding(awhile::specs::Nodes::node_of))]
+pub fn node_of(kind: usize, f: usize, g: usize, h: usize, w: u32) -> Option<Node>
     ensures { result ≡ node_of kind f g h w }
 {
     let node = match kind {
@@ -53,14 +55,15 @@ pub fn node_of(kind: usize, f: usize, g: usize, h: usize, w: u32) -> Decoded
             index: g,
             value: h,
         },
-        _ => return Decoded::Unknown,
+        _ => return None,
     };
-    Decoded::Known { node }
+    Some(node)
 }
 
 // What the record at an offset decodes to, whatever its length says. Offsets past the end read as zeros. No record has more than 10 bytes, so
 // but at the end of a table one test tells that all fields are there.
-pub fn decode_at(table: &[u8], at: usize) -> Decoded
+#[tactic(auto, unfolding(awhile::specs::Nodes::decode_at))]
+pub fn decode_at(table: &[u8], at: usize) -> Option<Node>
     requires { at + 8 < 2 ^ 64 }
     ensures { result ≡ decode_at table.now at }
 {

@@ -6,9 +6,9 @@ ghost use Rattle.awhile.specs.Nodes.{form, row, field_size, field_in_range};
 ghost use Rattle.record.specs.RecordRead.{field_of, fields_of, form_of};
 ghost use Rattle.awhile.specs.declared.Sort.TheVariants.{Truth};
 ghost use Rattle.record.specs.declared.forms.Field.TheVariants.{Child};
-ghost use Rattle.record.specs.declared.forms.Fields.TheVariants.{One, Two, Three};
+ghost use Rattle.record.specs.declared.forms.Fields.TheVariants.{Two, Three};
 
-use awhile::{Node, Sort};
+use awhile::{Header, Node, Sort};
 
 // What a 2-byte field holds.
 #[derive(Clone, Copy)]
@@ -19,7 +19,9 @@ pub enum Field {
     Child { sort: Sort, node: usize },
 }
 
-// The fields of a record: none, a 4-byte number, or up to three of 2 bytes.
+// The fields of a record: none, a 4-byte number, or up to three of 2 bytes. A sum, and no struct of three fields some of which are absent: with that,
+// reading a table took 3 to 16 % longer. Who goes over them (`check_record`, `count_fields`) matches by himself: no function hands out an array whose
+// length its argument tells.
 #[derive(Clone, Copy)]
 pub enum Fields {
     Nothing,
@@ -46,29 +48,6 @@ pub struct Form {
     pub kind: usize,
     pub sort: Sort,
     pub fields: Fields,
-}
-
-// One field, two, three.
-fn one(first: Field) -> Fields
-    ensures { result ≡ One first }
-{
-    Fields::One { first }
-}
-
-fn two(first: Field, second: Field) -> Fields
-    ensures { result ≡ Two first second }
-{
-    Fields::Two { first, second }
-}
-
-fn three(first: Field, second: Field, third: Field) -> Fields
-    ensures { result ≡ Three first second third }
-{
-    Fields::Three {
-        first,
-        second,
-        third,
-    }
 }
 
 // A child of a wanted sort; two of one sort; a condition and two of one sort.
@@ -108,12 +87,21 @@ fn row(kind: usize, sort: Sort, fields: Fields) -> Form
 }
 
 // The form of each node, as document 01 lists the kinds.
+// A kind is a number, as in `form` of awhile/specs/Nodes and in `decode::node_of`: an enum of them would be `Node` without its fields, and its one
+// use would be to be made a number again.
+#[tactic(auto, unfolding(awhile::specs::Nodes::form))]
 pub fn form_of(node: Node) -> Form
     ensures { form_of result ≡ form node }
 {
     match node {
         Node::Number { value } => row(16, Sort::Numeric, Fields::Word { value }),
-        Node::Variable { variable } => row(17, Sort::Numeric, one(Field::Variable { variable })),
+        Node::Variable { variable } => row(
+            17,
+            Sort::Numeric,
+            Fields::One {
+                first: Field::Variable { variable },
+            },
+        ),
         Node::Add { left, right } => row(18, Sort::Numeric, pair(Sort::Numeric, left, right)),
         Node::Subtract { left, right } => row(19, Sort::Numeric, pair(Sort::Numeric, left, right)),
         Node::Multiply { left, right } => row(20, Sort::Numeric, pair(Sort::Numeric, left, right)),
@@ -122,16 +110,31 @@ pub fn form_of(node: Node) -> Form
             Sort::Numeric,
             branch(Sort::Numeric, condition, yes, no),
         ),
-        Node::Constant { value } => row(32, Sort::Truth, one(Field::Constant { value })),
+        Node::Constant { value } => row(
+            32,
+            Sort::Truth,
+            Fields::One {
+                first: Field::Constant { value },
+            },
+        ),
         Node::Equal { left, right } => row(33, Sort::Truth, pair(Sort::Numeric, left, right)),
         Node::Less { left, right } => row(34, Sort::Truth, pair(Sort::Numeric, left, right)),
-        Node::Not { truth } => row(35, Sort::Truth, one(child(Sort::Truth, truth))),
+        Node::Not { truth } => row(
+            35,
+            Sort::Truth,
+            Fields::One {
+                first: child(Sort::Truth, truth),
+            },
+        ),
         Node::And { left, right } => row(36, Sort::Truth, pair(Sort::Truth, left, right)),
         Node::Skip => row(48, Sort::Command, Fields::Nothing),
         Node::Assign { variable, value } => row(
             49,
             Sort::Command,
-            two(Field::Variable { variable }, child(Sort::Numeric, value)),
+            Fields::Two {
+                first: Field::Variable { variable },
+                second: child(Sort::Numeric, value),
+            },
         ),
         Node::Sequence { first, second } => row(
             50,
@@ -146,7 +149,10 @@ pub fn form_of(node: Node) -> Form
         Node::While { condition, body } => row(
             52,
             Sort::Command,
-            two(child(Sort::Truth, condition), child(Sort::Command, body)),
+            Fields::Two {
+                first: child(Sort::Truth, condition),
+                second: child(Sort::Command, body),
+            },
         ),
         Node::Read {
             variable,
@@ -155,11 +161,11 @@ pub fn form_of(node: Node) -> Form
         } => row(
             53,
             Sort::Command,
-            three(
-                Field::Variable { variable },
-                Field::Array { array },
-                child(Sort::Numeric, index),
-            ),
+            Fields::Three {
+                first: Field::Variable { variable },
+                second: Field::Array { array },
+                third: child(Sort::Numeric, index),
+            },
         ),
         Node::Write {
             array,
@@ -168,16 +174,17 @@ pub fn form_of(node: Node) -> Form
         } => row(
             54,
             Sort::Command,
-            three(
-                Field::Array { array },
-                child(Sort::Numeric, index),
-                child(Sort::Numeric, value),
-            ),
+            Fields::Three {
+                first: Field::Array { array },
+                second: child(Sort::Numeric, index),
+                third: child(Sort::Numeric, value),
+            },
         ),
     }
 }
 
 // The byte length of a record with these fields: 4 for its length and kind, a word 4, any other field 2.
+#[tactic(auto, using(crate::proofs::RecordForms::two_bytes), unfolding(awhile::specs::Lists::sum, awhile::specs::Nodes::field_size))]
 pub fn record_size(fields: Fields) -> usize
     ensures { result ≡ 4 + sum (map field_size (fields_of fields)) }
 {
@@ -191,13 +198,14 @@ pub fn record_size(fields: Fields) -> usize
 }
 
 // A variable, an array or a child that a field names is one that there is; a constant is 0 or 1.
-pub fn in_range(field: Field, variables: usize, arrays: usize, parent: usize) -> bool
-    ensures { result ≡ field_in_range variables arrays parent (field_of field) }
+#[tactic(auto, unfolding(awhile::specs::Nodes::field_in_range))]
+pub fn in_range(field: Field, header: Header, parent: usize) -> bool
+    ensures { result ≡ field_in_range header.variables header.arrays parent (field_of field) }
 {
     match field {
         Field::Constant { value } => value <= 1,
-        Field::Variable { variable } => variable < variables,
-        Field::Array { array } => array < arrays,
+        Field::Variable { variable } => variable < header.variables,
+        Field::Array { array } => array < header.arrays,
         Field::Child { node, .. } => node < parent,
     }
 }

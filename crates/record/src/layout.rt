@@ -5,6 +5,14 @@ ghost use Rattle.awhile.specs.Tables.{max_arrays, labels_size, longest_labels, c
 use crate::mask::mask_bytes;
 use awhile::Header;
 
+// The records before the nodes, by the kinds that document 01 gives them.
+#[derive(Clone, Copy)]
+pub enum Kind {
+    Header = 1,
+    Array = 2,
+    Labels = 3,
+}
+
 pub const HEADER_BYTES: usize = 10;
 
 pub const ARRAY_BYTES: usize = 6;

@@ -1,4 +1,5 @@
-// Variable masks: a bit for each variable, in as many bytes as the table's version says.
+// Variable masks: a bit for each variable, in as many bytes as the table's version says. A version is any number, here and in
+// `Header`, as the definitions have it (`mask_bytes` of awhile/specs/Tables): a type of the two that are known would ask more of callers.
 ghost use Rattle.std.specs.Prelude.{◌+◌, ◌*◌, ◌^◌, ◌≤◌, ◌<◌, ◌≡◌, ltb, length};
 ghost use Rattle.std.proofs.lemmas.List.Edits.{sets};
 ghost use Rattle.bytes_le.specs.Numbers.{le, le_at};
@@ -7,6 +8,7 @@ ghost use Rattle.awhile.specs.Tables.{mask_bytes, most_variables};
 use bytes_le::{get, put};
 
 // How many bytes these are.
+#[tactic(auto, unfolding(awhile::specs::Tables::mask_bytes))]
 pub fn mask_bytes(version: usize) -> usize
     ensures { (result ≡ mask_bytes version) × (result ≤ 8) }
 {
@@ -21,12 +23,13 @@ pub fn most_variables(version: usize) -> usize
 }
 
 // The mask at an offset.
+#[tactic(auto, unfolding(awhile::specs::Tables::mask_bytes))]
 pub fn mask_at(table: &[u8], version: usize, at: usize) -> u64
     requires { at + 8 < 2 ^ 64 }
     ensures { result ≡ le_at (mask_bytes version) table.now at }
 {
     if version == 1 {
-        return get::u32_at(table, at) as u64;
+        return u64::from(get::u32_at(table, at));
     }
     get::u64_at(table, at)
 }

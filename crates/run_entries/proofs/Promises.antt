@@ -20,24 +20,26 @@ use Rattle.entries.specs.Answers.{answered}
 use Rattle.entries.specs.Running.{Lent, Ran, not_run, lent_for, ran_all, running, run_entry, guess_with, guess_entry}
 use Rattle.entries.specs.Rolling.{save_size, saving_for, not_run_saving, ran_saving, saving_run, rollback_with, rollback_entry}
 use Rattle.awhile.proofs.VersionOne.{reads_as_before}
-use Rattle.entries.specs.Promises.{ran_at, Runs, Guesses, RollsBack}
+use Rattle.entries.specs.Promises.{lent_at, ran_at, Runs, Guesses, RollsBack}
 use Rattle.entries.proofs.Rolling.{entry_rolls_back}
 use Rattle.run_entries.specs.Lengths.{enough_for, fit_for}
-use Rattle.run_entries.specs.Runs.{report_numbers, result_of, numbers_of, runnable, CameTo, has_not_run, has_run, ReadDone}
-use Rattle.run_entries.specs.declared.tables.Done.{Done}
+use Rattle.run_entries.specs.Runs.{report_numbers, result_of, numbers_of, runnable, CameTo, has_not_run, has_run, RanAs}
+use Rattle.awhile.specs.declared.Refusal.{Refusal}
+use Rattle.interpreter.specs.declared.run.Report.{Report}
+use Rattle.std.specs.Prelude.{Result}
 
 -- what a call came to, as all memory at exit
-abbrev exit_of : Lent → (answer : List ℕ) → Done → Ran
+abbrev exit_of : Lent → (answer : List ℕ) → Result Report Refusal → Ran
 exit_of lent answer d = ran_at (result_of d) lent (answered (numbers_of d) answer)
 
 module _ (list : List ℕ) (board : Board) (budget : ℕ) (lent : Lent) (ss : List ℕ) (lent' : Lent) (ss' answer : List ℕ) where
-  came_to : (a : Answer Table) (d : Done) → CameTo a list board budget lent ss lent' ss' d → running a lent budget answer (guide_of board list 0) ≡ exit_of lent' answer d
+  came_to : (a : Answer Table) (d : Result Report Refusal) → CameTo a list board budget lent ss lent' ss' d → running a lent budget answer (guide_of board list 0) ≡ exit_of lent' answer d
   unfolding running not_run ran_all report_of report_numbers run_numbers
   came_to a d (has_not_run r e same saves) = rw (e, running, same)
   came_to a d (has_run t r e left saves report) = rw (e, running, left, report)
 
   -- with the save words, on the board that rolls back
-  came_saving : board ≡ Rolling → (a : Answer Table) (d : Done) → CameTo a list board budget lent ss lent' ss' d
+  came_saving : board ≡ Rolling → (a : Answer Table) (d : Result Report Refusal) → CameTo a list board budget lent ss lent' ss' d
       → saving_run a lent ss budget answer (guide_of board list 0) ≡ record { ran = exit_of lent' answer d; saves = ss' }
   unfolding saving_run not_run_saving ran_saving not_run ran_all report_of report_numbers run_numbers
   came_saving rolling a d (has_not_run r e same saves) = rw (e, saving_run, same, saves)
@@ -94,28 +96,32 @@ module _ (table : List ℕ) (budget : ℕ) (lent : Lent) (ss answer : List ℕ) 
       go (got t) (some ds) e = rw e
 
 -- ---- the promises
-module _ (table list : List ℕ) (budget : ℕ) (lent : Lent) (ss : List ℕ) (lent' : Lent) (ss' answer answer' : List ℕ) (d : Done) (result : ℕ)
-    (says : (result ≡ result_of d) × (answer' ≡ answered (numbers_of d) answer)) where
-  at_exit : ran_at result lent' answer' ≡ exit_of lent' answer d
-  at_exit = λ i. ran_at (says.0 i) lent' (says.1 i)
+-- The slices at exit are those of the lent struct, which a call gives back.
+module _ {table list : List ℕ} {board : Board} {budget : ℕ} {lent : Lent} {ss answer : List ℕ} {result : ℕ} {lent' : Lent} {ss' answer' : List ℕ}
+    (ran : RanAs table list board budget lent ss answer result lent' ss' answer')
+    {vs cs ps os : List ℕ} (is_vs : vs ≡ lent'.variables) (is_cs : cs ≡ lent'.cells) (is_ps : ps ≡ lent'.pending) (is_os : os ≡ lent'.observations) where
+  at_exit : ran_at result (lent_at vs cs ps os) answer' ≡ exit_of lent' answer ran.done
+  at_exit = λ i. ran_at (ran.is_result i) (lent_at (is_vs i) (is_cs i) (is_ps i) (is_os i)) (ran.is_answer i)
 
-  pub run_promise : list ≡ [] → ReadDone table list Plain budget lent ss lent' ss' d → Runs table lent budget answer result lent' answer'
-  run_promise empty read =
-      let done = rw empty at read in
+  pub run_promise : board ≡ Plain → list ≡ [] → Runs table lent budget answer result (lent_at vs cs ps os) answer'
+  run_promise plain empty =
+      let came = rw (plain, empty) at ran.came.came in
       record {
         older = reads_as_before table;
-        runs = at_exit ∙ sym (run_entry_lem table budget lent ss answer ∙ came_to [] Plain budget lent ss lent' ss' answer _ d done.came);
+        runs = at_exit ∙ sym (run_entry_lem table budget lent ss answer ∙ came_to [] Plain budget lent ss lent' ss' answer _ ran.done came);
       }
 
-  pub guess_promise : ReadDone table list Guessing budget lent ss lent' ss' d → Guesses table list lent budget answer result lent' answer'
-  guess_promise done =
+  pub guess_promise : board ≡ Guessing → Guesses table list lent budget answer result (lent_at vs cs ps os) answer'
+  guess_promise guessing =
+      let came = rw guessing at ran.came.came in
       record {
         older = reads_as_before table;
-        guesses = at_exit ∙ sym (guess_entry_lem table budget lent ss answer list ∙ came_to list Guessing budget lent ss lent' ss' answer _ d done.came);
+        guesses = at_exit ∙ sym (guess_entry_lem table budget lent ss answer list ∙ came_to list Guessing budget lent ss lent' ss' answer _ ran.done came);
       }
 
-  pub rollback_promise : ReadDone table list Rolling budget lent ss lent' ss' d → RollsBack table list lent ss budget answer result lent' ss' answer'
-  rollback_promise done =
+  pub rollback_promise : {saves : List ℕ} → board ≡ Rolling → saves ≡ ss' → RollsBack table list lent ss budget answer result (lent_at vs cs ps os) saves answer'
+  rollback_promise rolling is_saves =
+      let came = rw rolling at ran.came.came in
       entry_rolls_back
-      ((λ i. record { ran = at_exit i; saves = ss' })
-      ∙ sym (rollback_entry_lem table budget lent ss answer list ∙ came_saving list Rolling budget lent ss lent' ss' answer refl _ d done.came))
+      ((λ i. record { ran = at_exit i; saves = is_saves i })
+      ∙ sym (rollback_entry_lem table budget lent ss answer list ∙ came_saving list Rolling budget lent ss lent' ss' answer refl _ ran.done came))

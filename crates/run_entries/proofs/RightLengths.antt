@@ -1,43 +1,26 @@
 -- The lengths of the lent slices, as the code tests them, are those that the entries ask for.
-use Prim.Native.Nat.{ℕ, ◌+◌, ◌*◌, ◌≤◌, ◌<◌}
+use Prim.Native.Nat.{ℕ, ◌+◌, ◌*◌, ◌≤◌}
 use mathlib.Core.Bool.{Bool, true, false, cond}
 use mathlib.Core.List.{List}
-use mathlib.Core.Path.{◌≡◌, refl, sym, subst}
+use mathlib.Core.Path.{◌≡◌, refl}
 use lib.ListN.{length}
 use lib.Dec.{eqb, leb}
-use borrow.Author.Tests.{eqb-true, leb-true, eq-eqb, ne_eqb, le-leb, lt-leb}
+use borrow.Author.Tests.{eqb-true, leb-true}
 use Rattle.awhile.specs.Lists.{sum}
 use Rattle.awhile.specs.Refusals.{got, check, and_then}
 use Rattle.awhile.specs.Tables.{Table}
 use Rattle.awhile.specs.declared.Declarations.{Declarations}
-use Rattle.awhile.specs.declared.Refusal.{Refusal}
 use Rattle.awhile.specs.declared.Refusal.TheVariants.{WrongVariables, WrongCells, ShortPending, ShortSaves}
 use Rattle.reader.specs.Index.{Ready, table_of, nodes_in}
 use Rattle.reader.proofs.Ready.{ready_variables, ready_nodes, ready_cells}
 use Rattle.machine.specs.declared.Board.{Board}
-use Rattle.machine.specs.declared.Board.TheVariants.{Plain, Guessing, Rolling}
+use Rattle.machine.specs.declared.Board.TheVariants.{Rolling}
 use Rattle.entries.specs.Running.{Lent, lent_for}
 use Rattle.entries.specs.Rolling.{save_size}
 use Rattle.run_entries.specs.Lengths.{enough_for, lengths_of, fit_for, answer_for}
-use Rattle.run_entries.specs.declared.lengths.Lengths.{Lengths}
-use Rattle.run_entries.specs.declared.lengths.Lengths.TheVariants.{Right, Wrong}
-
--- a refusal says that they are not right
-abbrev IsRight : Lengths → Type 0
-IsRight Right = Unit {0}
-IsRight (Wrong r) = ⊥
-
-not_right : {A : Type 0} (r : Refusal) → Wrong r ≡ Right → A
-not_right r e = absurd (subst IsRight (sym e) tt)
+use Rattle.std.specs.Prelude.{Ok, Err}
 
 -- ---- the tests
--- another board wants no save words
-pub enough_elsewhere : (b : Board) (saves words : ℕ) → (b ≡ Rolling → ⊥) → true ≡ enough_for b saves words
-unfolding enough_for
-enough_elsewhere Plain saves words other = refl
-enough_elsewhere Guessing saves words other = refl
-enough_elsewhere Rolling saves words other = absurd (other refl)
-
 pub enough_rolling : (b : Board) (saves words : ℕ) → b ≡ Rolling → leb (32 * words) saves ≡ enough_for b saves words
 unfolding enough_for
 enough_rolling b saves words is = rw (is, enough_for)
@@ -46,31 +29,6 @@ module _ (d : Declarations) (board : Board) (v c p s : ℕ) where
   abbrev words : ℕ
   words = d.header.variables + (d.cells + d.header.nodes)
 
-  pub wrong_variables : (v ≡ 4 * d.header.variables → ⊥) → Wrong WrongVariables ≡ lengths_of d board v c p s
-  unfolding lengths_of
-  wrong_variables wrong = rw (ne_eqb v (4 * d.header.variables) wrong)
-
-  module _ (right_v : v ≡ 4 * d.header.variables) where
-    pub wrong_cells : (c ≡ 4 * d.cells → ⊥) → Wrong WrongCells ≡ lengths_of d board v c p s
-    unfolding lengths_of
-    wrong_cells wrong = rw (eq-eqb v (4 * d.header.variables) right_v, ne_eqb c (4 * d.cells) wrong)
-
-    module _ (right_c : c ≡ 4 * d.cells) where
-      pub short_pending : p < 4 * d.header.nodes → Wrong ShortPending ≡ lengths_of d board v c p s
-      unfolding lengths_of
-      short_pending short = rw (eq-eqb v (4 * d.header.variables) right_v, eq-eqb c (4 * d.cells) right_c, lt-leb (4 * d.header.nodes) p short)
-
-      module _ (right_p : 4 * d.header.nodes ≤ p) where
-        pub short_saves : enough_for board s words ≡ false → Wrong ShortSaves ≡ lengths_of d board v c p s
-        unfolding lengths_of
-        short_saves short =
-            rw (eq-eqb v (4 * d.header.variables) right_v, eq-eqb c (4 * d.cells) right_c, le-leb (4 * d.header.nodes) p right_p, short)
-
-        pub all_right : enough_for board s words ≡ true → Right ≡ lengths_of d board v c p s
-        unfolding lengths_of
-        all_right enough =
-            rw (eq-eqb v (4 * d.header.variables) right_v, eq-eqb c (4 * d.cells) right_c, le-leb (4 * d.header.nodes) p right_p, enough)
-
   -- what right lengths are
   pub record RightLengths : Type 0 where
     pub variables : v ≡ 4 * d.header.variables
@@ -78,18 +36,18 @@ module _ (d : Declarations) (board : Board) (v c p s : ℕ) where
     pub pending : 4 * d.header.nodes ≤ p
     pub saves : enough_for board s words ≡ true
 
-  pub right_lengths : lengths_of d board v c p s ≡ Right → RightLengths
+  pub right_lengths : lengths_of d board v c p s ≡ Ok (tt {0}) → RightLengths
   unfolding lengths_of
   right_lengths is =
       go (eqb v (4 * d.header.variables)) (eqb c (4 * d.cells)) (leb (4 * d.header.nodes) p) (enough_for board s words) refl refl refl refl is
     where
       go : (a b e f : Bool) → eqb v (4 * d.header.variables) ≡ a → eqb c (4 * d.cells) ≡ b → leb (4 * d.header.nodes) p ≡ e → enough_for board s words ≡ f
-          → cond a (cond b (cond e (cond f Right (Wrong ShortSaves)) (Wrong ShortPending)) (Wrong WrongCells)) (Wrong WrongVariables) ≡ Right → RightLengths
+          → cond a (cond b (cond e (cond f (Ok (tt {0})) (Err ShortSaves)) (Err ShortPending)) (Err WrongCells)) (Err WrongVariables) ≡ Ok (tt {0}) → RightLengths
       go true true true true h i j k q = record { variables = eqb-true _ _ h; cells = eqb-true _ _ i; pending = leb-true _ _ j; saves = k }
-      go true true true false h i j k q = not_right _ q
-      go true true false f h i j k q = not_right _ q
-      go true false e f h i j k q = not_right _ q
-      go false b e f h i j k q = not_right _ q
+      go true true true false h i j k q = absurd (cc)
+      go true true false f h i j k q = absurd (cc)
+      go true false e f h i j k q = absurd (cc)
+      go false b e f h i j k q = absurd (cc)
 
 -- ---- what they answer for a table that was read
 module _ (table index : List ℕ) (declared : Declarations) (ready : Ready table index declared) (board : Board) (lent : Lent) (ss : List ℕ) where
@@ -106,7 +64,7 @@ module _ (table index : List ℕ) (declared : Declarations) (ready : Ready table
     where
       go : (a b e f : Bool) → enough_for board (length ss) (save_size t) ≡ f
           → and_then (check a WrongVariables (check b WrongCells (check e ShortPending (got t)))) (λ u. check (enough_for board (length ss) (save_size u)) ShortSaves (got u))
-          ≡ answer_for t (cond a (cond b (cond e (cond f Right (Wrong ShortSaves)) (Wrong ShortPending)) (Wrong WrongCells)) (Wrong WrongVariables))
+          ≡ answer_for t (cond a (cond b (cond e (cond f (Ok (tt {0})) (Err ShortSaves)) (Err ShortPending)) (Err WrongCells)) (Err WrongVariables))
       go true true true true h = rw h
       go true true true false h = rw h
       go true true false f h = refl

@@ -1,111 +1,50 @@
-// A run of a table, in memory that is lent for reading it.
-ghost use Rattle.reader.specs.Index.{Ready};
+// A run of a table, in memory that is lent for reading it. Table, task and what is lent go down as they are: the table alone becomes another
+// value here, an `Accepted`.
 ghost use Rattle.reader.specs.Walk.{Fresh};
-ghost use Rattle.run_entries.specs.Runs.{DoneAs, ReadDone};
-ghost use Rattle.entries.specs.Promises.{lent_at};
+ghost use Rattle.interpreter.specs.Lending.{SameLent};
+ghost use Rattle.run_entries.specs.Runs.{slices_lent, DoneAs, ReadDone};
 
-use crate::lengths::{Lengths, lengths_for};
-use awhile::{Declarations, Refusal};
+use crate::lengths::lengths_for;
+use awhile::Refusal;
 use directives::list::reads;
+use interpreter::lent::{Lent, Task};
 use interpreter::run::{Report, run};
-use machine::Board;
-use reader::Read;
-use reader::tables::read;
-
-// What a call that runs came to.
-#[derive(Clone, Copy)]
-pub enum Done {
-    Refused { refusal: Refusal },
-    Ended { report: Report },
-}
+use reader::accepted::Accepted;
+use reader::tables::accept;
 
 // Runs a table that was read, if the list reads and the slices have the right lengths.
-fn run_read(
-    table: &[u8],
-    index: &[u16],
-    declared: Declarations,
-    directives: &[u8],
-    board: Board,
-    variables: &mut [u8],
-    cells: &mut [u8],
-    pending: &mut [u8],
-    saves: &mut [u8],
-    observations: &mut [u8],
-    budget: u32,
-) -> Done
-    requires { Ready table.now index.now declared }
-    ensures { DoneAs table.now directives.now board budget
-        (lent_at variables.old cells.old pending.old observations.old) saves.old
-        (lent_at variables.new cells.new pending.new observations.new) saves.new result }
+fn run_read(table: &Accepted, task: &Task, lent: &mut Lent) -> Result<Report, Refusal>
+    ensures done { DoneAs table.now task.now.directives.now task.now.board task.now.budget
+        (slices_lent lent.old) lent.old.saves.now (slices_lent lent.new) lent.new.saves.now result }
+    ensures lent { SameLent lent.old lent.new }
 {
-    if !reads(directives, board) {
-        return Done::Refused {
-            refusal: Refusal::BadDirectives,
-        };
+    if !reads(task.directives, task.board) {
+        return Err(Refusal::BadDirectives);
     }
-    let lengths = lengths_for(
-        declared,
-        board,
-        variables.len(),
-        cells.len(),
-        pending.len(),
-        saves.len(),
-    );
-    match lengths {
-        Lengths::Wrong { refusal } => Done::Refused { refusal },
-        Lengths::Right => {
-            let report = run(
-                table,
-                index,
-                declared.header,
-                directives,
-                board,
-                &mut *variables,
-                &mut *cells,
-                &mut *pending,
-                &mut *saves,
-                &mut *observations,
-                budget,
-            );
-            Done::Ended { report }
-        }
-    }
+    lengths_for(
+        table.declared(),
+        task.board,
+        lent.variables.len(),
+        lent.cells.len(),
+        lent.pending.len(),
+        lent.saves.len(),
+    )?;
+    Ok(run(table, task, lent))
 }
 
 // Reads a table and runs it. Index and counts are for as many nodes as its header declares; the counts are all zero.
-pub fn read_and_run(
-    table: &[u8],
-    index: &mut [u16],
+pub fn read_and_run<'a>(
+    table: &'a [u8],
+    index: &'a mut [u16],
     counts: &mut [u16],
-    directives: &[u8],
-    board: Board,
-    variables: &mut [u8],
-    cells: &mut [u8],
-    pending: &mut [u8],
-    saves: &mut [u8],
-    observations: &mut [u8],
-    budget: u32,
-) -> Done
+    task: &Task,
+    lent: &mut Lent,
+) -> Result<Report, Refusal>
     requires { Fresh table.now index.old counts.old }
-    ensures { ReadDone table.now directives.now board budget
-        (lent_at variables.old cells.old pending.old observations.old) saves.old
-        (lent_at variables.new cells.new pending.new observations.new) saves.new result }
+    ensures done { ReadDone table.now task.now.directives.now task.now.board task.now.budget
+        (slices_lent lent.old) lent.old.saves.now (slices_lent lent.new) lent.new.saves.now result }
+    ensures lent { SameLent lent.old lent.new }
 {
-    let found = read(table, &mut *index, &mut *counts);
-    match found {
-        Read::Refused { refusal } => Done::Refused { refusal },
-        Read::Accepted { declared } => run_read(
-            table,
-            &*index,
-            declared,
-            directives,
-            board,
-            &mut *variables,
-            &mut *cells,
-            &mut *pending,
-            &mut *saves,
-            &mut *observations,
-            budget,
-        ),
-    }
+    let accepted = accept(table, index, counts)?;
+    run_read(&accepted, task, lent)
 }

@@ -145,8 +145,8 @@ module _ {table saves heights : List ℕ} {count : ℕ} (bytes : Below 256 saves
 
   -- ---- the end
   -- what `leave` asks
-  pub leave_fits : length heights ≡ 8 → LeaveFits saves heights count ((table_of table).variables + sum (table_of table).counts) (nodes_in table)
-  leave_fits is = record { eight = is; within = omega (arith, size_parts table, long); few = holds.few }
+  pub leave_fits : LeaveFits saves heights count ((table_of table).variables + sum (table_of table).counts) (nodes_in table)
+  leave_fits = record { within = omega (arith, size_parts table, long); few = holds.few }
 
   place_last : place_at table 8 ≡ 32 * place_words table
   unfolding place_at

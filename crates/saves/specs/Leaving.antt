@@ -1,5 +1,5 @@
 -- The eight places at the end of a run: what is kept of each, and zeros for the rest.
-use Rattle.std.specs.Prelude.{ℕ, zero, suc, ◌+◌, ◌*◌, ◌-◌, ◌≤◌, ◌<◌, cond, ◌≡◌, List, length, get_or, replicate, ltb}
+use Rattle.std.specs.Prelude.{ℕ, zero, suc, ◌+◌, ◌*◌, ◌-◌, ◌≤◌, ◌<◌, cond, List, length, get_or, replicate, ltb}
 use Rattle.std.proofs.lemmas.List.Edits.{sets}
 use Rattle.bytes_le.specs.Numbers.{words}
 use Rattle.machine.specs.Runs.{max_saves}
@@ -17,6 +17,5 @@ left_places heights count before nodes (suc k) saves =
 
 -- eight places stand in the slice, and the open ones have no more entries than nodes
 pub record LeaveFits (saves heights : List ℕ) (count before nodes : ℕ) : Type 0 where
-  pub eight : length heights ≡ max_saves
   pub within : 4 * max_saves * (before + nodes) ≤ length saves
   pub few : (k : ℕ) → k < count → get_or heights k 0 ≤ nodes

@@ -6,7 +6,7 @@ use Rattle.awhile.specs.Lists.{sum}
 use Rattle.reader.specs.Index.{table_of, nodes_in}
 use Rattle.machine.specs.Steps.{State}
 use Rattle.stepping.specs.Actions.{CommandAt}
-use Rattle.stepping.specs.Stepping.{pending_of}
+use Rattle.stepping.specs.Stepping.{Memory, pending_of}
 
 -- the words of a place: a word for each variable and each cell, and N entries
 unfoldable pub place_words : (table : List ℕ) → ℕ
@@ -40,8 +40,15 @@ pub record PlacesHold (table saves heights : List ℕ) (count : ℕ) : Type 0 wh
   pub few : (k : ℕ) → k < count → get_or heights k 0 ≤ nodes_in table
   pub entries : (k : ℕ) → k < count → (j : ℕ) → j < get_or heights k 0 → CommandAt table (le_at 4 saves (entries_at table k + 4 * j))
 
+-- the variables, the cells and so many pending entries fit so many bytes from an offset on
+abbrev pub StateFits : Memory → (height long at : ℕ) → Type 0
+StateFits m h long at = (4 * h ≤ length m.pending) × (at + length m.variables + length m.cells + 4 * h ≤ long)
+
 -- the slices of a machine after a state was copied back into them
 pub record Restored (saves : List ℕ) (at height : ℕ) (variables cells pending variables' cells' pending' : List ℕ) : Type 0 where
   pub is_variables : variables' ≡ take (length variables) (drop at saves)
   pub is_cells : cells' ≡ take (length cells) (drop (at + length variables) saves)
   pub is_pending : pending' ≡ sets pending 0 (take (4 * height) (drop (at + length variables + length cells) saves))
+
+abbrev pub RestoredTo : (saves : List ℕ) (at height : ℕ) → Memory → Memory → Type 0
+RestoredTo saves at height m m' = Restored saves at height m.variables m.cells m.pending m'.variables m'.cells m'.pending

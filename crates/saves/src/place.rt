@@ -1,9 +1,12 @@
-// A state saved in a place, and copied back from it.
+// A state saved in a place, and copied back from it. The height of the pending list stands beside it, as crate stepping's `Memory` says.
 ghost use Rattle.std.specs.Prelude.{◌+◌, ◌*◌, ◌≤◌, ◌≡◌, ◌++◌, length, take};
 ghost use Rattle.std.proofs.lemmas.List.Edits.{sets};
-ghost use Rattle.saves.specs.Places.{Restored};
+ghost use Rattle.stepping.specs.Lending.{SameMemory};
+ghost use Rattle.stepping.specs.Stepping.{memory_at, memory_of};
+ghost use Rattle.saves.specs.Places.{StateFits, RestoredTo};
 
 use bytes_le::copy::copy;
+use stepping::memory::Memory;
 
 // Copies the variables to an offset, the cells behind them, and so many pending entries behind those.
 pub fn save(
@@ -14,33 +17,25 @@ pub fn save(
     saves: &mut [u8],
     at: usize,
 )
-    requires { (4 * height ≤ length pending.now) × (at + length variables.now + length cells.now + 4 * height ≤ length saves.old) }
-    ensures { saves.new
-        ≡ sets saves.old at (variables.now ++ (cells.now ++ take (4 * height) pending.now)) }
+    requires { StateFits (memory_at variables.now cells.now pending.now) height (length saves.old) at }
+    ensures { saves.new ≡ sets saves.old at (variables.now ++ (cells.now ++ take (4 * height) pending.now)) }
 {
     let v = variables.len();
     let c = cells.len();
-    copy(variables, 0, &mut *saves, at, v);
-    copy(cells, 0, &mut *saves, at + v, c);
-    copy(pending, 0, &mut *saves, at + v + c, 4 * height);
+    copy(variables, 0, saves, at, v);
+    copy(cells, 0, saves, at + v, c);
+    copy(pending, 0, saves, at + v + c, 4 * height);
 }
 
 // Copies the variables, the cells and so many pending entries back from where they were saved.
-pub fn restore(
-    saves: &[u8],
-    at: usize,
-    height: usize,
-    variables: &mut [u8],
-    cells: &mut [u8],
-    pending: &mut [u8],
-)
-    requires { (4 * height ≤ length pending.old) × (at + length variables.old + length cells.old + 4 * height ≤ length saves.now) }
-    ensures { Restored saves.now at height variables.old cells.old pending.old
-        variables.new cells.new pending.new }
+pub fn restore(saves: &[u8], at: usize, height: usize, memory: &mut Memory)
+    requires { StateFits (memory_of memory.old) height (length saves.now) at }
+    ensures restored { RestoredTo saves.now at height (memory_of memory.old) (memory_of memory.new) }
+    ensures memory { SameMemory memory.old memory.new }
 {
-    let v = variables.len();
-    let c = cells.len();
-    copy(saves, at, &mut *variables, 0, v);
-    copy(saves, at + v, &mut *cells, 0, c);
-    copy(saves, at + v + c, &mut *pending, 0, 4 * height);
+    let v = memory.variables.len();
+    let c = memory.cells.len();
+    copy(saves, at, memory.variables, 0, v);
+    copy(saves, at + v, memory.cells, 0, c);
+    copy(saves, at + v + c, memory.pending, 0, 4 * height);
 }

@@ -12,6 +12,7 @@ use Rattle.awhile.specs.Language.{Com, skip, assign, sequence, if, while, read, 
 use Rattle.awhile.proofs.Lists.{flat_map_append}
 use Rattle.labels.specs.Annotation.{Entry, parts}
 use Rattle.labels.specs.Sheet.{SheetRecord, command_records, records_at}
+use Rattle.analysis.specs.declared.noting.Note.{Note}
 use Rattle.analysis.specs.Notes.{note_in}
 use Rattle.awhile.specs.Standing.{standing}
 use Rattle.sheets.specs.Rows.{records_in}
@@ -52,7 +53,7 @@ module _ (table : List ℕ) where
   Located (read n v a i) = read n v a i ≡ command_in table n
   Located (write n a i e) = write n a i e ≡ command_in table n
 
-  module _ (ns : List ℕ) (n : ℕ) where
+  module _ (ns : List Note) (n : ℕ) where
     own_record : (k : ℕ) (c : Com ℕ) → c ≡ command_in table k → k ≡ n → command_records (map_notes (note_in ns) c) ≡ records_in table ns n
     unfolding records_in
     own_record k c p e = ap (λ m. command_records (map_notes (note_in ns) m)) (p ∙ ap (command_in table) e)

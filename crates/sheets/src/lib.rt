@@ -2,5 +2,6 @@
 #![tactic(auto)]
 
 pub mod fields;
+pub mod records;
 pub mod rows;
 pub mod sheet;

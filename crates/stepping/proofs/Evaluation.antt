@@ -1,46 +1,35 @@
 -- Laws of evaluation over a table's bytes: the value of a node from those of its children.
-use Rattle.std.proofs.Common.{◌≡◌, ℕ, ◌+◌, ◌-◌, ◌*◌, ◌%◌, ◌^◌, ◌<◌, max, Bool, true, false, cond, not as negated, ◌&&◌, eqb, ltb, List, sym, ap, ◌∙◌, arith}
+use Rattle.std.proofs.Common.{◌≡◌, ℕ, ◌+◌, ◌-◌, ◌*◌, ◌%◌, ◌^◌, ◌<◌, max, Bool, cond, not as negated, ◌&&◌, eqb, ltb, List, refl, sym, ap, ◌∙◌, arith}
 use Rattle.bytes_le.specs.Numbers.{le_at}
-use Rattle.bytes_le.proofs.Numbers.{Below}
 use Rattle.awhile.specs.Language.{AExp, BExp, value_of, truth_of}
-use Rattle.reader.specs.Index.{node_in, numeric_in, truth_in}
-use Rattle.reader.proofs.Index.{Child, Parts, indexed_parts}
+use Rattle.reader.specs.Admitted.{Admitted}
+use Rattle.reader.specs.Index.{node_in, numeric_in, truth_in, HasSort}
+use Rattle.reader.proofs.Admitted.{parts, child}
+use Rattle.reader.proofs.Index.{Child, Parts}
 use Rattle.awhile.specs.declared.Sort.{Sort}
 use Rattle.awhile.specs.declared.Sort.TheVariants.{Numeric, Truth}
 use Rattle.awhile.specs.declared.Node.{Node}
 use Rattle.awhile.specs.declared.Node.TheVariants.{Number, Variable, Add, Subtract, Multiply, Choice}
 use Rattle.awhile.specs.declared.Node.TheVariants.{Constant, Equal, Less, Not, And}
-use Rattle.stepping.specs.Evaluation.{NodeOf, variables_in, value_in, holds_in}
+use Rattle.stepping.specs.Evaluation.{variables_in, value_in, holds_in}
 use Rattle.stepping.proofs.Words.{word_at}
 
-module _ (table index variables : List ℕ) (n : ℕ) where
-  -- what is asked of a node is what is asked of its children
-  pub child_asked : (sort wanted : Sort) (k : ℕ) → NodeOf sort table index variables n → Child table wanted n k → NodeOf wanted table index variables k
-  child_asked sort wanted k asked child =
-      record { indexed = asked.indexed; long = asked.long; inside = child.inside; is_sort = child.is_sort }
-
-  -- what the node that was found says of its fields and its tree
-  pub asked_parts : (sort : Sort) → NodeOf sort table index variables n → Below 256 table → (found m : Node) → found ≡ node_in table n → found ≡ m → Parts table n m
-  asked_parts sort asked bytes found m e is = indexed_parts table index bytes asked.indexed n asked.inside m (sym e ∙ is)
+-- what a node that was looked up says of its fields and its tree
+pub asked_parts : {table : List ℕ} {sort : Sort} {n : ℕ} {node : Node} → HasSort table sort n → Admitted table → node ≡ node_in table n → Parts table n node
+asked_parts {node = node} asked admitted is = parts admitted asked.inside is node refl
 
 -- calls on a node's children, which are below it: on one, on two of a sort, and on a choice's three
-module _ {table index variables : List ℕ} {n t : ℕ} {sort : Sort} (pre : (2 * n + 1 ≡ t) × NodeOf sort table index variables n) where
-  below_asked : {wanted : Sort} {k : ℕ} → Child table wanted n k → NodeOf wanted table index variables k
-  below_asked {wanted} {k} child = child_asked table index variables n sort wanted k pre.1 child
+module _ {table : List ℕ} {n t : ℕ} (measure : 2 * n + 1 ≡ t) {rest : Type 0} where
+  pub call_child : {wanted : Sort} {k : ℕ} → Child table wanted n k × rest → (2 * k + 2 < t) × HasSort table wanted k
+  call_child p = (omega (arith, p.0.below), child p.0)
 
-  module _ {rest : Type 0} where
-    pub call_child : {wanted : Sort} {k : ℕ} → Child table wanted n k × rest → (2 * k + 2 < t) × NodeOf wanted table index variables k
-    call_child p = (omega (arith, pre.0, p.0.below), below_asked p.0)
+  pub call_pair : {wanted : Sort} {j k : ℕ} → Child table wanted n j × Child table wanted n k × rest
+      → (2 * max j k + 2 < t) × (HasSort table wanted j × HasSort table wanted k)
+  call_pair p = (omega (arith, p.0.below, p.1.below), (child p.0, child p.1))
 
-    pub call_pair : {wanted : Sort} {j k : ℕ} → Child table wanted n j × Child table wanted n k × rest
-        → (2 * max j k + 2 < t) × (NodeOf wanted table index variables j × NodeOf wanted table index variables k)
-    call_pair p = (omega (arith, pre.0, p.0.below, p.1.below), (below_asked p.0, below_asked p.1))
-
-    pub call_choice : {i j k : ℕ} → Child table Truth n i × Child table Numeric n j × Child table Numeric n k × rest
-        → (2 * max i (max j k) + 2 < t)
-        × (NodeOf Truth table index variables i × NodeOf Numeric table index variables j × NodeOf Numeric table index variables k)
-    call_choice p =
-        (omega (arith, pre.0, p.0.below, p.1.below, p.2.below), (below_asked p.0, below_asked p.1, below_asked p.2))
+  pub call_choice : {i j k : ℕ} → Child table Truth n i × Child table Numeric n j × Child table Numeric n k × rest
+      → (2 * max i (max j k) + 2 < t) × (HasSort table Truth i × HasSort table Numeric j × HasSort table Numeric k)
+  call_choice p = (omega (arith, p.0.below, p.1.below, p.2.below), (child p.0, child p.1, child p.2))
 
 module _ (table variables : List ℕ) (n : ℕ) where
   value_tree : {e : AExp} → numeric_in table n ≡ e → value_in table variables n ≡ value_of e (variables_in table variables)
@@ -66,17 +55,19 @@ module _ (table variables : List ℕ) (n : ℕ) where
 
   -- the values of nodes with two numeric operands
   module _ {a b x y : ℕ} (values : (x ≡ value_in table variables a) × (y ≡ value_in table variables b)) where
-    pub value_add : {r : ℕ} → Parts table n (Add a b) → r ≡ (x + y) % 2 ^ 32 → r ≡ value_in table variables n
+    pub value_add : Parts table n (Add a b) → (x + y) % 2 ^ 32 ≡ value_in table variables n
     unfolding value_of value_in
-    value_add parts is = is ∙ rw (values.0, values.1) (sym (value_tree parts.2))
+    value_add parts = rw (values.0, values.1) (sym (value_tree parts.2))
 
-    pub value_subtract : {r : ℕ} → Parts table n (Subtract a b) → r ≡ (x + 2 ^ 32 - y) % 2 ^ 32 → r ≡ value_in table variables n
+    pub value_subtract : y < 2 ^ 32 → Parts table n (Subtract a b) → (x + (2 ^ 32 - y)) % 2 ^ 32 ≡ value_in table variables n
     unfolding value_of value_in
-    value_subtract parts is = is ∙ rw (values.0, values.1) (sym (value_tree parts.2))
+    value_subtract word parts =
+        let same : x + (2 ^ 32 - y) ≡ x + 2 ^ 32 - y = omega arith in
+        rw (same, values.0, values.1) (sym (value_tree parts.2))
 
-    pub value_multiply : {r : ℕ} → Parts table n (Multiply a b) → r ≡ (x * y) % 2 ^ 32 → r ≡ value_in table variables n
+    pub value_multiply : Parts table n (Multiply a b) → (x * y) % 2 ^ 32 ≡ value_in table variables n
     unfolding value_of value_in
-    value_multiply parts is = is ∙ rw (values.0, values.1) (sym (value_tree parts.2))
+    value_multiply parts = rw (values.0, values.1) (sym (value_tree parts.2))
 
     pub truth_equal : Parts table n (Equal a b) → eqb x y ≡ holds_in table variables n
     unfolding truth_of value_in
@@ -99,17 +90,3 @@ module _ (table variables : List ℕ) (n : ℕ) where
   pub truth_and : {a b : ℕ} {r : Bool} → Parts table n (And a b) → r ≡ (holds_in table variables a && holds_in table variables b) → r ≡ holds_in table variables n
   unfolding truth_of holds_in
   truth_and parts is = is ∙ sym (truth_tree parts.2)
-
--- which of two values a test chooses, and whether a second test counts
-module _ {test told : Bool} (is : test ≡ told) where
-  pub chosen_first : {x r : ℕ} (y : ℕ) → test ≡ true → r ≡ x → r ≡ cond told x y
-  chosen_first y taken value = value ∙ rw (sym is ∙ taken)
-
-  pub chosen_second : (x : ℕ) {y r : ℕ} → test ≡ false → r ≡ y → r ≡ cond told x y
-  chosen_second x left value = value ∙ rw (sym is ∙ left)
-
-  pub both_second : {b r : Bool} → test ≡ true → r ≡ b → r ≡ (told && b)
-  both_second taken value = value ∙ rw (sym is ∙ taken)
-
-  pub both_first : (b : Bool) → test ≡ false → false ≡ (told && b)
-  both_first b left = rw (sym is ∙ left)

@@ -4,4 +4,3 @@ pub mod Evaluation
 pub mod Actions
 pub mod ShownSteps
 pub mod NextSteps
-pub mod Guesses

@@ -1,11 +1,14 @@
 -- The next step of the machine as the code has it: why it is not taken, or the machine after it.
-use Rattle.std.proofs.Common.{◌≡◌, ℕ, zero, suc, ◌+◌, ◌-◌, ◌*◌, ◌<◌, ◌≤◌, Bool, true, false, cond, eqb, ltb, leb, List, [], ◌∷◌, length, sym, refl, ap, ◌∙◌, subst, add-zero, pos_of_ne-zero, arith, length-append, ltb-false, ltb-true, eqb-true, le-leb, leb-false, leb-true}
+use Rattle.std.proofs.Common.{◌≡◌, ℕ, zero, suc, ◌+◌, ◌-◌, ◌*◌, ◌^◌, ◌<◌, ◌≤◌, Bool, true, false, cond, eqb, ltb, leb, List, [], ◌∷◌, length, sym, refl, ap, ◌∙◌, subst, add-zero, pos_of_ne-zero, arith, length-append, ltb-false, ltb-true, eqb-true, le-leb, leb-false, leb-true}
 use mathlib.Core.Option.{none, some as just}
 use mathlib.Core.List.{flat_map}
 use borrow.Author.Tests.{lt-leb, eqb-false}
 use Rattle.bytes_le.specs.Numbers.{le, le_at}
 use Rattle.awhile.specs.Language.{Com}
+use Rattle.reader.specs.Admitted.{Admitted}
 use Rattle.reader.specs.Index.{table_of, command_in}
+use Rattle.reader.proofs.Admitted.{offsets_in, indexed, bytes as bytes_of}
+use Rattle.reader.proofs.Index.{indexed_few}
 use Rattle.machine.specs.Observations.{Observation, branch, rolled_back, observation_bytes, shown_bytes}
 use Rattle.machine.specs.Look.{look}
 use Rattle.machine.specs.Steps.{State, only_if, quietly, onward}
@@ -14,14 +17,13 @@ use Rattle.stepping.specs.Evaluation.{variables_in}
 use Rattle.stepping.specs.Actions.{BackFits, changed, observation_of, quiet_look, look_of, QuietFits, Looked}
 use Rattle.directives.specs.Fitting.{fit_of}
 use Rattle.directives.specs.Guiding.{Readable, guide_of, GoesBy, RunsOut, RollbackNext}
-use Rattle.stepping.specs.Stepping.{Memory, stepped_state, show_step, wrong_step, save_step, force_step, back_step, pending_of, cells_in, machine_of, shown_size, seen_list, ChangeFits, stepped_to, saved_to, undone_to}
-use Rattle.stepping.specs.Stepping.{RunEnds, Advances, SavesRight, GoesBack, NextAs}
+use Rattle.stepping.specs.Stepping.{Memory, no_directive, stepped_state, show_step, wrong_step, save_step, force_step, back_step, pending_of, cells_in, machine_of, shown_size, seen_list, ChangeFits, stepped_to, saved_to, undone_to}
+use Rattle.stepping.specs.Stepping.{Steppable, Between, RunEnds, Advances, SavesRight, GoesBack, NextAs}
 use Rattle.machine.specs.declared.Board.{Board}
 use Rattle.machine.specs.declared.Board.TheVariants.{Plain, Guessing, Rolling}
 use Rattle.machine.specs.declared.Directive.{Directive}
 use Rattle.machine.specs.declared.End.{End}
 use Rattle.machine.specs.declared.End.TheVariants.{Finished, Spent, OutOfDirectives, Stuck, Full}
-use Rattle.directives.specs.declared.change.Back.{Back}
 use Rattle.directives.specs.declared.change.Change.{Change}
 use Rattle.directives.specs.declared.change.Change.TheVariants.{PutBack, Assign}
 use Rattle.directives.specs.declared.change.Change.TheVariants.{Store as StoreInto}
@@ -29,11 +31,14 @@ use Rattle.directives.specs.declared.change.Shown.{Shown}
 use Rattle.directives.specs.declared.change.Shown.TheVariants.{Fork, Get, Put}
 use Rattle.stepping.specs.declared.action.Action.TheVariants.{Quiet, Show}
 use Rattle.directives.specs.declared.fit.Fit.{Fit}
-use Rattle.directives.specs.declared.fit.Fit.TheVariants.{Goes as Fits, Forced, Unfit}
+use Rattle.directives.specs.declared.fit.Fit.TheVariants.{Goes as Fits, Forces}
 use Rattle.stepping.specs.declared.state.MachineState.{MachineState}
-use Rattle.stepping.specs.declared.next.Seen.TheVariants.{Nothing, Observed}
 use Rattle.stepping.specs.declared.next.Next.{Next}
-use Rattle.stepping.specs.declared.next.Next.TheVariants.{Over, Goes, Saves, Undoes}
+use Rattle.stepping.specs.declared.next.Next.TheVariants.{Goes, Saves, Undoes}
+use Rattle.std.specs.Prelude.{Result, Ok, Err, Some, None, ok_or}
+use Rattle.std.specs.Prelude.{Option as Found}
+use Rattle.directives.specs.declared.fit.Forced.{Forced}
+use Rattle.directives.specs.declared.guide.Consumed.{Consumed}
 use Rattle.machine.proofs.Runs.{run_over, run_nothing, next_onward}
 use Rattle.stepping.proofs.ShownSteps.{after_shown, fit_taken, step_shown, fit_after, fit_fits, forced_shows}
 
@@ -44,7 +49,7 @@ observation_length (Fork v y n) = refl
 observation_length (Get x a i) = refl
 observation_length (Put a i v) = refl
 
-pub seen_length : (s : Shown) → length (shown_bytes (seen_list (Observed s))) ≡ shown_size s
+pub seen_length : (s : Shown) → length (shown_bytes (seen_list (Some s))) ≡ shown_size s
 unfolding shown_bytes seen_list flat_map
 seen_length s = simp length-append (omega (arith, observation_length s))
 
@@ -135,12 +140,12 @@ module _ (table list : List ℕ) (board : Board) (budget room : ℕ) (st : Machi
             }
 
     -- what the code finds
-    pub backs : st.shown ≤ room → (r : Next) → r ≡ back_step room budget st → NextAs table list board budget room st m r
+    pub backs : st.shown ≤ room → (r : Result Next End) → r ≡ back_step room budget st → NextAs table list board budget room st m r
     unfolding back_step
     backs fits r is = rw is (go (leb budget st.steps) (eqb st.saved 0) (ltb (room - st.shown) 4) refl refl refl)
       where
         go : (a b c : Bool) → leb budget st.steps ≡ a → eqb st.saved 0 ≡ b → ltb (room - st.shown) 4 ≡ c
-            → NextAs table list board budget room st m (cond a (Over Spent) (cond b (Over Stuck) (cond c (Over Full) Undoes)))
+            → NextAs table list board budget room st m (cond a (Err Spent) (cond b (Err Stuck) (cond c (Err Full) (Ok Undoes))))
         go true b c p q t = back_spent (leb-true budget st.steps p)
         go false true c p q t = back_stuck (leb-false budget st.steps p) (eqb-true st.saved 0 q)
         go false false true p q t = back_full (leb-false budget st.steps p) (pos_of_ne-zero (eqb-false st.saved 0 q)) (ltb-true (room - st.shown) 4 t) fits
@@ -188,7 +193,7 @@ module _ (table list : List ℕ) (board : Board) (budget room : ℕ) (st : Machi
         -- a silent step
         quiet_stepped : (c : Change) (ss : List (State ℕ)) (os : List Observation) → QuietFits table c
             → step_of (table_of table).counts (bytes room) (machine ss os) (quiet_look table c below (variables_in table m.variables))
-            ≡ goes (stepped_to table list board below (machine ss os) c Nothing (stepped_state st c st.flag st.saved 0 0 0))
+            ≡ goes (stepped_to table list board below (machine ss os) c None (stepped_state st c st.flag st.saved no_directive 0))
         unfolding step_of quiet_look quietly moved stepped_to stepped_state machine_of changed seen_list
         quiet_stepped (PutBack b) ss os fits = rw (add-zero st.at)
         quiet_stepped (Assign x v) ss os fits = rw (add-zero st.at)
@@ -202,7 +207,7 @@ module _ (table list : List ℕ) (board : Board) (budget room : ℕ) (st : Machi
         module _ (used_fit : st.used ≤ st.steps) (shown_fit : st.shown ≤ room) where
           -- a command that is silent
           pub advances_quietly : Readable list st.at → (c : Change) → Looked table m.variables (le_at 4 m.pending (4 * (st.pending - 1))) (Quiet c)
-              → Advances table list board budget room st m c Nothing (stepped_state st c st.flag st.saved 0 0 0)
+              → Advances table list board budget room st m c None (stepped_state st c st.flag st.saved no_directive 0)
           unfolding look_of stepped_state seen_list shown_bytes flat_map
           advances_quietly readable c looked =
               record {
@@ -232,21 +237,21 @@ module _ (table list : List ℕ) (board : Board) (budget room : ℕ) (st : Machi
                 (λ ss os saved shown.
                 next_shows ss os ∙ out.step (bytes room) (machine ss os) (observation_of s) (after_shown (table_of table).counts table below (machine ss os).state s))
 
-            module _ (d : Directive) (size used : ℕ) (by : GoesBy board list st.at d size used) where
+            module _ (d : Directive) (consumed : Consumed) (by : GoesBy board list st.at d consumed.size consumed.used) where
               -- the step under its directive, as the code finds it
               next_fits : (ss : List (State ℕ)) (os : List Observation)
                   → next (table_of table).counts (bytes room) (machine ss os)
-                  ≡ shown_if (bytes room) (machine ss os) (observation_of s) (guide_of board list (st.at + size)) used
+                  ≡ shown_if (bytes room) (machine ss os) (observation_of s) (guide_of board list (st.at + consumed.size)) consumed.used
                   (fit_taken table below (machine ss os).state (fit_of (table_of table).counts m.cells st.flag s d))
               unfolding machine_of cells_in
               next_fits ss os =
                   next_shows ss os ∙ by.step (bytes room) (machine ss os) (observation_of s) (after_shown (table_of table).counts table below (machine ss os).state s)
-                  ∙ ap (shown_if (bytes room) (machine ss os) (observation_of s) (guide_of board list (st.at + size)) used)
+                  ∙ ap (shown_if (bytes room) (machine ss os) (observation_of s) (guide_of board list (st.at + consumed.size)) consumed.used)
                   (fit_after (table_of table).counts table below (machine ss os).state m.cells refl s d)
 
-              module _ (saved : st.saved ≤ 8) (fit : Fit) (is_fit : fit ≡ fit_of (table_of table).counts m.cells st.flag s d) where
+              module _ (saved : st.saved ≤ 8) (fit : Found Fit) (is_fit : fit ≡ fit_of (table_of table).counts m.cells st.flag s d) where
                 -- an index or a directive that does not fit
-                pub ends_stuck : fit ≡ Unfit → RunEnds table list board budget room st m Stuck
+                pub ends_stuck : fit ≡ None → RunEnds table list board budget room st m Stuck
                 unfolding shown_if
                 ends_stuck unfit = ends_over left Stuck (λ ss os opened shown. next_fits ss os ∙ rw (← is_fit, unfit))
 
@@ -255,7 +260,7 @@ module _ (table list : List ℕ) (board : Board) (budget room : ℕ) (st : Machi
                     (stays : (ss : List (State ℕ)) (os : List Observation) → length ss ≡ st.saved
                     → next (table_of table).counts (bytes room) (machine ss os)
                     ≡ if_room (bytes room) (machine ss os) (observation_of s)
-                    (moved (machine ss os) (changed table c below (machine ss os).state f) ss (guide_of board list (st.at + size)) used (observation_of s ∷ []))) where
+                    (moved (machine ss os) (changed table c below (machine ss os).state f) ss (guide_of board list (st.at + consumed.size)) consumed.used (observation_of s ∷ []))) where
                   -- an observation longer than what is left of its buffer
                   stays_full : room - st.shown < shown_size s → RunEnds table list board budget room st m Full
                   unfolding if_room machine_of
@@ -263,7 +268,7 @@ module _ (table list : List ℕ) (board : Board) (budget room : ℕ) (st : Machi
                       ends_over left Full
                       (λ ss os opened shown. stays ss os opened ∙ rw (in_room os (observation_of s) (shown_size s) shown (observation_length s) false (lt-leb (st.shown + shown_size s) room (omega arith))))
 
-                  stays_goes : shown_size s ≤ room - st.shown → Advances table list board budget room st m c (Observed s) (stepped_state st c f st.saved used size (shown_size s))
+                  stays_goes : shown_size s ≤ room - st.shown → Advances table list board budget room st m c (Some s) (stepped_state st c f st.saved consumed (shown_size s))
                   unfolding if_room moved stepped_to stepped_state seen_list machine_of
                   stays_goes enough =
                       record {
@@ -286,31 +291,31 @@ module _ (table list : List ℕ) (board : Board) (budget room : ℕ) (st : Machi
                       }
 
                   stays_shown : NextAs table list board budget room st m
-                      (cond (ltb (room - st.shown) (shown_size s)) (Over Full) (Goes c (Observed s) (stepped_state st c f st.saved used size (shown_size s))))
+                      (cond (ltb (room - st.shown) (shown_size s)) (Err Full) (Ok (Goes c (Some s) (stepped_state st c f st.saved consumed (shown_size s)))))
                   stays_shown = go (ltb (room - st.shown) (shown_size s)) refl
                     where
                       go : (b : Bool) → ltb (room - st.shown) (shown_size s) ≡ b
-                          → NextAs table list board budget room st m (cond b (Over Full) (Goes c (Observed s) (stepped_state st c f st.saved used size (shown_size s))))
+                          → NextAs table list board budget room st m (cond b (Err Full) (Ok (Goes c (Some s) (stepped_state st c f st.saved consumed (shown_size s)))))
                       go true e = stays_full (ltb-true (room - st.shown) (shown_size s) e)
                       go false e = stays_goes (ltb-false (room - st.shown) (shown_size s) e)
 
                 -- a step that fits
-                pub shows : (c : Change) → fit ≡ Fits c → (r : Next) → r ≡ show_step room st s c used size → NextAs table list board budget room st m r
+                pub shows : (c : Change) → fit ≡ Some (Fits c) → (r : Result Next End) → r ≡ show_step room st s c consumed → NextAs table list board budget room st m r
                 unfolding show_step look_of shown_if stacked_if onward machine_of
                 shows c found r is =
                     rw is
                     (stays_shown c st.flag (rw (← is_fit, found) at (fit_fits table m.cells st.flag s d looked.fits)) (λ rolling. refl)
                     (λ ss os opened.
                     next_fits ss os
-                    ∙ rw (← is_fit, found, stacked_none (guide_of board list (st.at + size)) ss (omega arith))))
+                    ∙ rw (← is_fit, found, stacked_none (guide_of board list (st.at + consumed.size)) ss (omega arith))))
 
                 -- a branch that is forced
-                module _ (v : Bool) (right wrong : Back) (found : fit ≡ Forced v right wrong) where
-                  sides : BackFits table right × BackFits table wrong
+                module _ (forced : Forced) (found : fit ≡ Some (Forces forced)) where
+                  sides : BackFits table forced.right × BackFits table forced.wrong
                   unfolding look_of
                   sides = rw (← is_fit, found) at (fit_fits table m.cells st.flag s d looked.fits)
 
-                  shows_value : observation_of s ≡ branch v
+                  shows_value : observation_of s ≡ branch forced.value
                   shows_value = rw (← is_fit, found) at (forced_shows (table_of table).counts m.cells st.flag s d)
 
                   six : shown_size s ≡ 6
@@ -318,21 +323,21 @@ module _ (table list : List ℕ) (board : Board) (budget room : ℕ) (st : Machi
                   six = sym (observation_length s) ∙ ap (λ o. length (observation_bytes o)) shows_value
 
                   -- where nothing is saved
-                  forced_elsewhere : (board ≡ Rolling → ⊥) → NextAs table list board budget room st m (wrong_step room st s wrong used size)
+                  forced_elsewhere : (board ≡ Rolling → ⊥) → NextAs table list board budget room st m (wrong_step room st s forced.wrong consumed)
                   unfolding wrong_step shown_if stacked_if machine_of
                   forced_elsewhere other =
-                      subst (λ n. NextAs table list board budget room st m (cond (ltb (room - st.shown) n) (Over Full) (Goes (PutBack wrong) (Observed s) (stepped_state st (PutBack wrong) true st.saved used size n)))) six
-                      (stays_shown (PutBack wrong) true sides.1 (λ rolling. absurd (other rolling))
-                      (λ ss os opened. next_fits ss os ∙ rw (← is_fit, found, stacked_elsewhere board other list (st.at + size) (changed table (PutBack right) below (machine ss os).state (machine ss os).state.flag ∷ []) ss)))
+                      subst (λ n. NextAs table list board budget room st m (cond (ltb (room - st.shown) n) (Err Full) (Ok (Goes (PutBack forced.wrong) (Some s) (stepped_state st (PutBack forced.wrong) true st.saved consumed n))))) six
+                      (stays_shown (PutBack forced.wrong) true sides.1 (λ rolling. absurd (other rolling))
+                      (λ ss os opened. next_fits ss os ∙ rw (← is_fit, found, stacked_elsewhere board other list (st.at + consumed.size) (changed table (PutBack forced.right) below (machine ss os).state (machine ss os).state.flag ∷ []) ss)))
 
                   -- on the board that rolls back
                   module _ (is_rolling : board ≡ Rolling) where
                     -- the wrong side is taken, and the right one is put on the saves if they have room
                     next_forced : (ss : List (State ℕ)) (os : List Observation)
                         → next (table_of table).counts (bytes room) (machine ss os)
-                        ≡ stacked_if (bytes room) (machine ss os) (branch v) (guide_of board list (st.at + size)) used
-                        (changed table (PutBack wrong) below (machine ss os).state true)
-                        (only_if (leb (1 + length ss) 8) (changed table (PutBack right) below (machine ss os).state st.flag ∷ ss))
+                        ≡ stacked_if (bytes room) (machine ss os) (branch forced.value) (guide_of board list (st.at + consumed.size)) consumed.used
+                        (changed table (PutBack forced.wrong) below (machine ss os).state true)
+                        (only_if (leb (1 + length ss) 8) (changed table (PutBack forced.right) below (machine ss os).state st.flag ∷ ss))
                     unfolding shown_if stacked guide_of machine_of
                     next_forced ss os = next_fits ss os ∙ rw (← is_fit, found, shows_value, is_rolling)
 
@@ -344,9 +349,9 @@ module _ (table list : List ℕ) (board : Board) (budget room : ℕ) (st : Machi
                     module _ (few : st.saved < 8) where
                       next_stacks : (ss : List (State ℕ)) (os : List Observation) → length ss ≡ st.saved
                           → next (table_of table).counts (bytes room) (machine ss os)
-                          ≡ if_room (bytes room) (machine ss os) (branch v)
-                          (moved (machine ss os) (changed table (PutBack wrong) below (machine ss os).state true)
-                          (changed table (PutBack right) below (machine ss os).state st.flag ∷ ss) (guide_of board list (st.at + size)) used (branch v ∷ []))
+                          ≡ if_room (bytes room) (machine ss os) (branch forced.value)
+                          (moved (machine ss os) (changed table (PutBack forced.wrong) below (machine ss os).state true)
+                          (changed table (PutBack forced.right) below (machine ss os).state st.flag ∷ ss) (guide_of board list (st.at + consumed.size)) consumed.used (branch forced.value ∷ []))
                       unfolding stacked_if only_if
                       next_stacks ss os opened = next_forced ss os ∙ rw (le-leb (1 + length ss) 8 (omega arith))
 
@@ -354,15 +359,15 @@ module _ (table list : List ℕ) (board : Board) (budget room : ℕ) (st : Machi
                       unfolding if_room machine_of observation_bytes le
                       save_full more =
                           ends_over left Full
-                          (λ ss os opened shown. next_stacks ss os opened ∙ rw (in_room os (branch v) 6 shown refl false (lt-leb (st.shown + 6) room (omega arith))))
+                          (λ ss os opened shown. next_stacks ss os opened ∙ rw (in_room os (branch forced.value) 6 shown refl false (lt-leb (st.shown + 6) room (omega arith))))
 
                       save_goes : 6 ≤ room - st.shown
-                          → SavesRight table list board budget room st m v right wrong (stepped_state st (PutBack wrong) true (st.saved + 1) used size 6)
+                          → SavesRight table list board budget room st m forced (stepped_state st (PutBack forced.wrong) true (st.saved + 1) consumed 6)
                       unfolding if_room moved saved_to stepped_state machine_of observation_bytes le
                       save_goes enough =
                           record {
                             is_next = λ ss os opened shown.
-                                next_stacks ss os opened ∙ rw (in_room os (branch v) 6 shown refl true (le-leb (st.shown + 6) room (omega arith)));
+                                next_stacks ss os opened ∙ rw (in_room os (branch forced.value) 6 shown refl true (le-leb (st.shown + 6) room (omega arith)));
                             is_rolling = is_rolling;
                             right_fits = sides.0;
                             wrong_fits = sides.1;
@@ -382,23 +387,43 @@ module _ (table list : List ℕ) (board : Board) (budget room : ℕ) (st : Machi
                                 };
                           }
 
-                    forced_saves : NextAs table list board budget room st m (save_step room st v right wrong used size)
+                    forced_saves : NextAs table list board budget room st m (save_step room st forced consumed)
                     unfolding save_step
                     forced_saves = go (leb 8 st.saved) (ltb (room - st.shown) 6) refl refl
                       where
                         go : (a b : Bool) → leb 8 st.saved ≡ a → ltb (room - st.shown) 6 ≡ b
                             → NextAs table list board budget room st m
-                            (cond a (Over Stuck) (cond b (Over Full) (Saves v right wrong (stepped_state st (PutBack wrong) true (st.saved + 1) used size 6))))
+                            (cond a (Err Stuck) (cond b (Err Full) (Ok (Saves forced (stepped_state st (PutBack forced.wrong) true (st.saved + 1) consumed 6)))))
                         go true b p q = save_stuck (leb-true 8 st.saved p)
                         go false true p q = save_full (leb-false 8 st.saved p) (ltb-true (room - st.shown) 6 q)
                         go false false p q = save_goes (leb-false 8 st.saved p) (ltb-false (room - st.shown) 6 q)
 
                   -- what the code finds
-                  pub forces : (r : Next) → r ≡ force_step board room st s v right wrong used size → NextAs table list board budget room st m r
+                  pub forces : (r : Result Next End) → r ≡ force_step board room st s forced consumed → NextAs table list board budget room st m r
                   unfolding force_step
                   forces r is = rw is (go board refl)
                     where
-                      go : (b : Board) → board ≡ b → NextAs table list board budget room st m (force_step b room st s v right wrong used size)
+                      go : (b : Board) → board ≡ b → NextAs table list board budget room st m (force_step b room st s forced consumed)
                       go Plain e = forced_elsewhere (λ rolling. subst IsRolling (sym (sym e ∙ rolling)) tt)
                       go Guessing e = forced_elsewhere (λ rolling. subst IsRolling (sym (sym e ∙ rolling)) tt)
                       go Rolling e = forced_saves e
+
+-- the counts of a step that can be taken
+pub steppable : {table list : List ℕ} {budget room : ℕ} {st : MachineState} {m : Memory} {consumed : Consumed} → Between table list budget room st m → Admitted table
+    → 0 < st.pending → st.steps < budget → budget < 2 ^ 32 → room < 2 ^ 64 → consumed.used ≤ 1 → st.at + consumed.size < 2 ^ 64 → Steppable st consumed 0
+steppable {table = table} between admitted some left budget_fits room_fits few fits =
+    let nodes = indexed_few table (offsets_in table) (bytes_of admitted) (indexed admitted) in
+    record {
+      some = some;
+      few = omega (arith, between.few);
+      steps_fit = omega (arith, left);
+      used_fit = omega (arith, left, between.used_fit);
+      at_fit = fits;
+      shown_fit = omega (arith, between.shown_fit);
+    }
+
+-- the error that stands for a value that is absent
+pub error_of : {A E : Type 0} {o : Found A} {given error : E} → o ≡ None → Err error ≡ ok_or o given → error ≡ given
+error_of {A} {E} {given = given} {error = error} absent is =
+    let same : ◌≡◌ {A = Result A E} (Err error) (Err given) = rw absent at is in
+    cc

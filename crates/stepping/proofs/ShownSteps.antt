@@ -8,7 +8,11 @@ use Rattle.reader.specs.Index.{table_of}
 use Rattle.machine.specs.Steps.{State, Taken, inside, cell_place, only_if, cell_at, cell_used, turned, loaded, stored, onward, at_fork, at_get, at_put}
 use Rattle.machine.specs.Runs.{Room, Machine, step_of, shown_step}
 use Rattle.stepping.specs.Actions.{back_on, changed, observation_of, shown_look, BackFits, ShownFits}
-use Rattle.directives.specs.Fitting.{found, load_target, store_target, cell_for, fork_fit, load_fit, store_fit, fit_of}
+use Rattle.std.specs.Prelude.{Some, None, option_map}
+use Rattle.std.specs.Prelude.{Option as Found}
+use Rattle.directives.specs.Listed.{found}
+use Rattle.directives.specs.Fitting.{asked_of, cell_for, cell_by, fork_fit, load_fit, store_fit, fit_of}
+use Rattle.directives.specs.declared.fit.Access.TheVariants.{Read, Write}
 use Rattle.machine.specs.Observations.{branch}
 use Rattle.stepping.specs.Stepping.{ChangeFits}
 use Rattle.stepping.proofs.Words.{word_at}
@@ -20,10 +24,9 @@ use Rattle.directives.specs.declared.change.Back.{Back}
 use Rattle.directives.specs.declared.change.Change.TheVariants.{PutBack, Assign}
 use Rattle.directives.specs.declared.change.Shown.{Shown}
 use Rattle.directives.specs.declared.change.Shown.TheVariants.{Fork, Get, Put}
-use Rattle.directives.specs.declared.fit.Target.{Target}
-use Rattle.directives.specs.declared.fit.Target.TheVariants.{Own, Named, Neither}
+use Rattle.directives.specs.declared.places.Cell.{Cell}
 use Rattle.directives.specs.declared.fit.Fit.{Fit}
-use Rattle.directives.specs.declared.fit.Fit.TheVariants.{Goes, Forced, Unfit}
+use Rattle.directives.specs.declared.fit.Fit.TheVariants.{Goes, Forces}
 
 -- a shown step, by the directive
 abbrev pub after_shown : (counts table : List ℕ) → List (Com ℕ) → State ℕ → Shown → Directive → Option (Taken ℕ)
@@ -32,11 +35,11 @@ after_shown counts table rest s (Get x a i) d = at_get counts s x a i rest d
 after_shown counts table rest s (Put a i v) d = at_put counts s a i v rest d
 
 -- a fitting step, with what it gives to save: a force the right side of its branch
-abbrev pub fit_taken : (table : List ℕ) → List (Com ℕ) → State ℕ → Fit → Option (Taken ℕ)
-fit_taken table rest s (Goes c) = some (onward (changed table c rest s s.flag))
-fit_taken table rest s (Forced v right wrong) =
-    some (record { state = changed table (PutBack wrong) rest s true; kept = changed table (PutBack right) rest s s.flag ∷ [] })
-fit_taken table rest s Unfit = none
+abbrev pub fit_taken : (table : List ℕ) → List (Com ℕ) → State ℕ → Found Fit → Option (Taken ℕ)
+fit_taken table rest s (Some (Goes c)) = some (onward (changed table c rest s s.flag))
+fit_taken table rest s (Some (Forces f)) =
+    some (record { state = changed table (PutBack f.wrong) rest s true; kept = changed table (PutBack f.right) rest s s.flag ∷ [] })
+fit_taken table rest s None = none
 
 -- a shown command takes a shown step
 pub step_shown : (counts table : List ℕ) (rest : List (Com ℕ)) (room : Room) (m : Machine ℕ) (s : Shown)
@@ -69,11 +72,20 @@ module _ (counts : List ℕ) where
       go false e true = h
       go false e false = tt
 
-  cell_for_within : (f : Bool) (a i : ℕ) (t : Target) → CellWithin (cell_for counts f a i t)
+  cell_for_within : (f : Bool) (own : Cell) (asked : Found Cell) → CellWithin (cell_for counts f own asked)
   unfolding cell_for
-  cell_for_within f a i Own = cell_at_within a i
-  cell_for_within f a i (Named b j) = cell_used_within f a i (cell_at counts b j) (cell_at_within b j)
-  cell_for_within f a i Neither = tt
+  cell_for_within f own (Some c) = cell_used_within f own.array own.index (cell_at counts c.array c.index) (cell_at_within c.array c.index)
+  cell_for_within f own None = tt
+
+  -- the cell of a step as the program has it
+  own_used : (f : Bool) (a i : ℕ) → cell_used counts f a i (cell_at counts a i) ≡ cell_at counts a i
+  unfolding cell_used cell_at only_if
+  own_used f a i = go (inside counts a i) f
+    where
+      go : (b f : Bool) → cond b (some (cell_place counts a i)) (cond f (only_if b (cell_place counts a i)) none) ≡ only_if b (cell_place counts a i)
+      go true f = refl
+      go false true = refl
+      go false false = refl
 
 -- ---- what a shown step leaves
 module _ (counts table : List ℕ) (rest : List (Com ℕ)) (s : State ℕ) where
@@ -91,24 +103,24 @@ module _ (counts table : List ℕ) (rest : List (Com ℕ)) (s : State ℕ) where
   fork_after v y n Rollback = refl
 
   -- a read and a write use the cell that their directive asks for
-  get_uses : (x a i : ℕ) (d : Directive) → at_get counts s x a i rest d ≡ map (λ p. onward (loaded s x p rest)) (cell_for counts s.flag a i (load_target d))
-  unfolding at_get cell_for load_target
-  get_uses x a i Step = at_cell counts (λ p. onward (loaded s x p rest)) a i
+  get_uses : (x a i : ℕ) (d : Directive) → at_get counts s x a i rest d ≡ map (λ p. onward (loaded s x p rest)) (cell_by counts s.flag Read (record { array = a; index = i }) d)
+  unfolding at_get cell_for asked_of
+  get_uses x a i Step = rw own_used (at_cell counts (λ p. onward (loaded s x p rest)) a i)
   get_uses x a i Force = refl
   get_uses x a i (Load b j) = refl
   get_uses x a i (Store b j) = refl
   get_uses x a i Rollback = refl
 
-  put_uses : (a i v : ℕ) (d : Directive) → at_put counts s a i v rest d ≡ map (λ p. onward (stored s p v rest)) (cell_for counts s.flag a i (store_target d))
-  unfolding at_put cell_for store_target
-  put_uses a i v Step = at_cell counts (λ p. onward (stored s p v rest)) a i
+  put_uses : (a i v : ℕ) (d : Directive) → at_put counts s a i v rest d ≡ map (λ p. onward (stored s p v rest)) (cell_by counts s.flag Write (record { array = a; index = i }) d)
+  unfolding at_put cell_for asked_of
+  put_uses a i v Step = rw own_used (at_cell counts (λ p. onward (stored s p v rest)) a i)
   put_uses a i v Force = refl
   put_uses a i v (Load b j) = refl
   put_uses a i v (Store b j) = refl
   put_uses a i v Rollback = refl
 
-  store_found : (v : ℕ) (c : Option ℕ) → map (λ p. onward (stored s p v rest)) c ≡ fit_taken table rest s (store_fit v (found c))
-  unfolding found store_fit stored changed onward
+  store_found : (v : ℕ) (c : Option ℕ) → map (λ p. onward (stored s p v rest)) c ≡ fit_taken table rest s (option_map (store_fit v) (found c))
+  unfolding stored changed onward
   store_found v none = refl
   store_found v (some p) = refl
 
@@ -119,8 +131,8 @@ module _ (counts table : List ℕ) (rest : List (Com ℕ)) (s : State ℕ) where
         let word : get_or s.cells p 0 ≡ le_at 4 cells (4 * p) = rw words (word_at (sum counts) cells p there) in
         rw word
 
-    load_found : (x : ℕ) (c : Option ℕ) → CellWithin counts c → map (λ p. onward (loaded s x p rest)) c ≡ fit_taken table rest s (load_fit cells x (found c))
-    unfolding found load_fit onward
+    load_found : (x : ℕ) (c : Option ℕ) → CellWithin counts c → map (λ p. onward (loaded s x p rest)) c ≡ fit_taken table rest s (option_map (load_fit cells x) (found c))
+    unfolding onward
     load_found x none there = refl
     load_found x (some p) there = ap (λ (t : State ℕ). some (onward t)) (loaded_word x p there)
 
@@ -129,27 +141,25 @@ module _ (counts table : List ℕ) (rest : List (Com ℕ)) (s : State ℕ) where
     unfolding fit_of
     fit_after (Fork v y n) d = fork_after v y n d
     fit_after (Get x a i) d =
-        get_uses x a i d ∙ load_found x (cell_for counts s.flag a i (load_target d)) (cell_for_within counts s.flag a i (load_target d))
-    fit_after (Put a i v) d = put_uses a i v d ∙ store_found v (cell_for counts s.flag a i (store_target d))
+        get_uses x a i d ∙ load_found x (cell_by counts s.flag Read (record { array = a; index = i }) d) (cell_for_within counts s.flag (record { array = a; index = i }) (asked_of Read (record { array = a; index = i }) d))
+    fit_after (Put a i v) d = put_uses a i v d ∙ store_found v (cell_by counts s.flag Write (record { array = a; index = i }) d)
 
 -- ---- a change that was found can be made
 module _ (table : List ℕ) where
-  abbrev pub FitFits : Fit → Type 0
-  FitFits (Goes c) = ChangeFits table c
-  FitFits (Forced v right wrong) = BackFits table right × BackFits table wrong
-  FitFits Unfit = Unit {0}
+  abbrev pub FitFits : Found Fit → Type 0
+  FitFits (Some (Goes c)) = ChangeFits table c
+  FitFits (Some (Forces f)) = BackFits table f.right × BackFits table f.wrong
+  FitFits None = Unit {0}
 
   cond_fits : (v : Bool) (y n : Back) → BackFits table y → BackFits table n → BackFits table (cond v y n)
   cond_fits true y n p q = p
   cond_fits false y n p q = q
 
-  load_fits : (cells : List ℕ) (x : ℕ) (c : Option ℕ) → x < (table_of table).variables → FitFits (load_fit cells x (found c))
-  unfolding load_fit found
+  load_fits : (cells : List ℕ) (x : ℕ) (c : Option ℕ) → x < (table_of table).variables → FitFits (option_map (load_fit cells x) (found c))
   load_fits cells x none h = tt
   load_fits cells x (some p) h = h
 
-  store_fits : (v : ℕ) (c : Option ℕ) → CellWithin (table_of table).counts c → FitFits (store_fit v (found c))
-  unfolding store_fit found
+  store_fits : (v : ℕ) (c : Option ℕ) → CellWithin (table_of table).counts c → FitFits (option_map (store_fit v) (found c))
   store_fits v none h = tt
   store_fits v (some p) h = h
 
@@ -160,30 +170,30 @@ module _ (table : List ℕ) where
   fit_fits cells f (Fork v y n) (Load b j) h = tt
   fit_fits cells f (Fork v y n) (Store b j) h = tt
   fit_fits cells f (Fork v y n) Rollback h = tt
-  fit_fits cells f (Get x a i) d h = load_fits cells x (cell_for (table_of table).counts f a i (load_target d)) h
+  fit_fits cells f (Get x a i) d h = load_fits cells x (cell_by (table_of table).counts f Read (record { array = a; index = i }) d) h
   fit_fits cells f (Put a i v) d h =
-      store_fits v (cell_for (table_of table).counts f a i (store_target d)) (cell_for_within (table_of table).counts f a i (store_target d))
+      store_fits v (cell_by (table_of table).counts f Write (record { array = a; index = i }) d) (cell_for_within (table_of table).counts f (record { array = a; index = i }) (asked_of Write (record { array = a; index = i }) d))
 
 -- ---- what is forced is a branch, and its value is shown
-abbrev pub ForcedShows : Shown → Fit → Type 0
-ForcedShows s (Goes c) = Unit {0}
-ForcedShows s (Forced v right wrong) = observation_of s ≡ branch v
-ForcedShows s Unfit = Unit {0}
+abbrev pub ForcedShows : Shown → Found Fit → Type 0
+ForcedShows s (Some (Goes c)) = Unit {0}
+ForcedShows s (Some (Forces f)) = observation_of s ≡ branch f.value
+ForcedShows s None = Unit {0}
 
 pub forced_shows : (counts cells : List ℕ) (f : Bool) (s : Shown) (d : Directive) → ForcedShows s (fit_of counts cells f s d)
-unfolding fit_of fork_fit load_fit store_fit found observation_of
+unfolding fit_of fork_fit observation_of
 forced_shows counts cells f (Fork v y n) Step = tt
 forced_shows counts cells f (Fork v y n) Force = refl
 forced_shows counts cells f (Fork v y n) (Load b j) = tt
 forced_shows counts cells f (Fork v y n) (Store b j) = tt
 forced_shows counts cells f (Fork v y n) Rollback = tt
-forced_shows counts cells f (Get x a i) d = go (cell_for counts f a i (load_target d))
+forced_shows counts cells f (Get x a i) d = go (cell_by counts f Read (record { array = a; index = i }) d)
   where
-    go : (c : Option ℕ) → ForcedShows (Get x a i) (load_fit cells x (found c))
+    go : (c : Option ℕ) → ForcedShows (Get x a i) (option_map (load_fit cells x) (found c))
     go none = tt
     go (some p) = tt
-forced_shows counts cells f (Put a i v) d = go (cell_for counts f a i (store_target d))
+forced_shows counts cells f (Put a i v) d = go (cell_by counts f Write (record { array = a; index = i }) d)
   where
-    go : (c : Option ℕ) → ForcedShows (Put a i v) (store_fit v (found c))
+    go : (c : Option ℕ) → ForcedShows (Put a i v) (option_map (store_fit v) (found c))
     go none = tt
     go (some p) = tt

@@ -1,5 +1,5 @@
 -- 4-byte words in a slice: what one reads as, and what the others read as after one was stored.
-use Rattle.std.proofs.Common.{◌≡◌, ℕ, zero, suc, ◌+◌, ◌*◌, ◌^◌, ◌<◌, ◌≤◌, Bool, true, false, eqb, ltb, ◌⊎◌, List, [], ◌∷◌, ◌++◌, length, get_or, take, drop, set, sym, refl, ap, ◌∙◌, inl, inr, ⊎_elim, append_assoc, add-zero, le_of_lt, add_assoc, eq-or-lt_of_le, mul-le-mul_left, arith, length-set, length-take-le, get_or-set_other, get_or-set_same, drop-drop, ext_get_or, ltb-false, ltb-true, eqb-true}
+use Rattle.std.proofs.Common.{◌≡◌, ℕ, zero, suc, ◌+◌, ◌*◌, ◌^◌, ◌<◌, ◌≤◌, Bool, true, false, eqb, ltb, ◌⊎◌, List, [], ◌∷◌, ◌++◌, length, get_or, take, drop, set, sym, refl, ap, ◌∙◌, inl, inr, ⊎_elim, append_assoc, add-zero, add_assoc, eq-or-lt_of_le, arith, length-set, length-take-le, get_or-set_other, get_or-set_same, drop-drop, ext_get_or, ltb-false, ltb-true, eqb-true}
 use borrow.Author.Tests.{eqb-false}
 use lib.Seq.{sets, sets-eq}
 use Rattle.bytes_le.specs.Numbers.{le, le_at, from_le, from_words}
@@ -77,9 +77,3 @@ words_stored count bs n v fits inside long =
             let outside : (4 * i + 4 ≤ 4 * n) ⊎ (4 * n + length (le 4 v) ≤ 4 * i) = rw length_le (words_apart i n (eqb-false i n e)) in
             word_at count (sets bs (4 * n) (le 4 v)) i less ∙ le_at_outside 4 (le 4 v) bs (4 * n) (4 * i) outside
             ∙ sym (get_or-set_other (from_words count bs) n i v 0 (eqb-false i n e) ∙ word_at count bs i less)
-
--- the product of two words
-pub product_fits : (a b : ℕ) → a < 2 ^ 32 → b < 2 ^ 32 → a * b < 2 ^ 64
-product_fits a b first second =
-    let upper : a * b ≤ a * 2 ^ 32 = mul-le-mul_left a (le_of_lt second) in
-    omega arith

@@ -1,17 +1,8 @@
--- What evaluation over a table's bytes is asked and answers.
-use Rattle.std.specs.Prelude.{◌≡◌, ℕ, ◌*◌, ◌<◌, Bool, List, length}
+-- What evaluation over a table's bytes answers.
+use Rattle.std.specs.Prelude.{ℕ, Bool, List}
 use Rattle.bytes_le.specs.Numbers.{from_words}
 use Rattle.awhile.specs.Language.{value_of, truth_of}
-use Rattle.awhile.specs.Nodes.{sort_of}
-use Rattle.reader.specs.Index.{Indexed, table_of, nodes_in, node_in, numeric_in, truth_in}
-use Rattle.awhile.specs.declared.Sort.{Sort}
-
--- a node of a sort in an indexed table, and a slice with a word for each variable
-pub record NodeOf (sort : Sort) (table index variables : List ℕ) (n : ℕ) : Type 0 where
-  pub indexed : Indexed table index
-  pub long : length variables ≡ 4 * (table_of table).variables
-  pub inside : n < nodes_in table
-  pub is_sort : sort_of (node_in table n) ≡ sort
+use Rattle.reader.specs.Index.{table_of, numeric_in, truth_in}
 
 -- the variables of a table whose words stand in bytes
 unfoldable pub variables_in : (table variables : List ℕ) → List ℕ

@@ -2,3 +2,4 @@
 pub mod Evaluation
 pub mod Actions
 pub mod Stepping
+pub mod Lending

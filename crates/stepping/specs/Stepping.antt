@@ -1,16 +1,15 @@
 -- The machine as the code has it: a state by value, words in lent bytes, and what the next step is.
-use Rattle.std.specs.Prelude.{◌≡◌, ℕ, zero, suc, ◌+◌, ◌-◌, ◌*◌, ◌^◌, ◌<◌, ◌≤◌, Bool, true, false, cond, List, [], ◌∷◌, ◌++◌, length, ◌==◌, nat_le, nat_lt}
+use Rattle.std.specs.Prelude.{◌≡◌, ℕ, zero, suc, ◌+◌, ◌-◌, ◌*◌, ◌^◌, ◌<◌, ◌≤◌, Bool, true, false, cond, List, [], ◌∷◌, ◌++◌, length, ◌==◌, nat_le, nat_lt, Option, None, Some, Result, Ok, Err}
 use Rattle.bytes_le.specs.Numbers.{le_at, from_words}
 use Rattle.awhile.specs.Language.{Com}
 use Rattle.awhile.specs.Lists.{sum}
-use Rattle.reader.specs.Index.{Indexed, table_of, nodes_in, command_in}
+use Rattle.reader.specs.Index.{table_of, nodes_in, command_in}
 use Rattle.machine.specs.Observations.{Observation, branch, rolled_back, shown_bytes}
 use Rattle.machine.specs.Steps.{State}
 use Rattle.machine.specs.Runs.{Machine, bytes, next, goes, run, max_saves}
 use Rattle.stepping.specs.Evaluation.{variables_in}
 use Rattle.stepping.specs.Actions.{changed, observation_of, CommandAt, BackFits}
 use Rattle.directives.specs.Changes.{height_of}
-use Rattle.directives.specs.Fitting.{starts_length, Starts}
 use Rattle.directives.specs.Guiding.{Readable, guide_of}
 use Rattle.machine.specs.declared.Board.{Board}
 use Rattle.machine.specs.declared.Board.TheVariants.{Plain, Guessing, Rolling}
@@ -22,29 +21,35 @@ use Rattle.directives.specs.declared.change.Change.TheVariants.{PutBack, Assign,
 use Rattle.directives.specs.declared.change.Shown.{Shown}
 use Rattle.directives.specs.declared.change.Shown.TheVariants.{Fork, Get, Put}
 use Rattle.stepping.specs.declared.state.MachineState.{MachineState}
-use Rattle.stepping.specs.declared.next.Seen.{Seen}
-use Rattle.stepping.specs.declared.next.Seen.TheVariants.{Nothing, Observed}
+use Rattle.directives.specs.declared.fit.Forced.{Forced}
+use Rattle.directives.specs.declared.guide.Consumed.{Consumed}
+use Rattle.stepping.specs.declared.memory.Memory.{Memory as LentMemory}
+use Rattle.stepping.specs.declared.memory.View.{View}
 use Rattle.stepping.specs.declared.next.Next.{Next}
-use Rattle.stepping.specs.declared.next.Next.TheVariants.{Over, Goes, Saves, Undoes}
+use Rattle.stepping.specs.declared.next.Next.TheVariants.{Goes, Saves, Undoes}
 use Rattle.awhile.specs.Tables.{max_nodes}
 
 -- ---- the state by value
 unfoldable pub start_state : MachineState
 start_state = record { flag = false; saved = 0; steps = 0; used = 0; at = 0; pending = 1; shown = 0 }
 
+-- what a silent step consumes of a list
+abbrev pub no_directive : Consumed
+no_directive = record { used = 0; size = 0 }
+
 -- a step can be taken: something is pending, and the counts fit
-pub record Steppable (state : MachineState) (used_now size bytes_now : ℕ) : Type 0 where
+pub record Steppable (state : MachineState) (consumed : Consumed) (bytes_now : ℕ) : Type 0 where
   pub some : 0 < state.pending
   pub few : state.pending ≤ max_nodes
   pub steps_fit : state.steps + 1 < 2 ^ 32
-  pub used_fit : state.used + used_now < 2 ^ 32
-  pub at_fit : state.at + size < 2 ^ 64
+  pub used_fit : state.used + consumed.used < 2 ^ 32
+  pub at_fit : state.at + consumed.size < 2 ^ 64
   pub shown_fit : state.shown + bytes_now < 2 ^ 64
 
 -- one step further: "the machine's flag, step count and directives used move on together"
-unfoldable pub stepped_state : MachineState → Change → (flag : Bool) → (saved used_now size bytes_now : ℕ) → MachineState
-stepped_state s c f o u size b =
-    record { flag = f; saved = o; steps = s.steps + 1; used = s.used + u; at = s.at + size; pending = height_of c (s.pending - 1); shown = s.shown + b }
+unfoldable pub stepped_state : MachineState → Change → (flag : Bool) → (saved : ℕ) → Consumed → (bytes_now : ℕ) → MachineState
+stepped_state s c f o u b =
+    record { flag = f; saved = o; steps = s.steps + 1; used = s.used + u.used; at = s.at + u.size; pending = height_of c (s.pending - 1); shown = s.shown + b }
 
 -- a rollback can be taken: a save is open, and the counts fit
 pub record Undoable (state : MachineState) : Type 0 where
@@ -66,34 +71,34 @@ shown_size (Get x a i) = 10
 shown_size (Put a i v) = 10
 
 -- a shown step that fits
-unfoldable pub show_step : (room : ℕ) → MachineState → Shown → Change → (used_now size : ℕ) → Next
-show_step room s shown c u size =
-    cond (nat_lt (room - s.shown) (shown_size shown)) (Over Full) (Goes c (Observed shown) (stepped_state s c s.flag s.saved u size (shown_size shown)))
+unfoldable pub show_step : (room : ℕ) → MachineState → Shown → Change → Consumed → Result Next End
+show_step room s shown c u =
+    cond (nat_lt (room - s.shown) (shown_size shown)) (Err Full) (Ok (Goes c (Some shown) (stepped_state s c s.flag s.saved u (shown_size shown))))
 
 -- a branch that is forced the wrong way
-unfoldable pub wrong_step : (room : ℕ) → MachineState → Shown → (wrong : Back) → (used_now size : ℕ) → Next
-wrong_step room s shown wrong u size =
-    cond (nat_lt (room - s.shown) 6) (Over Full) (Goes (PutBack wrong) (Observed shown) (stepped_state s (PutBack wrong) true s.saved u size 6))
+unfoldable pub wrong_step : (room : ℕ) → MachineState → Shown → (wrong : Back) → Consumed → Result Next End
+wrong_step room s shown wrong u =
+    cond (nat_lt (room - s.shown) 6) (Err Full) (Ok (Goes (PutBack wrong) (Some shown) (stepped_state s (PutBack wrong) true s.saved u 6)))
 
 -- the same, with its right side saved
-unfoldable pub save_step : (room : ℕ) → MachineState → (value : Bool) → (right wrong : Back) → (used_now size : ℕ) → Next
-save_step room s v right wrong u size =
-    cond (nat_le max_saves s.saved) (Over Stuck)
-    (cond (nat_lt (room - s.shown) 6) (Over Full)
-    (Saves v right wrong (stepped_state s (PutBack wrong) true (s.saved + 1) u size 6)))
+unfoldable pub save_step : (room : ℕ) → MachineState → Forced → Consumed → Result Next End
+save_step room s f u =
+    cond (nat_le max_saves s.saved) (Err Stuck)
+    (cond (nat_lt (room - s.shown) 6) (Err Full)
+    (Ok (Saves f (stepped_state s (PutBack f.wrong) true (s.saved + 1) u 6))))
 
-unfoldable pub force_step : Board → (room : ℕ) → MachineState → Shown → (value : Bool) → (right wrong : Back) → (used_now size : ℕ) → Next
-force_step Plain room s shown v right wrong u size = wrong_step room s shown wrong u size
-force_step Guessing room s shown v right wrong u size = wrong_step room s shown wrong u size
-force_step Rolling room s shown v right wrong u size = save_step room s v right wrong u size
+unfoldable pub force_step : Board → (room : ℕ) → MachineState → Shown → Forced → Consumed → Result Next End
+force_step Plain room s shown f u = wrong_step room s shown f.wrong u
+force_step Guessing room s shown f u = wrong_step room s shown f.wrong u
+force_step Rolling room s shown f u = save_step room s f u
 
 -- a rollback
-unfoldable pub back_step : (room budget : ℕ) → MachineState → Next
+unfoldable pub back_step : (room budget : ℕ) → MachineState → Result Next End
 back_step room budget s =
-    cond (nat_le budget s.steps) (Over Spent)
-    (cond (s.saved == 0) (Over Stuck)
-    (cond (nat_lt (room - s.shown) 4) (Over Full)
-    Undoes))
+    cond (nat_le budget s.steps) (Err Spent)
+    (cond (s.saved == 0) (Err Stuck)
+    (cond (nat_lt (room - s.shown) 4) (Err Full)
+    (Ok Undoes)))
 
 -- ---- the lent bytes
 -- The slices that every run works in; all contracts take them as one. Save words stand beside them: what the next step is does not hang on them.
@@ -104,6 +109,13 @@ pub record Memory : Type 0 where
 
 abbrev pub memory_at : (variables cells pending : List ℕ) → Memory
 memory_at vs cs ps = record { variables = vs; cells = cs; pending = ps }
+
+-- what stands in them
+abbrev pub memory_of : LentMemory → Memory
+memory_of m = memory_at m.variables.now m.cells.now m.pending.now
+
+abbrev pub memory_seen : View → Memory
+memory_seen v = memory_at v.variables.now v.cells.now v.pending.now
 
 -- ---- what a state stands for, with the lent bytes
 -- the first so many entries, the next command first
@@ -126,9 +138,9 @@ machine_of table list board st m ss os =
     }
 
 -- ---- what a step does
-unfoldable pub seen_list : Seen → List Observation
-seen_list Nothing = []
-seen_list (Observed s) = observation_of s ∷ []
+unfoldable pub seen_list : Option Shown → List Observation
+seen_list None = []
+seen_list (Some s) = observation_of s ∷ []
 
 -- a change that can be made to the lent bytes
 abbrev pub ChangeFits : (table : List ℕ) → Change → Type 0
@@ -137,7 +149,7 @@ ChangeFits table (Assign x v) = x < (table_of table).variables
 ChangeFits table (Store p v) = p < sum (table_of table).counts
 
 -- the machine after a step: its command taken off, its change made
-unfoldable pub stepped_to : (table list : List ℕ) → Board → List (Com ℕ) → Machine ℕ → Change → Seen → MachineState → Machine ℕ
+unfoldable pub stepped_to : (table list : List ℕ) → Board → List (Com ℕ) → Machine ℕ → Change → Option Shown → MachineState → Machine ℕ
 stepped_to table list board rest m c seen st =
     record {
       state = changed table c rest m.state st.flag;
@@ -149,15 +161,15 @@ stepped_to table list board rest m c seen st =
     }
 
 -- the machine after a force that saves the right side of its branch and takes the wrong one
-unfoldable pub saved_to : (table list : List ℕ) → Board → List (Com ℕ) → Machine ℕ → (value : Bool) → (right wrong : Back) → MachineState → Machine ℕ
-saved_to table list board rest m v right wrong st =
+unfoldable pub saved_to : (table list : List ℕ) → Board → List (Com ℕ) → Machine ℕ → Forced → MachineState → Machine ℕ
+saved_to table list board rest m f st =
     record {
-      state = changed table (PutBack wrong) rest m.state st.flag;
-      saves = changed table (PutBack right) rest m.state m.state.flag ∷ m.saves;
+      state = changed table (PutBack f.wrong) rest m.state st.flag;
+      saves = changed table (PutBack f.right) rest m.state m.state.flag ∷ m.saves;
       guide = guide_of board list st.at;
       steps = st.steps;
       used = st.used;
-      shown = m.shown ++ (branch v ∷ []);
+      shown = m.shown ++ (branch f.value ∷ []);
     }
 
 -- the machine after a rollback to a save
@@ -166,10 +178,7 @@ undone_to list board m s ss st =
     record { state = s; saves = ss; guide = guide_of board list (st.at + 4); steps = st.steps + 1; used = st.used + 1; shown = m.shown ++ (rolled_back ∷ []) }
 
 -- ---- between two steps
-pub record Between (table index starts list : List ℕ) (budget room : ℕ) (state : MachineState) (m : Memory) : Type 0 where
-  pub indexed : Indexed table index
-  pub begins : Starts (table_of table).counts starts
-  pub starts_long : length starts ≡ starts_length
+pub record Between (table list : List ℕ) (budget room : ℕ) (state : MachineState) (m : Memory) : Type 0 where
   pub variables_long : length m.variables ≡ 4 * (table_of table).variables
   pub cells_long : length m.cells ≡ 4 * sum (table_of table).counts
   pub pending_long : 4 * nodes_in table ≤ length m.pending
@@ -199,7 +208,7 @@ module _ (table list : List ℕ) (board : Board) (budget room : ℕ) (state : Ma
     pub shown_fit : after.shown ≤ room
 
   -- a step of the program is taken
-  pub record Advances (change : Change) (seen : Seen) (after : MachineState) : Type 0 where
+  pub record Advances (change : Change) (seen : Option Shown) (after : MachineState) : Type 0 where
     pub is_next : (ss : List (State ℕ)) (os : List Observation) → length ss ≡ state.saved → length (shown_bytes os) ≡ state.shown
         → next (table_of table).counts (bytes room) (machine_of table list board state m ss os)
         ≡ goes (stepped_to table list board (pending_of table m.pending (state.pending - 1)) (machine_of table list board state m ss os) change seen after)
@@ -211,14 +220,14 @@ module _ (table list : List ℕ) (board : Board) (budget room : ℕ) (state : Ma
     pub counted : Counted after (length (shown_bytes (seen_list seen)))
 
   -- the right side of a branch is saved and the wrong one taken
-  pub record SavesRight (value : Bool) (right wrong : Back) (after : MachineState) : Type 0 where
+  pub record SavesRight (forced : Forced) (after : MachineState) : Type 0 where
     pub is_next : (ss : List (State ℕ)) (os : List Observation) → length ss ≡ state.saved → length (shown_bytes os) ≡ state.shown
         → next (table_of table).counts (bytes room) (machine_of table list board state m ss os)
-        ≡ goes (saved_to table list board (pending_of table m.pending (state.pending - 1)) (machine_of table list board state m ss os) value right wrong after)
+        ≡ goes (saved_to table list board (pending_of table m.pending (state.pending - 1)) (machine_of table list board state m ss os) forced after)
     pub is_rolling : board ≡ Rolling
-    pub right_fits : BackFits table right
-    pub wrong_fits : BackFits table wrong
-    pub is_height : after.pending ≡ height_of (PutBack wrong) (state.pending - 1)
+    pub right_fits : BackFits table forced.right
+    pub wrong_fits : BackFits table forced.wrong
+    pub is_height : after.pending ≡ height_of (PutBack forced.wrong) (state.pending - 1)
     pub few : state.saved < max_saves
     pub is_saved : after.saved ≡ state.saved + 1
     pub is_flag : after.flag ≡ true
@@ -235,8 +244,8 @@ module _ (table list : List ℕ) (board : Board) (budget room : ℕ) (state : Ma
     pub readable : Readable list (state.at + 4)
     pub shown_fit : state.shown + 4 ≤ room
 
-  abbrev pub NextAs : Next → Type 0
-  NextAs (Over e) = RunEnds e
-  NextAs (Goes c seen st) = Advances c seen st
-  NextAs (Saves v right wrong st) = SavesRight v right wrong st
-  NextAs Undoes = GoesBack
+  abbrev pub NextAs : Result Next End → Type 0
+  NextAs (Err e) = RunEnds e
+  NextAs (Ok (Goes c seen st)) = Advances c seen st
+  NextAs (Ok (Saves f st)) = SavesRight f st
+  NextAs (Ok Undoes) = GoesBack

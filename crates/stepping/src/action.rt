@@ -1,120 +1,79 @@
 // What the next command does, before any machine decides on it.
-ghost use Rattle.std.specs.Prelude.{◌≡◌};
 ghost use Rattle.awhile.specs.declared.Sort.TheVariants.{Command};
-ghost use Rattle.stepping.specs.Evaluation.{NodeOf};
+ghost use Rattle.reader.specs.Index.{HasSort};
 ghost use Rattle.stepping.specs.Actions.{Looked};
-ghost use Rattle.directives.specs.declared.change.Change.TheVariants.{PutBack, Assign};
-ghost use Rattle.directives.specs.declared.change.Shown.TheVariants.{Fork, Get, Put};
-ghost use Rattle.stepping.specs.declared.action.Action.TheVariants.{Quiet, Show};
 
-use crate::evaluate::{truth, value};
+use crate::evaluate::Values;
 use awhile::Node;
 use directives::change::{Back, Change, Shown};
-use reader::lookup::command_at;
 
 #[derive(Clone, Copy)]
 pub enum Action {
-    Quiet { change: Change },
-    Show { shown: Shown },
-}
-
-// A silent step that puts back.
-fn put_back(back: Back) -> Action
-    ensures { result ≡ Quiet (PutBack back) }
-{
-    Action::Quiet {
-        change: Change::PutBack { back },
-    }
-}
-
-// A variable gets a value.
-fn assign(variable: usize, value: u32) -> Action
-    ensures { result ≡ Quiet (Assign variable value) }
-{
-    Action::Quiet {
-        change: Change::Assign { variable, value },
-    }
-}
-
-// A branch goes on with one of its sides.
-fn fork(value: bool, yes: Back, no: Back) -> Action
-    ensures { result ≡ Show (Fork value yes no) }
-{
-    Action::Show {
-        shown: Shown::Fork { value, yes, no },
-    }
-}
-
-// A read into a variable.
-fn get(variable: usize, array: usize, index: u32) -> Action
-    ensures { result ≡ Show (Get variable array index) }
-{
-    Action::Show {
-        shown: Shown::Get {
-            variable,
-            array,
-            index,
-        },
-    }
-}
-
-// A write of a value.
-fn put(array: usize, index: u32, value: u32) -> Action
-    ensures { result ≡ Show (Put array index value) }
-{
-    Action::Show {
-        shown: Shown::Put {
-            array,
-            index,
-            value,
-        },
-    }
+    Quiet(Change),
+    Show(Shown),
 }
 
 // What the command of a node does.
-pub fn look_at(table: &[u8], index: &[u16], variables: &[u8], n: usize) -> Action
-    requires { NodeOf Command table.now index.now variables.now n }
-    ensures { Looked table.now variables.now n result }
+pub fn look_at(values: &Values, n: usize) -> Action
+    requires { HasSort values.now.table.now Command n }
+    ensures { Looked values.now.table.now values.now.variables.now n result }
 {
-    let node = command_at(table, index, n);
-    match node {
-        Node::Assign {
-            variable,
-            value: part,
-        } => assign(variable, value(table, index, variables, part)),
-        Node::Sequence { first, second } => put_back(Back::Two {
-            below: second,
-            next: first,
+    match values.table.command(n) {
+        Node::Assign { variable, value } => {
+            let value = values.value(value);
+            Action::Quiet(Change::Assign { variable, value })
+        }
+        Node::Sequence { first, second } => {
+            let back = Back::Two {
+                below: second,
+                next: first,
+            };
+            Action::Quiet(Change::PutBack { back })
+        }
+        Node::If { condition, yes, no } => Action::Show(Shown::Fork {
+            value: values.truth(condition),
+            yes: Back::One { next: yes },
+            no: Back::One { next: no },
         }),
-        Node::If { condition, yes, no } => fork(
-            truth(table, index, variables, condition),
-            Back::One { next: yes },
-            Back::One { next: no },
-        ),
-        Node::While { condition, body } => fork(
-            truth(table, index, variables, condition),
-            Back::Two {
+        Node::While { condition, body } => Action::Show(Shown::Fork {
+            value: values.truth(condition),
+            yes: Back::Two {
                 below: n,
                 next: body,
             },
-            Back::Nothing,
-        ),
+            no: Back::Nothing,
+        }),
         Node::Read {
             variable,
             array,
-            index: part,
-        } => get(variable, array, value(table, index, variables, part)),
+            index,
+        } => {
+            let index = values.value(index);
+            Action::Show(Shown::Get {
+                variable,
+                array,
+                index,
+            })
+        }
         Node::Write {
             array,
-            index: part,
-            value: other,
-        } => put(
-            array,
-            value(table, index, variables, part),
-            value(table, index, variables, other),
-        ),
-        Node::Skip => put_back(Back::Nothing),
+            index,
+            value,
+        } => {
+            let index = values.value(index);
+            let value = values.value(value);
+            Action::Show(Shown::Put {
+                array,
+                index,
+                value,
+            })
+        }
+        Node::Skip => Action::Quiet(Change::PutBack {
+            back: Back::Nothing,
+        }),
         // no other node is a command
-        _ => put_back(Back::Nothing),
+        _ => Action::Quiet(Change::PutBack {
+            back: Back::Nothing,
+        }),
     }
 }

@@ -4,6 +4,8 @@
 pub mod action;
 pub mod evaluate;
 pub mod guess;
+pub mod memory;
 pub mod next;
+pub mod run;
 pub mod state;
 pub mod step;

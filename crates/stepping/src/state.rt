@@ -1,12 +1,15 @@
 // The machine between two steps, as far as it does not stand in lent memory.
+#![tactic(auto, unfolding(crate::specs::Stepping::start_state, crate::specs::Stepping::stepped_state, crate::specs::Stepping::undone_state))]
+
 ghost use Rattle.std.specs.Prelude.{◌≡◌};
-ghost use Rattle.stepping.specs.Stepping.{start_state, Steppable, stepped_state, Undoable, undone_state};
+ghost use Rattle.stepping.specs.Stepping.{start_state, no_directive, Steppable, stepped_state, Undoable, undone_state};
 
 use directives::change::{Change, height};
+use directives::guide::Consumed;
 
 #[derive(Clone, Copy)]
 pub struct MachineState {
-    // whether the machine has guessed wrong, and how many saves are open
+    // whether the machine has guessed wrong, and how many saves are open: on the guessing board the flag is set with none open
     pub flag: bool,
     pub saved: usize,
     pub steps: u32,
@@ -34,26 +37,25 @@ impl MachineState {
         }
     }
 
-    // One step further: "the machine's flag, step count and directives used move on together". A shown step takes `used`
-    // directives, which are `size` bytes of their list, and shows `bytes` bytes; the change says what is pending after it.
+    // One step further: "the machine's flag, step count and directives used move on together". A shown step consumes directives and shows
+    // so many bytes; the change says what is pending after it.
     pub fn stepped(
         self,
         change: Change,
         flag: bool,
         saved: usize,
-        used: u32,
-        size: usize,
+        consumed: Consumed,
         bytes: usize,
     ) -> Self
-        requires { Steppable self used size bytes }
-        ensures { result ≡ stepped_state self change flag saved used size bytes }
+        requires { Steppable self consumed bytes }
+        ensures { result ≡ stepped_state self change flag saved consumed bytes }
     {
         MachineState {
             flag,
             saved,
             steps: self.steps + 1,
-            used: self.used + used,
-            at: self.at + size,
+            used: self.used + consumed.used,
+            at: self.at + consumed.size,
             pending: height(change, self.pending - 1),
             shown: self.shown + bytes,
         }
@@ -61,10 +63,11 @@ impl MachineState {
 
     // A silent step keeps the flag, takes no directive and shows nothing.
     pub fn stepped_silently(self, change: Change) -> Self
-        requires { Steppable self 0 0 0 }
-        ensures { result ≡ stepped_state self change self.flag self.saved 0 0 0 }
+        requires { Steppable self no_directive 0 }
+        ensures { result ≡ stepped_state self change self.flag self.saved no_directive 0 }
     {
-        self.stepped(change, self.flag, self.saved, 0, 0, 0)
+        let consumed = Consumed { used: 0, size: 0 };
+        self.stepped(change, self.flag, self.saved, consumed, 0)
     }
 
     // Back at the newest save, which had so many entries pending: its flag was set if there is a save below it. The rollback is a step

@@ -1,119 +1,92 @@
 // One step of a board, decided before anything is changed: why it is not taken, or all that it does.
 ghost use Rattle.std.specs.Prelude.{◌≡◌, ◌≤◌};
-ghost use Rattle.stepping.specs.Stepping.{memory_at, shown_size, Steppable, show_step, Between, NextAs};
+ghost use Rattle.stepping.specs.Stepping.{memory_seen, shown_size, Steppable, show_step, Between, NextAs};
 
 use crate::action::{Action, look_at};
+use crate::evaluate::Values;
 use crate::guess::{back_step, force_step};
-use crate::next::{Next, Seen};
+use crate::memory::View;
+use crate::next::Next;
+use crate::run::Run;
 use crate::state::MachineState;
 use bytes_le::get::whole_u32;
 use directives::change::{Change, Shown};
 use directives::fit::{Fit, fitting};
-use directives::guide::{Guided, guide, rollback_next};
-use machine::{Board, End};
+use directives::guide::{Consumed, Guided, guide, rollback_next};
+use machine::End;
 
-// The length of an observation's record.
+// The length of an observation's record. By name and no `From`, as an observation has other numbers too, its kind for one.
+#[tactic(auto, unfolding(crate::specs::Stepping::shown_size))]
 fn bytes_of(shown: Shown) -> usize
     ensures { result ≡ shown_size shown }
 {
     match shown {
-        Shown::Fork {
-            value: _,
-            yes: _,
-            no: _,
-        } => 6,
-        Shown::Get {
-            variable: _,
-            array: _,
-            index: _,
-        } => 10,
-        Shown::Put {
-            array: _,
-            index: _,
-            value: _,
-        } => 10,
+        Shown::Fork { .. } => 6,
+        Shown::Get { .. } | Shown::Put { .. } => 10,
     }
 }
 
 // A shown step that fits, if its observation has room.
+#[tactic(auto, unfolding(crate::specs::Stepping::show_step))]
 fn show_step(
     room: usize,
     state: MachineState,
     shown: Shown,
     change: Change,
-    used: u32,
-    size: usize,
-) -> Next
-    requires { Steppable state used size 0 × (state.shown ≤ room) }
-    ensures { result ≡ show_step room state shown change used size }
+    consumed: Consumed,
+) -> Result<Next, End>
+    requires { Steppable state consumed 0 × (state.shown ≤ room) }
+    ensures { result ≡ show_step room state shown change consumed }
 {
     let bytes = bytes_of(shown);
     if room - state.shown < bytes {
-        return Next::Over { end: End::Full };
+        return Err(End::Full);
     }
-    Next::Goes {
+    Ok(Next::Goes {
         change,
-        seen: Seen::Observed { shown },
-        state: state.stepped(change, state.flag, state.saved, used, size, bytes),
-    }
+        seen: Some(shown),
+        state: state.stepped(change, state.flag, state.saved, consumed, bytes),
+    })
 }
 
-// The next step of a board. The five ends are checked in their order.
-pub fn next_step(
-    table: &[u8],
-    index: &[u16],
-    starts: &[u16],
-    directives: &[u8],
-    board: Board,
-    variables: &[u8],
-    cells: &[u8],
-    pending: &[u8],
-    room: usize,
-    budget: u32,
-    state: MachineState,
-) -> Next
-    requires { Between table.now index.now starts.now directives.now budget room state (memory_at variables.now cells.now pending.now) }
-    ensures { NextAs table.now directives.now board budget room state
-        (memory_at variables.now cells.now pending.now) result }
+// The next step of a board, or why the run is over. The five ends are checked in their order, before anything of the step has happened.
+pub fn next_step(run: &Run, memory: &View, state: MachineState) -> Result<Next, End>
+    requires { Between run.now.places run.now.directives.now run.now.budget run.now.room state (memory_seen memory.now) }
+    ensures { NextAs run.now.places run.now.directives.now run.now.board run.now.budget run.now.room state (memory_seen memory.now) result }
 {
-    if rollback_next(directives, board, state.at) {
-        return back_step(room, budget, state);
+    let room = run.room;
+    if rollback_next(run.directives, run.board, state.at) {
+        return back_step(room, run.budget, state);
     }
     let count = state.pending;
     if count == 0 {
-        return Next::Over { end: End::Finished };
+        return Err(End::Finished);
     }
+    let budget = run.budget;
     if budget <= state.steps {
-        return Next::Over { end: End::Spent };
+        return Err(End::Spent);
     }
-    let n = whole_u32(pending, 4 * (count - 1)) as usize;
-    let action = look_at(table, index, variables, n);
-    match action {
-        Action::Quiet { change } => Next::Goes {
+    let n = whole_u32(memory.pending, 4 * (count - 1)) as usize;
+    let values = Values {
+        table: run.places.table(),
+        variables: memory.variables,
+    };
+    match look_at(&values, n) {
+        Action::Quiet(change) => Ok(Next::Goes {
             change,
-            seen: Seen::Nothing,
+            seen: None,
             state: state.stepped_silently(change),
-        },
-        Action::Show { shown } => {
-            let Guided::By {
+        }),
+        Action::Show(shown) => {
+            let guided = guide(run.directives, run.board, state.at).ok_or(End::OutOfDirectives)?;
+            let Guided {
                 directive,
-                size,
-                used,
-            } = guide(directives, board, state.at)
-            else {
-                return Next::Over {
-                    end: End::OutOfDirectives,
-                };
-            };
-            let fit = fitting(starts, cells, state.flag, shown, directive);
-            match fit {
-                Fit::Unfit => Next::Over { end: End::Stuck },
-                Fit::Forced {
-                    value,
-                    right,
-                    wrong,
-                } => force_step(board, room, state, shown, value, right, wrong, used, size),
-                Fit::Goes { change } => show_step(room, state, shown, change, used, size),
+                consumed,
+            } = guided;
+            let fit = fitting(&run.places, memory.cells, state.flag, shown, directive);
+            match fit.ok_or(End::Stuck)? {
+                Fit::Forces(forced) => force_step(run.board, room, state, shown, forced, consumed),
+                Fit::Goes(change) => show_step(room, state, shown, change, consumed),
             }
         }
     }

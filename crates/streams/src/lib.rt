@@ -8,9 +8,9 @@ ghost use Rattle.std.specs.Io.KnownBytes.{Consumes, IsAtEnd};
 use std::io;
 use std::io::Read;
 
-// Reads until the buffer is full or the input ends, and answers how many bytes it put at the start of the buffer. These are the bytes that the input gave,
-// in order; fewer than the buffer holds are all that there were. Where a read fails, what was read before stands at the start of the buffer. On an empty
-// buffer it makes no call.
+// Reads until the buffer is full or the input ends, and answers how many bytes it put at the start of the buffer. These are the bytes that the input
+// gave, in order; fewer than the buffer holds are all that there were. Where a read fails, what was read before stands at the start of the buffer. On
+// an empty buffer it makes no call.
 pub fn read_full<R: Read>(input: &mut R, buffer: &mut [u8]) -> io::Result<usize>
     ensures bound { ReadsAtMost result buffer.new }
     ensures bytes { IfOk result (λ n. Consumes (R.remaining input.old) (R.remaining input.new)
@@ -20,6 +20,7 @@ pub fn read_full<R: Read>(input: &mut R, buffer: &mut [u8]) -> io::Result<usize>
         (take n buffer.new)) }
 {
     let mut done = 0;
+    // no iterator goes on by as many bytes as a read gives
     while done < buffer.len() {
         let count = input.read(&mut buffer[done..])?;
         if count == 0 {

@@ -2,21 +2,20 @@
 use Prim.Native.Nat.{ℕ, ◌+◌, ◌<◌}
 use native.Mathlib.Decide.{ℕ_discrete}
 use native.Mathlib.Omega.{arith}
-use denote.Enum.Declared.{tag_of}
-use types.Run.{OneOf, miss}
 use mathlib.Core.List.Memᴰ
 use mathlib.Core.List.{List, [], ◌∷◌, flat_map, Memᴰ}
 use mathlib.Core.Logic.{◌⊎◌, inl, inr, ⊎_elim}
 use mathlib.Core.Path.{◌≡◌, refl, sym, ap, ◌∙◌}
 use lib.ListN.{length, get_or, set, length-set}
 use lib.Seq.{get_or-set_same, get_or-set_other}
-use Rattle.bytes_le.proofs.Numbers.{Below}
 use Rattle.awhile.specs.Nodes.{form, sort_of}
 use Rattle.awhile.specs.declared.Node.{Node}
-use Rattle.awhile.specs.contracts.Node.{the_type}
+use Rattle.awhile.specs.declared.Node.TheVariants.{Assign, If, While, Read, Write}
 use Rattle.awhile.specs.declared.Labelling.{Labelling}
 use Rattle.awhile.specs.declared.Sort.TheVariants.{Numeric, Truth, Command}
-use Rattle.reader.specs.Index.{node_in, numeric_in, truth_in, OfSort}
+use Rattle.reader.specs.Admitted.{Admitted}
+use Rattle.reader.specs.Index.{node_in, numeric_in, truth_in, HasSort}
+use Rattle.reader.proofs.Admitted.{offsets_in, bytes, indexed}
 use Rattle.reader.proofs.Index.{indexed_numeric, indexed_truth}
 use Rattle.labels.specs.Labellings.{label_of_a, label_of_b}
 use Rattle.variables.specs.Variables.{variables_of_a, variables_of_b, variables_of, meet}
@@ -25,14 +24,22 @@ use Rattle.variables.proofs.MaskMeets.{label_meets_a, label_meets_b}
 use Rattle.reader.proofs.NodeKinds.{command_kinds}
 
 -- ---- the variables of a node by its sort
-module _ {table index : List ℕ} (bytes : Below 256 table) {n : ℕ} where
-  pub numeric_named : OfSort table index Numeric n → named_at table n ≡ variables_of_a (numeric_in table n)
+module _ {table : List ℕ} (admitted : Admitted table) {n : ℕ} where
+  pub numeric_named : HasSort table Numeric n → named_at table n ≡ variables_of_a (numeric_in table n)
   unfolding variables_of
-  numeric_named h = ap variables_of (indexed_numeric table index bytes h.indexed n h.inside h.is_sort)
+  numeric_named h = ap variables_of (indexed_numeric table (offsets_in table) (bytes admitted) (indexed admitted) n h.inside h.is_sort)
 
-  pub truth_named : OfSort table index Truth n → named_at table n ≡ variables_of_b (truth_in table n)
+  pub truth_named : HasSort table Truth n → named_at table n ≡ variables_of_b (truth_in table n)
   unfolding variables_of
-  truth_named h = ap variables_of (indexed_truth table index bytes h.indexed n h.inside h.is_sort)
+  truth_named h = ap variables_of (indexed_truth table (offsets_in table) (bytes admitted) (indexed admitted) n h.inside h.is_sort)
+
+  -- what the code stores there is noted
+  module _ {r : ℕ} (before : List ℕ) where
+    pub numeric_stored : HasSort table Numeric n → r ≡ variables_of_a (numeric_in table n) → set before n r ≡ set before n (named_at table n)
+    numeric_stored h e = ap (set before n) (e ∙ sym (numeric_named h))
+
+    pub truth_stored : HasSort table Truth n → r ≡ variables_of_b (truth_in table n) → set before n r ≡ set before n (named_at table n)
+    truth_stored h e = ap (set before n) (e ∙ sym (truth_named h))
 
 -- ---- one expression noted
 module _ (table : List ℕ) (e : ℕ) (before : List ℕ) (inside : e < length before) where
@@ -98,30 +105,29 @@ module _ {table : List ℕ} {n : ℕ} {before : List ℕ} (h : NamedBelow table 
       go k e less sort m (no p) = h.at k e (omega arith) sort m
 
 -- ---- labels by what is noted
-module _ {table index named : List ℕ} (bytes : Below 256 table) (names : Named table named) {n : ℕ} (command : OfSort table index Command n) (l : Labelling) {e : ℕ}
+module _ {table named : List ℕ} (admitted : Admitted table) (names : Named table named) {n : ℕ} (command : HasSort table Command n) (l : Labelling) {e : ℕ}
     (held : Memᴰ e (expressions_of (node_in table n))) where
   -- the label of a number that a command holds
-  pub numeric_label : OfSort table index Numeric e → meet l.variables (get_or named e 0) ≡ label_of_a l (numeric_in table e)
+  pub numeric_label : HasSort table Numeric e → meet l.variables (get_or named e 0) ≡ label_of_a l (numeric_in table e)
   numeric_label h =
-      ap (meet l.variables) (names.all.at n e command.inside command.is_sort held ∙ numeric_named bytes h) ∙ sym (label_meets_a l (numeric_in table e))
+      ap (meet l.variables) (names.all.at n e command.inside command.is_sort held ∙ numeric_named admitted h) ∙ sym (label_meets_a l (numeric_in table e))
 
   -- the label of a truth that it holds
-  pub truth_label : OfSort table index Truth e → meet l.variables (get_or named e 0) ≡ label_of_b l (truth_in table e)
+  pub truth_label : HasSort table Truth e → meet l.variables (get_or named e 0) ≡ label_of_b l (truth_in table e)
   truth_label h =
-      ap (meet l.variables) (names.all.at n e command.inside command.is_sort held ∙ truth_named bytes h) ∙ sym (label_meets_b l (truth_in table e))
+      ap (meet l.variables) (names.all.at n e command.inside command.is_sort held ∙ truth_named admitted h) ∙ sym (label_meets_b l (truth_in table e))
 
--- ---- the kinds of commands that hold no expression
-abbrev pub holds_none : List ℕ
-holds_none = 0 ∷ 1 ∷ 2 ∷ 3 ∷ 4 ∷ 5 ∷ 6 ∷ 7 ∷ 8 ∷ 9 ∷ 10 ∷ 11 ∷ 13 ∷ []
-
-pub none_held : (m : Node) → sort_of m ≡ Command → OneOf holds_none (tag_of the_type m) → expressions_of m ≡ []
+-- ---- the commands that hold no expression
+pub none_held : (m : Node) → sort_of m ≡ Command → ((x e : ℕ) → m ≡ Assign x e → ⊥) → ((b c d : ℕ) → m ≡ If b c d → ⊥) → ((b c : ℕ) → m ≡ While b c → ⊥)
+    → ((x a i : ℕ) → m ≡ Read x a i → ⊥) → ((a i e : ℕ) → m ≡ Write a i e → ⊥) → expressions_of m ≡ []
 unfolding expressions_of field_expressions expression_of form flat_map
-none_held =
-    command_kinds (λ m. OneOf holds_none (tag_of the_type m) → expressions_of m ≡ [])
+none_held m sort assign if while read write =
+    command_kinds (λ k. m ≡ k → expressions_of k ≡ [])
     (λ o. refl)
-    (λ x e o. absurd (miss holds_none 12 tt o))
+    (λ x e o. absurd (assign x e o))
     (λ c d o. refl)
-    (λ b c d o. absurd (miss holds_none 14 tt o))
-    (λ b c o. absurd (miss holds_none 15 tt o))
-    (λ x a i o. absurd (miss holds_none 16 tt o))
-    (λ a i e o. absurd (miss holds_none 17 tt o))
+    (λ b c d o. absurd (if b c d o))
+    (λ b c o. absurd (while b c o))
+    (λ x a i o. absurd (read x a i o))
+    (λ a i e o. absurd (write a i e o))
+    m sort refl

@@ -3,63 +3,49 @@ use Prim.Native.Nat.{ℕ, ◌≤◌, ◌<◌}
 use native.Mathlib.Omega.{arith}
 use mathlib.Core.Bool.{true, false}
 use mathlib.Core.List.{List}
-use mathlib.Core.Path.{◌≡◌, refl, sym, subst, ◌∙◌}
+use mathlib.Core.Path.{◌≡◌, refl, sym, ap, subst, ◌∙◌}
 use lib.ListN.{length}
 use borrow.Author.Tests.{leb-true, le-leb, lt-leb, le-ltb, lt-ltb}
+use Rattle.std.specs.Prelude.{Result, Ok, Err}
 use Rattle.awhile.specs.Refusals.{Answer, refused, got, check, and_then}
-use Rattle.awhile.specs.Tables.{Table, declarations_of, read_table, max_variables}
-use Rattle.awhile.specs.declared.Declarations.{Declarations}
+use Rattle.awhile.specs.Tables.{Table, read_table, max_variables}
 use Rattle.awhile.specs.declared.Refusal.{Refusal}
 use Rattle.awhile.specs.declared.Refusal.TheVariants.{TooManyNodes, NoFreeVariable, BadQuestions}
 use Rattle.awhile.proofs.Accepted.{check_got, then_got}
 use Rattle.labels.specs.Questions.{answerable}
 use Rattle.masks.specs.Hardening.{max_hardened}
-use Rattle.reader.specs.Index.{Indexed, Ready, table_of, nodes_in, Answers as ReaderAnswers}
-use Rattle.reader.specs.declared.Read.{Read}
-use Rattle.reader.specs.declared.Read.TheVariants.{Refused, Accepted}
-use Rattle.reader.proofs.Answering.{refusing}
-use Rattle.reader.proofs.Ready.{ready_nodes, ready_variables}
+use Rattle.reader.specs.Index.{table_of}
 use Rattle.entries.specs.Writing.{asked_in, hardened_in}
-use Rattle.write_entries.specs.Jobs.{wanted, Granted, granted_by, ReadsFor}
+use Rattle.write_entries.specs.Jobs.{wanted, Granted, granted_by}
 use Rattle.write_entries.specs.declared.Job.{Job}
 use Rattle.write_entries.specs.declared.Job.TheVariants.{Sheet, Answers, Hardened}
 
 -- ---- a job's own refusals
-module _ (list : List ℕ) (t : Table) (declared : Declarations) where
-  pub sheet_granted : Accepted declared ≡ granted_by (wanted Sheet list t) declared
+module _ (list : List ℕ) (t : Table) where
+  pub sheet_granted : ◌≡◌ {A = Result (Unit {0}) Refusal} (Ok tt) (granted_by tt (wanted Sheet list t))
   unfolding wanted granted_by
   sheet_granted = refl
 
-  pub list_granted : answerable t list ≡ true → Accepted declared ≡ granted_by (wanted Answers list t) declared
+  pub list_granted : answerable t list ≡ true → ◌≡◌ {A = Result (Unit {0}) Refusal} (Ok tt) (granted_by tt (wanted Answers list t))
   unfolding wanted asked_in check granted_by
   list_granted e = rw e
 
-  pub list_refused : answerable t list ≡ false → Refused BadQuestions ≡ granted_by (wanted Answers list t) declared
+  pub list_refused : answerable t list ≡ false → ◌≡◌ {A = Result (Unit {0}) Refusal} (Err BadQuestions) (granted_by tt (wanted Answers list t))
   unfolding wanted asked_in check granted_by
   list_refused e = rw e
 
-module _ {s index : List ℕ} {declared : Declarations} (ready : Ready s index declared) (list : List ℕ) where
-  abbrev t : Table
-  t = table_of s
-
-  same_nodes : length t.nodes ≡ declared.header.nodes
-  unfolding nodes_in
-  same_nodes = sym (ready_nodes ready)
-
-  pub many_refused : max_hardened < declared.header.nodes → Refused TooManyNodes ≡ granted_by (wanted Hardened list t) declared
+  pub many_refused : max_hardened < length t.nodes → ◌≡◌ {A = Result (Unit {0}) Refusal} (Err TooManyNodes) (granted_by tt (wanted Hardened list t))
   unfolding wanted hardened_in check granted_by
-  many_refused h = rw (lt-leb (length t.nodes) max_hardened (omega (arith, same_nodes)))
+  many_refused h = rw (lt-leb (length t.nodes) max_hardened h)
 
-  module _ (few : declared.header.nodes ≤ max_hardened) where
-    pub none_free_refused : max_variables ≤ declared.header.variables → Refused NoFreeVariable ≡ granted_by (wanted Hardened list t) declared
+  module _ (few : length t.nodes ≤ max_hardened) where
+    pub none_free_refused : max_variables ≤ t.variables → ◌≡◌ {A = Result (Unit {0}) Refusal} (Err NoFreeVariable) (granted_by tt (wanted Hardened list t))
     unfolding wanted hardened_in check granted_by
-    none_free_refused h =
-        rw (le-leb (length t.nodes) max_hardened (omega (arith, same_nodes)), le-ltb t.variables max_variables (omega (arith, ready_variables ready)))
+    none_free_refused h = rw (le-leb (length t.nodes) max_hardened few, le-ltb t.variables max_variables h)
 
-    pub hardened_granted : declared.header.variables < max_variables → Accepted declared ≡ granted_by (wanted Hardened list t) declared
+    pub hardened_granted : t.variables < max_variables → ◌≡◌ {A = Result (Unit {0}) Refusal} (Ok tt) (granted_by tt (wanted Hardened list t))
     unfolding wanted hardened_in check granted_by
-    hardened_granted h =
-        rw (le-leb (length t.nodes) max_hardened (omega (arith, same_nodes)), lt-ltb t.variables max_variables (omega (arith, ready_variables ready)))
+    hardened_granted h = rw (le-leb (length t.nodes) max_hardened few, lt-ltb t.variables max_variables h)
 
 -- ---- a job that is granted
 pub granted_as : {job job' : Job} {list : List ℕ} {t : Table} → job ≡ job' → Granted job list t → Granted job' list t
@@ -75,46 +61,52 @@ module _ (list : List ℕ) (t : Table) where
   granted_few g = leb-true _ _ (check_got _ _ _ _ g.is_wanted).0
 
 -- ---- reading for a job
-module _ (job : Job) (list s index : List ℕ) where
+-- it is granted where its bytes are wanted, and else what stands in their place is the refusal
+module _ {A : Type 0} {x y : A} where
+  pub by_granted : (a : Answer (List ℕ)) → Ok y ≡ granted_by x a → (y ≡ x) × ((bytes : List ℕ) × (a ≡ got bytes))
+  unfolding granted_by
+  by_granted (refused r) e = absurd (let z : ◌≡◌ {A = ℕ} 0 1 = cc in omega arith)
+  by_granted (got bytes) e = (cc, (bytes, refl))
+
+pub by_refused : {A : Type 0} (x : A) {r : Refusal} (a : Answer (List ℕ)) → Err r ≡ granted_by x a → a ≡ refused r
+unfolding granted_by
+by_refused x (refused q) e = cc
+by_refused x (got bytes) e = cc
+
+-- the table that bytes read as
+table_as : (s : List ℕ) (t : Table) → read_table s ≡ got t → table_of s ≡ t
+unfolding table_of
+table_as s t e = rw (e, table_of)
+
+module _ (job : Job) (list s : List ℕ) where
   abbrev asked : Answer (List ℕ)
   asked = and_then (read_table s) (wanted job list)
 
-  pub asked_read : Indexed s index → wanted job list (table_of s) ≡ asked
+  pub asked_read : read_table s ≡ got (table_of s) → wanted job list (table_of s) ≡ asked
   unfolding and_then
-  asked_read i = rw i.reads
+  asked_read reads = rw reads
 
-  -- the reader's refusal, and then the job's own
-  pub reads_refused : (r : Refusal) → ReaderAnswers s index (Refused r) → ReadsFor job s list index (Refused r)
+  -- the reader's refusal comes first
+  pub reader_refuses : {A : Type 0} (x : A) {r : Refusal} → read_table s ≡ refused r → Err r ≡ granted_by x asked
   unfolding and_then granted_by
-  reads_refused r a = record { answers = rw (refusing s index r a); indexes = a.indexes }
+  reader_refuses x e = rw e
 
-  pub reads_ready : {declared : Declarations} {answer : Read} → Ready s index declared → answer ≡ granted_by (wanted job list (table_of s)) declared
-      → ReadsFor job s list index answer
-  reads_ready ready e =
-      record {
-        answers = rw (← asked_read ready.indexed, ready.declares) e;
-        indexes = λ t _. ready.indexed;
-      }
+  module _ (reads : read_table s ≡ got (table_of s)) {A : Type 0} (x : A) where
+    -- then the job's own
+    pub job_refuses : {r : Refusal} → ◌≡◌ {A = Result (Unit {0}) Refusal} (Err r) (granted_by tt (wanted job list (table_of s))) → Err r ≡ granted_by x asked
+    unfolding granted_by
+    job_refuses h = sym (ap (granted_by x) (sym (asked_read reads) ∙ by_refused tt _ h))
+
+    -- and else what it is granted for
+    pub job_grants : {u : Unit {0}} → Ok u ≡ granted_by tt (wanted job list (table_of s)) → Ok x ≡ granted_by x asked
+    unfolding granted_by
+    job_grants h = sym (ap (granted_by x) (sym (asked_read reads) ∙ (by_granted _ h).1.1))
 
   -- what the caller learns
-  by_refused : (a : Answer (List ℕ)) (d : Declarations) (r : Refusal) → Refused r ≡ granted_by a d → a ≡ refused r
-  unfolding granted_by
-  by_refused (refused q) d r e = cc
-  by_refused (got bytes) d r e = cc
-
-  pub refused_for : (r : Refusal) → ReadsFor job s list index (Refused r) → asked ≡ refused r
-  refused_for r h = by_refused asked (declarations_of (table_of s)) r h.answers
-
-  by_granted : (a : Answer (List ℕ)) (d e : Declarations) → Accepted e ≡ granted_by a d → (Q : Type 0) → ((bytes : List ℕ) → a ≡ got bytes → d ≡ e → Q) → Q
-  unfolding granted_by
-  by_granted (refused r) d e h Q next = absurd (let z : ◌≡◌ {A = ℕ} 0 1 = cc in omega arith)
-  by_granted (got bytes) d e h Q next = next bytes refl (cc h)
-
-  pub granted_for : (declared : Declarations) → ReadsFor job s list index (Accepted declared) → Ready s index declared × Granted job list (table_of s)
-  granted_for declared h =
-      by_granted asked (declarations_of (table_of s)) declared h.answers _
-      (λ bytes e same.
-      then_got _ (read_table s) (wanted job list) bytes e
-      (λ t is_table rest.
-      let i = h.indexes t is_table in
-      (record { indexed = i; declares = same }, record { bytes = bytes; is_wanted = asked_read i ∙ e })))
+  pub granted_for : {A : Type 0} {x y : A} → Ok y ≡ granted_by x asked → (y ≡ x) × (read_table s ≡ got (table_of s)) × Granted job list (table_of s)
+  granted_for h =
+      let told = by_granted asked h in
+      then_got _ (read_table s) (wanted job list) told.1.0 told.1.1
+      (λ u is rest.
+      let reads : read_table s ≡ got (table_of s) = is ∙ ap got (sym (table_as s u is)) in
+      (told.0, reads, record { bytes = told.1.0; is_wanted = asked_read reads ∙ told.1.1 }))

@@ -1,25 +1,18 @@
 -- What the functions that write a job's bytes ask of the table and of their memory.
 use Rattle.std.specs.Prelude.{ℕ, ◌≤◌, List, length}
-use Rattle.awhile.specs.declared.Declarations.{Declarations}
-use Rattle.reader.specs.Index.{Ready, nodes_in}
+use Rattle.reader.specs.Index.{table_of, nodes_in}
 use Rattle.analysis.specs.Conditions.{LabelReady, Labelled}
-use Rattle.deciding.specs.Deciding.{Decidable}
-use Rattle.sheets.specs.Rows.{Sheetable}
+use Rattle.analysis.specs.declared.noting.Note.{Note}
+use Rattle.deciding.specs.declared.decisions.Decision.{Decision}
 use Rattle.masks.specs.Hardening.{max_hardened}
 
--- memory for labelling a table that was read, with notes that are all zero; and where it has no more nodes than are hardened, a byte for the decision on each
-pub record LabelMemory (table index named notes decisions : List ℕ) (declared : Declarations) : Type 0 where
-  pub labelling : LabelReady table index named notes declared
+-- memory for labelling a table that was read, with notes that are all blank; and where it has no more nodes than are hardened, room for the decision on each
+pub record LabelMemory (table named : List ℕ) (notes : List Note) (decisions : List Decision) : Type 0 where
+  pub labelling : LabelReady table named notes
   pub room : nodes_in table ≤ max_hardened → nodes_in table ≤ length decisions
 
--- a table that was read, its expressions named, with room for notes: the sheet is the one that the notes say
-pub record SheetReady (table index named notes : List ℕ) (declared : Declarations) : Type 0 where
-  pub ready : Ready table index declared
-  pub sheetable : Sheetable table index named notes
-
--- one that is labelled from its own labels, and has no more nodes than are hardened
-pub record HardenReady (table index named notes decisions : List ℕ) (declared : Declarations) : Type 0 where
-  pub ready : Ready table index declared
-  pub decidable : Decidable table index named notes decisions
-  pub labelled : Labelled table notes declared.labels
+-- a table that is labelled from its own labels, and has no more nodes than are hardened, with room for the decision on each
+pub record HardenReady (table : List ℕ) (notes : List Note) (decisions : List Decision) : Type 0 where
+  pub room : nodes_in table ≤ length decisions
+  pub labelled : Labelled table notes (table_of table).labels
   pub few : nodes_in table ≤ max_hardened

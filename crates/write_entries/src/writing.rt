@@ -7,113 +7,84 @@ ghost use Rattle.labels.specs.Questions.{pairs_in};
 ghost use Rattle.sheets.specs.Rows.{sheet_in};
 ghost use Rattle.questions.specs.Noted.{noted_answers, NotesReach};
 ghost use Rattle.write_entries.specs.Jobs.{wanted, Granted, DoneAs};
-ghost use Rattle.write_entries.specs.Memory.{LabelMemory, SheetReady, HardenReady};
+ghost use Rattle.write_entries.specs.Memory.{LabelMemory, HardenReady};
 
-use crate::{Done, Job};
+use crate::Job;
+use analysis::labelled::Labelled;
+use analysis::noting::Note;
 use analysis::program::label_program;
-use awhile::{Declarations, Labelling, Refusal};
+use awhile::{Labelling, Refusal};
+use deciding::decisions::Decision;
 use deciding::program::decide_all;
 use hardener::tables::{hardened_fits, write_hardened};
 use questions::list::pairs_in;
 use questions::writing::write_answers;
+use reader::accepted::Accepted;
 use sheets::sheet::{sheet_fits, write_sheet};
-use variables::collecting::name_all;
+use variables::named::Expressions;
 
 // The label sheet.
-fn put_sheet(
-    table: &[u8],
-    index: &[u16],
-    named: &[u64],
-    notes: &[u64],
-    declared: Declarations,
-    masks: Labelling,
-    out: &mut [u8],
-) -> Done
-    requires { SheetReady table.now index.now named.now notes.now declared }
-    ensures { DoneAs (got (sheet_in table.now notes.now masks)) out.old out.new result }
+fn put_sheet(labelled: &Labelled, masks: Labelling, out: &mut [u8]) -> Result<usize, Refusal>
+    ensures { DoneAs (got (sheet_in labelled.now.expressions.table.now labelled.now.notes.now masks)) out.old out.new result }
 {
-    let nodes = declared.header.nodes;
-    let version = declared.header.version;
-    let room = out.len();
-    if sheet_fits(table, index, named, notes, version, nodes, room) {
-        let size = write_sheet(table, index, named, notes, version, nodes, masks, &mut *out);
-        return Done::Written { size };
+    if !sheet_fits(labelled, out.len()) {
+        return Err(Refusal::ShortBuffer);
     }
-    Done::Refused {
-        refusal: Refusal::ShortBuffer,
-    }
+    Ok(write_sheet(labelled, masks, &mut *out))
 }
 
 // The answers to a list of questions.
-fn put_answers(notes: &[u64], list: &[u8], out: &mut [u8]) -> Done
+fn put_answers(notes: &[Note], list: &[u8], out: &mut [u8]) -> Result<usize, Refusal>
     requires { NotesReach notes.now list.now (pairs_in list.now) }
     ensures { DoneAs (got (noted_answers notes.now list.now (pairs_in list.now))) out.old out.new result }
 {
     let size = pairs_in(list);
-    if size <= out.len() {
-        write_answers(notes, list, size, &mut *out);
-        return Done::Written { size };
+    if out.len() < size {
+        return Err(Refusal::ShortBuffer);
     }
-    Done::Refused {
-        refusal: Refusal::ShortBuffer,
-    }
+    write_answers(notes, list, size, &mut *out);
+    Ok(size)
 }
 
 // The hardened form, by what is decided on masks.
 fn put_hardened(
-    table: &[u8],
-    index: &[u16],
-    named: &[u64],
-    notes: &[u64],
-    decisions: &mut [u8],
-    declared: Declarations,
+    labelled: &Labelled,
+    decisions: &mut [Decision],
     out: &mut [u8],
-) -> Done
-    requires { HardenReady table.now index.now named.now notes.now decisions.old declared }
-    ensures { DoneAs (got (table_bytes (hardened_table (table_of table.now)))) out.old out.new result }
+) -> Result<usize, Refusal>
+    requires { HardenReady labelled.now.expressions.table.now labelled.now.notes.now decisions.old }
+    ensures { DoneAs (got (table_bytes (hardened_table (table_of labelled.now.expressions.table.now)))) out.old out.new result }
 {
-    let nodes = declared.header.nodes;
-    decide_all(table, index, named, notes, nodes, &mut *decisions);
-    let room = out.len();
-    if hardened_fits(table, index, &*decisions, declared, room) {
-        let size = write_hardened(table, index, &*decisions, declared, &mut *out);
-        return Done::Written { size };
+    let table = labelled.expressions.table;
+    decide_all(labelled, &mut *decisions);
+    if !hardened_fits(table, &*decisions, out.len()) {
+        return Err(Refusal::ShortBuffer);
     }
-    Done::Refused {
-        refusal: Refusal::ShortBuffer,
-    }
+    Ok(write_hardened(table, &*decisions, &mut *out))
 }
 
-// What a job that is granted writes, with notes that are all zero.
+// What a job that is granted writes, with notes that are all blank: by a match, as a job is an enum (`Job`).
 pub fn put_labelled(
     job: Job,
-    table: &[u8],
+    table: &Accepted,
     list: &[u8],
-    index: &[u16],
     named: &mut [u64],
-    notes: &mut [u64],
-    decisions: &mut [u8],
-    declared: Declarations,
+    notes: &mut [Note],
+    decisions: &mut [Decision],
     out: &mut [u8],
-) -> Done
-    requires { LabelMemory table.now index.now named.old notes.old decisions.old declared × Granted job list.now (table_of table.now) }
+) -> Result<usize, Refusal>
+    requires { LabelMemory table.now named.old notes.old decisions.old × Granted job list.now (table_of table.now) }
     ensures { DoneAs (wanted job list.now (table_of table.now)) out.old out.new result }
 {
-    let nodes = declared.header.nodes;
-    let labels = declared.labels;
-    name_all(table, index, nodes, &mut *named);
-    let masks = label_program(table, index, &*named, &mut *notes, nodes, labels);
+    let expressions = Expressions::new(table, &mut *named);
+    let masks = label_program(&expressions, &mut *notes, table.declared().labels);
+    let labelled = Labelled {
+        expressions,
+        notes: &*notes,
+    };
     match job {
-        Job::Sheet => put_sheet(table, index, &*named, &*notes, declared, masks, &mut *out),
-        Job::Answers => put_answers(&*notes, list, &mut *out),
-        Job::Hardened => put_hardened(
-            table,
-            index,
-            &*named,
-            &*notes,
-            &mut *decisions,
-            declared,
-            &mut *out,
-        ),
+        Job::Sheet => put_sheet(&labelled, masks, &mut *out),
+        Job::Answers => put_answers(labelled.notes, list, &mut *out),
+        Job::Hardened => put_hardened(&labelled, &mut *decisions, &mut *out),
     }
 }

@@ -22,7 +22,7 @@ decreases-settle l = 3 * l.body + 3
 
 abbrev pub invariant-settle-loop-next : goal.invariant-settle-loop-next
 invariant-settle-loop-next l =
-    Passing (truth_in l.table l.condition) (command_in l.table l.body) l.context l.initial.masks l.initial.notes l.masks l.notes
+    Passing (truth_in l.expressions.table.now l.condition) (command_in l.expressions.table.now l.body) l.context l.initial.masks l.initial.notes l.masks l.notes
 
 abbrev pub decreases-settle-loop-next : goal.decreases-settle-loop-next
 decreases-settle-loop-next l = public_among (declared_marks 64 16) l.masks

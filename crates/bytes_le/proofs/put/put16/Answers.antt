@@ -1,13 +1,8 @@
--- `put16` stores two bytes.
-use native.Mathlib.Omega.{arith}
-use native.Mathlib.Numerals.{add-one}
-use lib.ListN.{length-set}
-use Rattle.bytes_le.specs.Numbers.{le}
+-- What a number has above its lowest bytes does not count.
+use mathlib.Core.Path.{ap, ◌∙◌}
+use lib.Seq.{sets}
+use Rattle.bytes_le.proofs.Stores.{le_low}
 use Rattle.bytes_le.proofs.put.put16.Goals as goal
 
-pub bounds-out-at-2 : goal.bounds-out-at-2
-bounds-out-at-2 c = simp length-set (omega arith)
-
 pub returns : goal.returns
-unfolding le
-returns c = rw add-one
+returns c = c.store.ensures ∙ ap (sets c.args.out.now c.args.at) (le_low 2 c.args.v)

@@ -1,6 +1,7 @@
 -- `append_record` stores a record in the rest of the slice.
 use Prim.Native.Nat.{◌+◌, ◌-◌, ◌≤◌}
-use mathlib.Core.Path.{refl, ap, ◌∙◌}
+use native.Mathlib.Omega.{arith}
+use mathlib.Core.Path.{ap, ◌∙◌}
 use lib.ListN.{length}
 use borrow.Rule.Slice.PartMut.{put_mid}
 use Rattle.copier.specs.Records.{record_bytes}
@@ -9,14 +10,13 @@ use Rattle.copier.proofs.Parts.{sets_rest}
 use Rattle.copier.proofs.records.append_record.Goals as goal
 
 pub returns : goal.returns
-returns c =
+returns g c =
     let l = c.args.out.now in
-    let at = c.args.bytes in
-    let fields = c.args.fields in
-    let room : at + length (record_bytes fields) ≤ length l = rw record_length c.requires.fields_in_bounds in
-    let put = c.put_record-size.ensures in
+    let at = c.args.so_far.bytes in
+    let bytes = record_bytes c.args.record.kind c.args.record.fields in
+    let room : at + length bytes ≤ length l = omega (arith, c.requires.fits, record_length c.args.record.kind c.args.record.fields) in
     record {
-      stored = ap (put_mid at (length l - at) l) put.0 ∙ sets_rest l at (record_bytes fields) room;
-      nodes_counted = refl;
-      bytes_counted = ap (λ k. at + k) put.1;
+      stored = ap (put_mid at (length l - at) l) c.put_record-bytes.ensures.0 ∙ sets_rest l at bytes room;
+      nodes_counted = c.add.ensures.0;
+      bytes_counted = omega (arith, c.add.ensures.1, c.put_record-bytes.ensures.1);
     }

@@ -1,53 +1,31 @@
 -- `reads`: at every turn the rest of the list reads exactly when the whole list does.
-use Prim.Native.Nat.{◌+◌, ◌≤◌, ◌<◌}
-use native.Mathlib.Omega.{arith}
-use mathlib.Core.Path.{◌≡◌, refl, sym, ◌∙◌}
-use borrow.Author.Tests.{not-true, not-false}
-use lib.ListN.{length, drop}
-use Rattle.directives.specs.Listed.{is_some, read_on}
-use Rattle.directives.proofs.DirectiveLists.{size_some, listed_within}
-use Rattle.directives.proofs.Boards.{on_end, on_taken, on_not_taken, on_refused}
+use Rattle.std.proofs.Common.{◌≤◌, length, sym, ◌∙◌, arith, length-drop, eqb-true, pos_of_ne-zero}
+use borrow.Author.Tests.{eqb-false}
+use Rattle.std.proofs.lemmas.List.{take_rest}
+use Rattle.directives.proofs.DirectiveLists.{size_some, size_within}
+use Rattle.directives.proofs.Boards.{on_end, on_next, on_refused}
 use Rattle.directives.proofs.list.reads.Goals as goal
 
-pub loop-at-init : goal.loop-at-init
-loop-at-init c = (omega arith, refl)
+pub returns-in_default : goal.returns-in_default
+returns-in_default c = sym (on_refused c.args.board _ (pos_of_ne-zero (eqb-false _ 0 (sym c.loop-rest-test.ensures))) c.in_default.ensures) ∙ c.loop-rest.invariant
 
 pub returns-then-not-takes : goal.returns-then-not-takes
-returns-then-not-takes c =
-    sym (on_not_taken _ _ _ c.loop-at-test.true _ c.directive_at-found.ensures _ c.in-One.is _ c.takes.ensures (not-true _ c.if-not-takes.true-raw))
-    ∙ c.loop-at.invariant.1
+returns-then-not-takes c = sym (on_next c.args.board _ _ c.in-Some.ensures ∙ rw (← c.takes.ensures, c.if-not-takes.true)) ∙ c.loop-rest.invariant
 
-pub overflow_add-at : goal.overflow_add-at
-overflow_add-at c =
-    let further : (0 < c.size_of-at.result) × (c.loop-at.at + c.size_of-at.result ≤ length c.args.list.now) = let size = c.size_of-at.ensures in (
-      omega (arith, size_some c.in-One.directive),
-      omega (arith, listed_within _ _ c.loop-at-test.true _ c.directive_at-found.ensures c.in-One.directive c.in-One.is),
-    ) in
-    omega (arith, further.1, c.well_formed)
+pub slice_bounds-rest-count : goal.slice_bounds-rest-count
+slice_bounds-rest-count c = omega (arith, c.size_of.ensures, size_within _ _ c.in-Some.ensures)
 
-pub loop-at-smaller : goal.loop-at-smaller
-loop-at-smaller c =
-    let further : (0 < c.size_of-at.result) × (c.loop-at.at + c.size_of-at.result ≤ length c.args.list.now) = let size = c.size_of-at.ensures in (
-      omega (arith, size_some c.in-One.directive),
-      omega (arith, listed_within _ _ c.loop-at-test.true _ c.directive_at-found.ensures c.in-One.directive c.in-One.is),
-    ) in
-    omega (arith, further.0, further.1)
+pub slice_bounds-rest-start : goal.slice_bounds-rest-start
+slice_bounds-rest-start c = let within : c.size_of.result ≤ length c.loop-rest.rest.now = omega (arith, c.size_of.ensures, size_within _ _ c.in-Some.ensures) in omega arith
 
-pub loop-at-preserved : goal.loop-at-preserved
-loop-at-preserved c =
-    let further : (0 < c.size_of-at.result) × (c.loop-at.at + c.size_of-at.result ≤ length c.args.list.now) = let size = c.size_of-at.ensures in (
-      omega (arith, size_some c.in-One.directive),
-      omega (arith, listed_within _ _ c.loop-at-test.true _ c.directive_at-found.ensures c.in-One.directive c.in-One.is),
-    ) in
-    let rest-reads : is_some (read_on c.args.board (drop (c.loop-at.at + c.size_of-at.result) c.args.list.now)) ≡ is_some (read_on c.args.board c.args.list.now) = rw c.size_of-at.ensures
-    (sym (on_taken _ _ _ c.loop-at-test.true _ c.directive_at-found.ensures _ c.in-One.is _ c.takes.ensures (not-false _ c.if-not-takes.false-raw))
-    ∙ c.loop-at.invariant.1) in
-    (further.1, rest-reads)
+pub loop-rest-smaller : goal.loop-rest-smaller
+loop-rest-smaller c =
+    let within : c.size_of.result ≤ length c.loop-rest.rest.now = omega (arith, c.size_of.ensures, size_within _ _ c.in-Some.ensures) in
+    rw take_rest (omega (arith, length-drop c.size_of.result c.loop-rest.rest.now, c.size_of.ensures, size_some c.in-Some.directive))
 
-pub returns-in-Nothing : goal.returns-in-Nothing
-returns-in-Nothing c =
-    sym (on_refused c.args.board _ _ c.loop-at-test.true _ c.directive_at-found.ensures c.in-Nothing.is)
-    ∙ c.loop-at.invariant.1
+pub loop-rest-preserved : goal.loop-rest-preserved
+loop-rest-preserved c =
+    rw (take_rest, c.size_of.ensures) (sym (on_next c.args.board _ _ c.in-Some.ensures ∙ rw (← c.takes.ensures, c.if-not-takes.false)) ∙ c.loop-rest.invariant)
 
 pub returns : goal.returns
-returns c = sym (on_end c.args.board _ _ c.loop-at-test.false) ∙ c.loop-at.invariant.1
+returns c = sym (on_end c.args.board _ (eqb-true _ 0 (sym c.loop-rest-test.ensures))) ∙ c.loop-rest.invariant

@@ -1,283 +1,140 @@
 -- `node_size` answers the total of a node by its kind, from those of its parts, whose numbers are lower.
-use Prim.Native.Nat.{ℕ, ◌<◌}
+use Prim.Native.Nat.{ℕ}
 use native.Mathlib.Omega.{arith}
-use mathlib.Core.Path.{◌≡◌, refl, sym, ap, ◌∙◌}
-use lib.ListN.{length}
-use Rattle.bytes_le.proofs.Numbers.{Below, slice_bytes}
+use mathlib.Core.Path.{◌≡◌, refl, sym, ◌∙◌}
 use Rattle.awhile.specs.Nodes.{form, sort_of}
 use Rattle.awhile.specs.declared.Node.{Node}
-use Rattle.awhile.specs.declared.Sort.TheVariants.{Numeric, Truth, Command}
-use Rattle.reader.specs.Index.{numeric_in, truth_in}
+use Rattle.awhile.specs.declared.Sort.{Sort}
+use Rattle.reader.specs.Index.{node_in}
 use Rattle.reader.proofs.Index.{Child, Parts}
-use Rattle.reader.proofs.NodeKinds.{node_parts}
-use Rattle.masking.specs.InMemory.{hardened_at}
-use Rattle.copier.specs.Totals.{total_of, HasTotal, NumericTotal, TruthTotal}
-use Rattle.copier.proofs.NodeTotals.{total_number, total_variable, total_add, total_subtract, total_multiply, total_choice, numeric_as}
-use Rattle.copier.proofs.NodeTotals.{total_constant, total_equal, total_less, total_not, total_and, truth_as}
-use Rattle.hardener.specs.Sizes.{NodeSize}
-use Rattle.hardener.proofs.PartSizes.{part_a, part_b, holds_a, holds_b, holds_c, numeric_sized, truth_sized, command_sized}
+use Rattle.reader.proofs.Admitted.{parts}
+use Rattle.copier.specs.Totals.{HasTotal}
+use Rattle.copier.proofs.NodeTotals.{total_number, total_choice, numeric_as, total_not, truth_as}
+use Rattle.hardener.proofs.CommandWrites.{own}
+use Rattle.hardener.proofs.PartSizes.{added_small, each_one, each_two, each_three, part_a, part_b, holds, expressions_held, expressions_sized, single_sized, numeric_sized, truth_sized, command_sized}
 use Rattle.hardener.proofs.PartSizes.{skip_sized, assign_sized, sequence_sized, if_sized, while_sized, read_sized, write_sized}
 use Rattle.hardener.proofs.sizes.node_size.Goals as goal
+use Rattle.hardener.proofs.sizes.node_size.Goals.{After-node}
 
-pub over_two-requires : goal.over_two-requires
-unfolding sort_of form
-over_two-requires c =
-    let bytes : Below 256 c.args.table.now = slice_bytes c.args.table.now c.shared_slice_known-1.given in
-    let parts : (m : Node) → c.node_at-node.result ≡ m → Parts c.args.table.now c.args.n m = node_parts bytes c.requires.0.indexed c.requires.1 c.node_at-node.ensures in
-    let held-A : (e : ℕ) → Child c.args.table.now Numeric c.args.n e → HasTotal c.args.totals.now e = λ e h. holds_a c.requires.2 bytes c.requires.0 h in
-    let p = parts _ c.in-Add.is in (held-A _ p.0, held-A _ p.1)
+-- the node, its parts and their totals
+module _ (c : After-node) where
+  is : {m : Node} → c.node.result ≡ m → node_in c.args.table.now c.args.n ≡ m
+  is e = sym c.node.ensures.value ∙ e
 
-pub over_two-requires-in-Subtract : goal.over_two-requires-in-Subtract
-unfolding sort_of form
-over_two-requires-in-Subtract c =
-    let bytes : Below 256 c.args.table.now = slice_bytes c.args.table.now c.shared_slice_known-1.given in
-    let parts : (m : Node) → c.node_at-node.result ≡ m → Parts c.args.table.now c.args.n m = node_parts bytes c.requires.0.indexed c.requires.1 c.node_at-node.ensures in
-    let held-A : (e : ℕ) → Child c.args.table.now Numeric c.args.n e → HasTotal c.args.totals.now e = λ e h. holds_a c.requires.2 bytes c.requires.0 h in
-    let p = parts _ c.in-Subtract.is in (held-A _ p.0, held-A _ p.1)
+  of : (m : Node) → c.node.result ≡ m → Parts c.args.table.now c.args.n m
+  of = parts c.node.ensures.admitted c.requires.1 c.node.ensures.value
 
-pub over_two-requires-in-Multiply : goal.over_two-requires-in-Multiply
-unfolding sort_of form
-over_two-requires-in-Multiply c =
-    let bytes : Below 256 c.args.table.now = slice_bytes c.args.table.now c.shared_slice_known-1.given in
-    let parts : (m : Node) → c.node_at-node.result ≡ m → Parts c.args.table.now c.args.n m = node_parts bytes c.requires.0.indexed c.requires.1 c.node_at-node.ensures in
-    let held-A : (e : ℕ) → Child c.args.table.now Numeric c.args.n e → HasTotal c.args.totals.now e = λ e h. holds_a c.requires.2 bytes c.requires.0 h in
-    let p = parts _ c.in-Multiply.is in (held-A _ p.0, held-A _ p.1)
+  held : {s : Sort} {e : ℕ} → Child c.args.table.now s c.args.n e → HasTotal c.args.totals.now e
+  held = holds c.requires.2 c.node.ensures.admitted c.requires.0
 
-pub over_three-requires : goal.over_three-requires
-unfolding sort_of form
-over_three-requires c =
-    let bytes : Below 256 c.args.table.now = slice_bytes c.args.table.now c.shared_slice_known-1.given in
-    let parts : (m : Node) → c.node_at-node.result ≡ m → Parts c.args.table.now c.args.n m = node_parts bytes c.requires.0.indexed c.requires.1 c.node_at-node.ensures in
-    let held-A : (e : ℕ) → Child c.args.table.now Numeric c.args.n e → HasTotal c.args.totals.now e = λ e h. holds_a c.requires.2 bytes c.requires.0 h in
-    let held-B : (b : ℕ) → Child c.args.table.now Truth c.args.n b → HasTotal c.args.totals.now b = λ b h. holds_b c.requires.2 bytes c.requires.0 h in
-    let p = parts _ c.in-Choice.is in (held-B _ p.0, held-A _ p.1, held-A _ p.2)
+pub over-requires-in-Add : goal.over-requires-in-Add
+over-requires-in-Add c = (omega arith, (omega arith, expressions_held c.requires.2 c.node.ensures.value (of (goal.at.over-requires-in-Add c).After-node) c.node.ensures.admitted c.requires.0 c.in-Add.is))
 
-pub over_two-requires-in-Equal : goal.over_two-requires-in-Equal
-unfolding sort_of form
-over_two-requires-in-Equal c =
-    let bytes : Below 256 c.args.table.now = slice_bytes c.args.table.now c.shared_slice_known-1.given in
-    let parts : (m : Node) → c.node_at-node.result ≡ m → Parts c.args.table.now c.args.n m = node_parts bytes c.requires.0.indexed c.requires.1 c.node_at-node.ensures in
-    let held-A : (e : ℕ) → Child c.args.table.now Numeric c.args.n e → HasTotal c.args.totals.now e = λ e h. holds_a c.requires.2 bytes c.requires.0 h in
-    let p = parts _ c.in-Equal.is in (held-A _ p.0, held-A _ p.1)
+pub returns-in-Add : goal.returns-in-Add
+returns-in-Add c = expressions_sized c.requires.2 c.node.ensures.value (of (goal.at.returns-in-Add c).After-node) c.in-Add.is c.over-in-Add.ensures
 
-pub over_two-requires-in-Less : goal.over_two-requires-in-Less
-unfolding sort_of form
-over_two-requires-in-Less c =
-    let bytes : Below 256 c.args.table.now = slice_bytes c.args.table.now c.shared_slice_known-1.given in
-    let parts : (m : Node) → c.node_at-node.result ≡ m → Parts c.args.table.now c.args.n m = node_parts bytes c.requires.0.indexed c.requires.1 c.node_at-node.ensures in
-    let held-A : (e : ℕ) → Child c.args.table.now Numeric c.args.n e → HasTotal c.args.totals.now e = λ e h. holds_a c.requires.2 bytes c.requires.0 h in
-    let p = parts _ c.in-Less.is in (held-A _ p.0, held-A _ p.1)
+pub returns-in-Variable : goal.returns-in-Variable
+returns-in-Variable c = single_sized c.requires.2 c.node.ensures.value (of (goal.at.returns-in-Variable c).After-node) c.in-Variable.is
 
-pub over_one-requires : goal.over_one-requires
+pub returns-in-If : goal.returns-in-If
 unfolding sort_of form
-over_one-requires c =
-    let bytes : Below 256 c.args.table.now = slice_bytes c.args.table.now c.shared_slice_known-1.given in
-    let parts : (m : Node) → c.node_at-node.result ≡ m → Parts c.args.table.now c.args.n m = node_parts bytes c.requires.0.indexed c.requires.1 c.node_at-node.ensures in
-    let held-B : (b : ℕ) → Child c.args.table.now Truth c.args.n b → HasTotal c.args.totals.now b = λ b h. holds_b c.requires.2 bytes c.requires.0 h in
-    held-B _ (parts _ c.in-Not.is).0
+returns-in-If c = let at = (goal.at.returns-in-If c).After-node in command_sized (is at c.in-If.is) refl (if_sized c.requires.2 _ _ _ (of at _ c.in-If.is) c.guarded_size.ensures)
 
-pub over_two-requires-in-And : goal.over_two-requires-in-And
-unfolding sort_of form
-over_two-requires-in-And c =
-    let bytes : Below 256 c.args.table.now = slice_bytes c.args.table.now c.shared_slice_known-1.given in
-    let parts : (m : Node) → c.node_at-node.result ≡ m → Parts c.args.table.now c.args.n m = node_parts bytes c.requires.0.indexed c.requires.1 c.node_at-node.ensures in
-    let held-B : (b : ℕ) → Child c.args.table.now Truth c.args.n b → HasTotal c.args.totals.now b = λ b h. holds_b c.requires.2 bytes c.requires.0 h in
-    let p = parts _ c.in-And.is in (held-B _ p.0, held-B _ p.1)
+pub guarded_size-requires : goal.guarded_size-requires
+guarded_size-requires c =
+    let at = (goal.at.guarded_size-requires c).After-node in
+    let p = of at _ c.in-If.is in
+    (omega arith, (omega arith, (held at p.0, each_two (held at p.1) (held at p.2))))
 
-pub assign_size-requires : goal.assign_size-requires
-unfolding sort_of form
-assign_size-requires c =
-    let bytes : Below 256 c.args.table.now = slice_bytes c.args.table.now c.shared_slice_known-1.given in
-    let parts : (m : Node) → c.node_at-node.result ≡ m → Parts c.args.table.now c.args.n m = node_parts bytes c.requires.0.indexed c.requires.1 c.node_at-node.ensures in
-    let held-A : (e : ℕ) → Child c.args.table.now Numeric c.args.n e → HasTotal c.args.totals.now e = λ e h. holds_a c.requires.2 bytes c.requires.0 h in
-    held-A _ (parts _ c.in-Assign.is).1
+pub over-requires : goal.over-requires
+over-requires c = let at = (goal.at.over-requires c).After-node in (omega arith, (omega arith, each_one (held at (of at _ c.in-Not.is).0)))
 
-pub over_two-requires-in-Sequence : goal.over_two-requires-in-Sequence
-unfolding sort_of form
-over_two-requires-in-Sequence c =
-    let bytes : Below 256 c.args.table.now = slice_bytes c.args.table.now c.shared_slice_known-1.given in
-    let parts : (m : Node) → c.node_at-node.result ≡ m → Parts c.args.table.now c.args.n m = node_parts bytes c.requires.0.indexed c.requires.1 c.node_at-node.ensures in
-    let held-C : (k : ℕ) → Child c.args.table.now Command c.args.n k → HasTotal c.args.totals.now k = λ k h. holds_c c.requires.2 bytes c.requires.0 h in
-    let p = parts _ c.in-Sequence.is in (held-C _ p.0, held-C _ p.1)
+pub over-requires-in-Sequence : goal.over-requires-in-Sequence
+over-requires-in-Sequence c =
+    let at = (goal.at.over-requires-in-Sequence c).After-node in
+    let p = of at _ c.in-Sequence.is in
+    (omega arith, (omega arith, each_two (held at p.0) (held at p.1)))
 
-pub if_size-requires : goal.if_size-requires
-unfolding sort_of form
-if_size-requires c =
-    let bytes : Below 256 c.args.table.now = slice_bytes c.args.table.now c.shared_slice_known-1.given in
-    let parts : (m : Node) → c.node_at-node.result ≡ m → Parts c.args.table.now c.args.n m = node_parts bytes c.requires.0.indexed c.requires.1 c.node_at-node.ensures in
-    let held-B : (b : ℕ) → Child c.args.table.now Truth c.args.n b → HasTotal c.args.totals.now b = λ b h. holds_b c.requires.2 bytes c.requires.0 h in
-    let held-C : (k : ℕ) → Child c.args.table.now Command c.args.n k → HasTotal c.args.totals.now k = λ k h. holds_c c.requires.2 bytes c.requires.0 h in
-    let decided : c.args.n < length c.args.decisions.now = omega (arith, c.requires.1, c.requires.0.room) in
-    let p = parts _ c.in-If.is in (decided, held-B _ p.0, held-C _ p.1, held-C _ p.2)
+pub over-requires-in-Choice : goal.over-requires-in-Choice
+over-requires-in-Choice c =
+    let at = (goal.at.over-requires-in-Choice c).After-node in
+    let p = of at _ c.in-Choice.is in
+    (omega arith, (omega arith, each_three (held at p.0) (held at p.1) (held at p.2)))
 
-pub while_size-requires : goal.while_size-requires
-unfolding sort_of form
-while_size-requires c =
-    let bytes : Below 256 c.args.table.now = slice_bytes c.args.table.now c.shared_slice_known-1.given in
-    let parts : (m : Node) → c.node_at-node.result ≡ m → Parts c.args.table.now c.args.n m = node_parts bytes c.requires.0.indexed c.requires.1 c.node_at-node.ensures in
-    let held-B : (b : ℕ) → Child c.args.table.now Truth c.args.n b → HasTotal c.args.totals.now b = λ b h. holds_b c.requires.2 bytes c.requires.0 h in
-    let held-C : (k : ℕ) → Child c.args.table.now Command c.args.n k → HasTotal c.args.totals.now k = λ k h. holds_c c.requires.2 bytes c.requires.0 h in
-    let decided : c.args.n < length c.args.decisions.now = omega (arith, c.requires.1, c.requires.0.room) in
-    let p = parts _ c.in-While.is in (decided, held-B _ p.0, held-C _ p.1)
+pub offset_bounds-totals-value : goal.offset_bounds-totals-value
+offset_bounds-totals-value c = let at = (goal.at.offset_bounds-totals-value c).After-node in
+    let p = (of at _ c.in-Assign.is).1 in omega (arith, p.inside, c.requires.0.few)
 
-pub read_size-requires : goal.read_size-requires
-unfolding sort_of form
-read_size-requires c =
-    let bytes : Below 256 c.args.table.now = slice_bytes c.args.table.now c.shared_slice_known-1.given in
-    let parts : (m : Node) → c.node_at-node.result ≡ m → Parts c.args.table.now c.args.n m = node_parts bytes c.requires.0.indexed c.requires.1 c.node_at-node.ensures in
-    let held-A : (e : ℕ) → Child c.args.table.now Numeric c.args.n e → HasTotal c.args.totals.now e = λ e h. holds_a c.requires.2 bytes c.requires.0 h in
-    let decided : c.args.n < length c.args.decisions.now = omega (arith, c.requires.1, c.requires.0.room) in
-    (decided, held-A _ (parts _ c.in-Read.is).2)
+pub bounds-totals-value : goal.bounds-totals-value
+bounds-totals-value c = let at = (goal.at.bounds-totals-value c).After-node in (held at (of at _ c.in-Assign.is).1).inside
 
-pub write_size-requires : goal.write_size-requires
-unfolding sort_of form
-write_size-requires c =
-    let bytes : Below 256 c.args.table.now = slice_bytes c.args.table.now c.shared_slice_known-1.given in
-    let parts : (m : Node) → c.node_at-node.result ≡ m → Parts c.args.table.now c.args.n m = node_parts bytes c.requires.0.indexed c.requires.1 c.node_at-node.ensures in
-    let held-A : (e : ℕ) → Child c.args.table.now Numeric c.args.n e → HasTotal c.args.totals.now e = λ e h. holds_a c.requires.2 bytes c.requires.0 h in
-    let decided : c.args.n < length c.args.decisions.now = omega (arith, c.requires.1, c.requires.0.room) in
-    let p = parts _ c.in-Write.is in (decided, held-A _ p.1, held-A _ p.2)
+pub more-requires : goal.more-requires
+more-requires c = let at = (goal.at.more-requires c).After-node in omega (arith, (held at (of at _ c.in-Assign.is).1).small)
+
+pub guarded_size-requires-in-While : goal.guarded_size-requires-in-While
+guarded_size-requires-in-While c =
+    let at = (goal.at.guarded_size-requires-in-While c).After-node in
+    let p = of at _ c.in-While.is in
+    (omega arith, (omega arith, (held at p.0, each_one (held at p.1))))
+
+pub access_size-requires : goal.access_size-requires
+access_size-requires c =
+    let at = (goal.at.access_size-requires c).After-node in
+    (held at (of at _ c.in-Read.is).2, omega (arith, c.added.ensures, added_small (own c.args.decisions.now c.args.n).value 524350))
+
+pub offset_bounds-totals-value-in-Write : goal.offset_bounds-totals-value-in-Write
+offset_bounds-totals-value-in-Write c = let at = (goal.at.offset_bounds-totals-value-in-Write c).After-node in
+    let p = (of at _ c.in-Write.is).2 in omega (arith, p.inside, c.requires.0.few)
+
+pub bounds-totals-value-in-Write : goal.bounds-totals-value-in-Write
+bounds-totals-value-in-Write c = let at = (goal.at.bounds-totals-value-in-Write c).After-node in (held at (of at _ c.in-Write.is).2).inside
+
+pub access_size-requires-in-Write : goal.access_size-requires-in-Write
+access_size-requires-in-Write c =
+    let at = (goal.at.access_size-requires-in-Write c).After-node in
+    let p = of at _ c.in-Write.is in
+    (held at p.1, (held at p.2).small)
 
 pub returns-in-Number : goal.returns-in-Number
 unfolding sort_of form
-returns-in-Number c =
-    let bytes : Below 256 c.args.table.now = slice_bytes c.args.table.now c.shared_slice_known-1.given in
-    let parts : (m : Node) → c.node_at-node.result ≡ m → Parts c.args.table.now c.args.n m = node_parts bytes c.requires.0.indexed c.requires.1 c.node_at-node.ensures in
-    let numeric : (m : Node) (is : c.node_at-node.result ≡ m) (r : ℕ) → sort_of m ≡ Numeric → NumericTotal (numeric_in c.args.table.now c.args.n) r → NodeSize c.args.table.now c.args.decisions.now c.args.n r = λ m is r s t. numeric_sized (ap sort_of (sym c.node_at-node.ensures ∙ is) ∙ s) t in
-    numeric _ c.in-Number.is _ refl (numeric_as (parts _ c.in-Number.is) (total_number _))
-
-pub returns-in-Variable : goal.returns-in-Variable
-unfolding sort_of form
-returns-in-Variable c =
-    let bytes : Below 256 c.args.table.now = slice_bytes c.args.table.now c.shared_slice_known-1.given in
-    let parts : (m : Node) → c.node_at-node.result ≡ m → Parts c.args.table.now c.args.n m = node_parts bytes c.requires.0.indexed c.requires.1 c.node_at-node.ensures in
-    let numeric : (m : Node) (is : c.node_at-node.result ≡ m) (r : ℕ) → sort_of m ≡ Numeric → NumericTotal (numeric_in c.args.table.now c.args.n) r → NodeSize c.args.table.now c.args.decisions.now c.args.n r = λ m is r s t. numeric_sized (ap sort_of (sym c.node_at-node.ensures ∙ is) ∙ s) t in
-    numeric _ c.in-Variable.is _ refl (numeric_as (parts _ c.in-Variable.is).1 (total_variable _))
-
-pub returns-in-Add : goal.returns-in-Add
-unfolding sort_of form
-returns-in-Add c =
-    let bytes : Below 256 c.args.table.now = slice_bytes c.args.table.now c.shared_slice_known-1.given in
-    let parts : (m : Node) → c.node_at-node.result ≡ m → Parts c.args.table.now c.args.n m = node_parts bytes c.requires.0.indexed c.requires.1 c.node_at-node.ensures in
-    let numeric : (m : Node) (is : c.node_at-node.result ≡ m) (r : ℕ) → sort_of m ≡ Numeric → NumericTotal (numeric_in c.args.table.now c.args.n) r → NodeSize c.args.table.now c.args.decisions.now c.args.n r = λ m is r s t. numeric_sized (ap sort_of (sym c.node_at-node.ensures ∙ is) ∙ s) t in
-    let p = parts _ c.in-Add.is in numeric _ c.in-Add.is _ refl (numeric_as p.2 (total_add (part_a c.requires.2 p.0) (part_a c.requires.2 p.1) c.over_two.ensures))
-
-pub returns-in-Subtract : goal.returns-in-Subtract
-unfolding sort_of form
-returns-in-Subtract c =
-    let bytes : Below 256 c.args.table.now = slice_bytes c.args.table.now c.shared_slice_known-1.given in
-    let parts : (m : Node) → c.node_at-node.result ≡ m → Parts c.args.table.now c.args.n m = node_parts bytes c.requires.0.indexed c.requires.1 c.node_at-node.ensures in
-    let numeric : (m : Node) (is : c.node_at-node.result ≡ m) (r : ℕ) → sort_of m ≡ Numeric → NumericTotal (numeric_in c.args.table.now c.args.n) r → NodeSize c.args.table.now c.args.decisions.now c.args.n r = λ m is r s t. numeric_sized (ap sort_of (sym c.node_at-node.ensures ∙ is) ∙ s) t in
-    let p = parts _ c.in-Subtract.is in numeric _ c.in-Subtract.is _ refl (numeric_as p.2 (total_subtract (part_a c.requires.2 p.0) (part_a c.requires.2 p.1) c.over_two-in-Subtract.ensures))
-
-pub returns-in-Multiply : goal.returns-in-Multiply
-unfolding sort_of form
-returns-in-Multiply c =
-    let bytes : Below 256 c.args.table.now = slice_bytes c.args.table.now c.shared_slice_known-1.given in
-    let parts : (m : Node) → c.node_at-node.result ≡ m → Parts c.args.table.now c.args.n m = node_parts bytes c.requires.0.indexed c.requires.1 c.node_at-node.ensures in
-    let numeric : (m : Node) (is : c.node_at-node.result ≡ m) (r : ℕ) → sort_of m ≡ Numeric → NumericTotal (numeric_in c.args.table.now c.args.n) r → NodeSize c.args.table.now c.args.decisions.now c.args.n r = λ m is r s t. numeric_sized (ap sort_of (sym c.node_at-node.ensures ∙ is) ∙ s) t in
-    let p = parts _ c.in-Multiply.is in numeric _ c.in-Multiply.is _ refl (numeric_as p.2 (total_multiply (part_a c.requires.2 p.0) (part_a c.requires.2 p.1) c.over_two-in-Multiply.ensures))
-
-pub returns-in-Choice : goal.returns-in-Choice
-unfolding sort_of form
-returns-in-Choice c =
-    let bytes : Below 256 c.args.table.now = slice_bytes c.args.table.now c.shared_slice_known-1.given in
-    let parts : (m : Node) → c.node_at-node.result ≡ m → Parts c.args.table.now c.args.n m = node_parts bytes c.requires.0.indexed c.requires.1 c.node_at-node.ensures in
-    let numeric : (m : Node) (is : c.node_at-node.result ≡ m) (r : ℕ) → sort_of m ≡ Numeric → NumericTotal (numeric_in c.args.table.now c.args.n) r → NodeSize c.args.table.now c.args.decisions.now c.args.n r = λ m is r s t. numeric_sized (ap sort_of (sym c.node_at-node.ensures ∙ is) ∙ s) t in
-    let p = parts _ c.in-Choice.is in numeric _ c.in-Choice.is _ refl (numeric_as p.3 (total_choice (part_b c.requires.2 p.0) (part_a c.requires.2 p.1) (part_a c.requires.2 p.2) c.over_three.ensures))
-
-pub returns-in-Constant : goal.returns-in-Constant
-unfolding sort_of form
-returns-in-Constant c =
-    let bytes : Below 256 c.args.table.now = slice_bytes c.args.table.now c.shared_slice_known-1.given in
-    let parts : (m : Node) → c.node_at-node.result ≡ m → Parts c.args.table.now c.args.n m = node_parts bytes c.requires.0.indexed c.requires.1 c.node_at-node.ensures in
-    let truth : (m : Node) (is : c.node_at-node.result ≡ m) (r : ℕ) → sort_of m ≡ Truth → TruthTotal (truth_in c.args.table.now c.args.n) r → NodeSize c.args.table.now c.args.decisions.now c.args.n r = λ m is r s t. truth_sized (ap sort_of (sym c.node_at-node.ensures ∙ is) ∙ s) t in
-    truth _ c.in-Constant.is _ refl (truth_as (parts _ c.in-Constant.is).1 (total_constant _))
-
-pub returns-in-Equal : goal.returns-in-Equal
-unfolding sort_of form
-returns-in-Equal c =
-    let bytes : Below 256 c.args.table.now = slice_bytes c.args.table.now c.shared_slice_known-1.given in
-    let parts : (m : Node) → c.node_at-node.result ≡ m → Parts c.args.table.now c.args.n m = node_parts bytes c.requires.0.indexed c.requires.1 c.node_at-node.ensures in
-    let truth : (m : Node) (is : c.node_at-node.result ≡ m) (r : ℕ) → sort_of m ≡ Truth → TruthTotal (truth_in c.args.table.now c.args.n) r → NodeSize c.args.table.now c.args.decisions.now c.args.n r = λ m is r s t. truth_sized (ap sort_of (sym c.node_at-node.ensures ∙ is) ∙ s) t in
-    let p = parts _ c.in-Equal.is in truth _ c.in-Equal.is _ refl (truth_as p.2 (total_equal (part_a c.requires.2 p.0) (part_a c.requires.2 p.1) c.over_two-in-Equal.ensures))
-
-pub returns-in-Less : goal.returns-in-Less
-unfolding sort_of form
-returns-in-Less c =
-    let bytes : Below 256 c.args.table.now = slice_bytes c.args.table.now c.shared_slice_known-1.given in
-    let parts : (m : Node) → c.node_at-node.result ≡ m → Parts c.args.table.now c.args.n m = node_parts bytes c.requires.0.indexed c.requires.1 c.node_at-node.ensures in
-    let truth : (m : Node) (is : c.node_at-node.result ≡ m) (r : ℕ) → sort_of m ≡ Truth → TruthTotal (truth_in c.args.table.now c.args.n) r → NodeSize c.args.table.now c.args.decisions.now c.args.n r = λ m is r s t. truth_sized (ap sort_of (sym c.node_at-node.ensures ∙ is) ∙ s) t in
-    let p = parts _ c.in-Less.is in truth _ c.in-Less.is _ refl (truth_as p.2 (total_less (part_a c.requires.2 p.0) (part_a c.requires.2 p.1) c.over_two-in-Less.ensures))
+returns-in-Number c = let at = (goal.at.returns-in-Number c).After-node in numeric_sized (is at c.in-Number.is) refl (numeric_as (of at _ c.in-Number.is) (total_number _))
 
 pub returns-in-Not : goal.returns-in-Not
 unfolding sort_of form
 returns-in-Not c =
-    let bytes : Below 256 c.args.table.now = slice_bytes c.args.table.now c.shared_slice_known-1.given in
-    let parts : (m : Node) → c.node_at-node.result ≡ m → Parts c.args.table.now c.args.n m = node_parts bytes c.requires.0.indexed c.requires.1 c.node_at-node.ensures in
-    let truth : (m : Node) (is : c.node_at-node.result ≡ m) (r : ℕ) → sort_of m ≡ Truth → TruthTotal (truth_in c.args.table.now c.args.n) r → NodeSize c.args.table.now c.args.decisions.now c.args.n r = λ m is r s t. truth_sized (ap sort_of (sym c.node_at-node.ensures ∙ is) ∙ s) t in
-    let p = parts _ c.in-Not.is in truth _ c.in-Not.is _ refl (truth_as p.1 (total_not (part_b c.requires.2 p.0) c.over_one.ensures))
+    let at = (goal.at.returns-in-Not c).After-node in
+    let p = of at _ c.in-Not.is in
+    truth_sized (is at c.in-Not.is) refl (truth_as p.1 (total_not (part_b c.requires.2 p.0) c.over.ensures))
 
-pub returns-in-And : goal.returns-in-And
+pub returns-in-Choice : goal.returns-in-Choice
 unfolding sort_of form
-returns-in-And c =
-    let bytes : Below 256 c.args.table.now = slice_bytes c.args.table.now c.shared_slice_known-1.given in
-    let parts : (m : Node) → c.node_at-node.result ≡ m → Parts c.args.table.now c.args.n m = node_parts bytes c.requires.0.indexed c.requires.1 c.node_at-node.ensures in
-    let truth : (m : Node) (is : c.node_at-node.result ≡ m) (r : ℕ) → sort_of m ≡ Truth → TruthTotal (truth_in c.args.table.now c.args.n) r → NodeSize c.args.table.now c.args.decisions.now c.args.n r = λ m is r s t. truth_sized (ap sort_of (sym c.node_at-node.ensures ∙ is) ∙ s) t in
-    let p = parts _ c.in-And.is in truth _ c.in-And.is _ refl (truth_as p.2 (total_and (part_b c.requires.2 p.0) (part_b c.requires.2 p.1) c.over_two-in-And.ensures))
+returns-in-Choice c =
+    let at = (goal.at.returns-in-Choice c).After-node in
+    let p = of at _ c.in-Choice.is in
+    numeric_sized (is at c.in-Choice.is) refl (numeric_as p.3 (total_choice (part_b c.requires.2 p.0) (part_a c.requires.2 p.1) (part_a c.requires.2 p.2) c.over-in-Choice.ensures))
 
 pub returns-in-Skip : goal.returns-in-Skip
 unfolding sort_of form
-returns-in-Skip c =
-    let bytes : Below 256 c.args.table.now = slice_bytes c.args.table.now c.shared_slice_known-1.given in
-    let parts : (m : Node) → c.node_at-node.result ≡ m → Parts c.args.table.now c.args.n m = node_parts bytes c.requires.0.indexed c.requires.1 c.node_at-node.ensures in
-    let command : (m : Node) (is : c.node_at-node.result ≡ m) (r : ℕ) → sort_of m ≡ Command → r ≡ total_of (hardened_at c.args.table.now c.args.decisions.now 0 c.args.n) → NodeSize c.args.table.now c.args.decisions.now c.args.n r = λ m is r s t. command_sized (ap sort_of (sym c.node_at-node.ensures ∙ is) ∙ s) t in
-    command _ c.in-Skip.is _ refl (skip_sized _ _ _ (parts _ c.in-Skip.is))
+returns-in-Skip c = let at = (goal.at.returns-in-Skip c).After-node in command_sized (is at c.in-Skip.is) refl (skip_sized _ _ _ (of at _ c.in-Skip.is))
 
 pub returns-in-Assign : goal.returns-in-Assign
 unfolding sort_of form
-returns-in-Assign c =
-    let bytes : Below 256 c.args.table.now = slice_bytes c.args.table.now c.shared_slice_known-1.given in
-    let parts : (m : Node) → c.node_at-node.result ≡ m → Parts c.args.table.now c.args.n m = node_parts bytes c.requires.0.indexed c.requires.1 c.node_at-node.ensures in
-    let command : (m : Node) (is : c.node_at-node.result ≡ m) (r : ℕ) → sort_of m ≡ Command → r ≡ total_of (hardened_at c.args.table.now c.args.decisions.now 0 c.args.n) → NodeSize c.args.table.now c.args.decisions.now c.args.n r = λ m is r s t. command_sized (ap sort_of (sym c.node_at-node.ensures ∙ is) ∙ s) t in
-    command _ c.in-Assign.is _ refl (assign_sized c.requires.2 _ _ (parts _ c.in-Assign.is) c.assign_size.ensures)
+returns-in-Assign c = let at = (goal.at.returns-in-Assign c).After-node in command_sized (is at c.in-Assign.is) refl (assign_sized c.requires.2 _ _ (of at _ c.in-Assign.is) c.more.ensures)
 
 pub returns-in-Sequence : goal.returns-in-Sequence
 unfolding sort_of form
-returns-in-Sequence c =
-    let bytes : Below 256 c.args.table.now = slice_bytes c.args.table.now c.shared_slice_known-1.given in
-    let parts : (m : Node) → c.node_at-node.result ≡ m → Parts c.args.table.now c.args.n m = node_parts bytes c.requires.0.indexed c.requires.1 c.node_at-node.ensures in
-    let command : (m : Node) (is : c.node_at-node.result ≡ m) (r : ℕ) → sort_of m ≡ Command → r ≡ total_of (hardened_at c.args.table.now c.args.decisions.now 0 c.args.n) → NodeSize c.args.table.now c.args.decisions.now c.args.n r = λ m is r s t. command_sized (ap sort_of (sym c.node_at-node.ensures ∙ is) ∙ s) t in
-    command _ c.in-Sequence.is _ refl (sequence_sized c.requires.2 _ _ (parts _ c.in-Sequence.is) c.over_two-in-Sequence.ensures)
-
-pub returns-in-If : goal.returns-in-If
-unfolding sort_of form
-returns-in-If c =
-    let bytes : Below 256 c.args.table.now = slice_bytes c.args.table.now c.shared_slice_known-1.given in
-    let parts : (m : Node) → c.node_at-node.result ≡ m → Parts c.args.table.now c.args.n m = node_parts bytes c.requires.0.indexed c.requires.1 c.node_at-node.ensures in
-    let command : (m : Node) (is : c.node_at-node.result ≡ m) (r : ℕ) → sort_of m ≡ Command → r ≡ total_of (hardened_at c.args.table.now c.args.decisions.now 0 c.args.n) → NodeSize c.args.table.now c.args.decisions.now c.args.n r = λ m is r s t. command_sized (ap sort_of (sym c.node_at-node.ensures ∙ is) ∙ s) t in
-    command _ c.in-If.is _ refl (if_sized c.requires.2 _ _ _ (parts _ c.in-If.is) c.if_size.ensures)
+returns-in-Sequence c = let at = (goal.at.returns-in-Sequence c).After-node in command_sized (is at c.in-Sequence.is) refl (sequence_sized c.requires.2 _ _ (of at _ c.in-Sequence.is) c.over-in-Sequence.ensures)
 
 pub returns-in-While : goal.returns-in-While
 unfolding sort_of form
-returns-in-While c =
-    let bytes : Below 256 c.args.table.now = slice_bytes c.args.table.now c.shared_slice_known-1.given in
-    let parts : (m : Node) → c.node_at-node.result ≡ m → Parts c.args.table.now c.args.n m = node_parts bytes c.requires.0.indexed c.requires.1 c.node_at-node.ensures in
-    let command : (m : Node) (is : c.node_at-node.result ≡ m) (r : ℕ) → sort_of m ≡ Command → r ≡ total_of (hardened_at c.args.table.now c.args.decisions.now 0 c.args.n) → NodeSize c.args.table.now c.args.decisions.now c.args.n r = λ m is r s t. command_sized (ap sort_of (sym c.node_at-node.ensures ∙ is) ∙ s) t in
-    command _ c.in-While.is _ refl (while_sized c.requires.2 _ _ (parts _ c.in-While.is) c.while_size.ensures)
+returns-in-While c = let at = (goal.at.returns-in-While c).After-node in command_sized (is at c.in-While.is) refl (while_sized c.requires.2 _ _ (of at _ c.in-While.is) c.guarded_size-in-While.ensures)
 
 pub returns-in-Read : goal.returns-in-Read
 unfolding sort_of form
 returns-in-Read c =
-    let bytes : Below 256 c.args.table.now = slice_bytes c.args.table.now c.shared_slice_known-1.given in
-    let parts : (m : Node) → c.node_at-node.result ≡ m → Parts c.args.table.now c.args.n m = node_parts bytes c.requires.0.indexed c.requires.1 c.node_at-node.ensures in
-    let command : (m : Node) (is : c.node_at-node.result ≡ m) (r : ℕ) → sort_of m ≡ Command → r ≡ total_of (hardened_at c.args.table.now c.args.decisions.now 0 c.args.n) → NodeSize c.args.table.now c.args.decisions.now c.args.n r = λ m is r s t. command_sized (ap sort_of (sym c.node_at-node.ensures ∙ is) ∙ s) t in
-    command _ c.in-Read.is _ refl (read_sized c.requires.2 _ _ _ (parts _ c.in-Read.is) c.read_size.ensures)
+    let at = (goal.at.returns-in-Read c).After-node in
+    command_sized (is at c.in-Read.is) refl (read_sized c.requires.2 _ _ _ (of at _ c.in-Read.is) (omega (arith, c.added.ensures, c.access_size.ensures)))
 
 pub returns-in-Write : goal.returns-in-Write
 unfolding sort_of form
-returns-in-Write c =
-    let bytes : Below 256 c.args.table.now = slice_bytes c.args.table.now c.shared_slice_known-1.given in
-    let parts : (m : Node) → c.node_at-node.result ≡ m → Parts c.args.table.now c.args.n m = node_parts bytes c.requires.0.indexed c.requires.1 c.node_at-node.ensures in
-    let command : (m : Node) (is : c.node_at-node.result ≡ m) (r : ℕ) → sort_of m ≡ Command → r ≡ total_of (hardened_at c.args.table.now c.args.decisions.now 0 c.args.n) → NodeSize c.args.table.now c.args.decisions.now c.args.n r = λ m is r s t. command_sized (ap sort_of (sym c.node_at-node.ensures ∙ is) ∙ s) t in
-    command _ c.in-Write.is _ refl (write_sized c.requires.2 _ _ _ (parts _ c.in-Write.is) c.write_size.ensures)
+returns-in-Write c = let at = (goal.at.returns-in-Write c).After-node in command_sized (is at c.in-Write.is) refl (write_sized c.requires.2 _ _ _ (of at _ c.in-Write.is) c.access_size-in-Write.ensures)

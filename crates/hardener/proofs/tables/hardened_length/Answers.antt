@@ -1,68 +1,27 @@
 -- `hardened_length` reads the table's length off its root's total.
+use Prim.Native.Nat.{ℕ, ◌-◌}
 use native.Mathlib.Omega.{arith}
-use mathlib.Core.Path.{◌≡◌, ap}
-use Rattle.awhile.specs.Tables.{nodes_start}
-use Rattle.awhile.specs.declared.Header.{Header}
-use Rattle.awhile.proofs.Versions.{mask_most}
-use Rattle.hardener.specs.Output.{hardened_header}
-use Rattle.bytes_le.proofs.Numbers.{Below, slice_bytes}
-use Rattle.reader.proofs.Ready.{ready_nodes}
-use Rattle.hardener.proofs.TableWrites.{measured_some, measured_nodes, measured_arrays, measured_sizable, measured_variables, measured_total, measured_short}
+use mathlib.Core.Path.{refl, ap}
+use lib.ListN.{get_or}
+use Rattle.reader.specs.Index.{nodes_in}
+use Rattle.copier.specs.Totals.{bytes_told}
+use Rattle.hardener.proofs.TableWrites.{measured_some, measured_total, start_small}
 use Rattle.hardener.proofs.tables.hardened_length.Goals as goal
 
-pub size_all-requires : goal.size_all-requires
-size_all-requires c =
-    let pre = c.requires in
-    (measured_sizable (slice_bytes _ c.shared_slice_known-1.given) pre, ready_nodes pre.ready, omega (arith, pre.few))
-
-pub hardened_header-requires : goal.hardened_header-requires
-hardened_header-requires c = measured_variables (slice_bytes _ c.shared_slice_known-1.given) c.requires
-
-pub nodes_start-requires : goal.nodes_start-requires
-nodes_start-requires c =
-    let bytes : Below 256 c.args.table.now = slice_bytes _ c.shared_slice_known-1.given in
-    omega (arith, measured_arrays bytes c.requires, ap (λ (x : Header). x.arrays) c.hardened_header.ensures)
-
-pub overflow_sub-header : goal.overflow_sub-header
-overflow_sub-header c =
-    let bytes : Below 256 c.args.table.now = slice_bytes _ c.shared_slice_known-1.given in
-    measured_some bytes c.requires
-
-pub offset_bounds-totals-header : goal.offset_bounds-totals-header
-offset_bounds-totals-header c =
-    let bytes : Below 256 c.args.table.now = slice_bytes _ c.shared_slice_known-1.given in
-    omega (arith, measured_nodes bytes c.requires)
-
-pub bounds-totals-header : goal.bounds-totals-header
-bounds-totals-header c =
-    let bytes : Below 256 c.args.table.now = slice_bytes _ c.shared_slice_known-1.given in
-    omega (arith, measured_some bytes c.requires, measured_nodes bytes c.requires)
+pub overflow_sub-count : goal.overflow_sub-count
+unfolding nodes_in
+overflow_sub-count c = omega (arith, c.count.ensures.value, measured_some c.count.ensures.admitted refl)
 
 pub overflow_add-result : goal.overflow_add-result
-overflow_add-result c =
-    let bytes : Below 256 c.args.table.now = slice_bytes _ c.shared_slice_known-1.given in
-    let starts-at : nodes_start c.hardened_header.result ≡ nodes_start (hardened_header c.args.declared.header 0) = ap nodes_start c.hardened_header.ensures in
-    let pre = c.requires in
-    omega (
-      arith,
-      c.nodes_start.ensures,
-      starts-at,
-      c.bytes_told.ensures,
-      measured_total bytes pre c.size_all.ensures,
-      measured_short bytes pre,
-      measured_nodes bytes pre,
-      measured_arrays bytes pre,
-      mask_most (hardened_header c.args.declared.header 0).version,
-    )
+overflow_add-result c = omega (arith, c.hardened_start.ensures.start, c.bytes_told.ensures, start_small c.count.ensures.admitted refl)
 
 pub returns : goal.returns
+unfolding nodes_in
 returns c =
-    let bytes : Below 256 c.args.table.now = slice_bytes _ c.shared_slice_known-1.given in
-    let starts-at : nodes_start c.hardened_header.result ≡ nodes_start (hardened_header c.args.declared.header 0) = ap nodes_start c.hardened_header.ensures in
     omega (
       arith,
-      c.nodes_start.ensures,
-      starts-at,
+      c.hardened_start.ensures.start,
       c.bytes_told.ensures,
-      measured_total bytes c.requires c.size_all.ensures,
+      ap (λ (n : ℕ). bytes_told (get_or c.size_all.new.totals (n - 1) 0)) c.count.ensures.value,
+      measured_total c.count.ensures.admitted refl c.requires c.size_all.ensures,
     )

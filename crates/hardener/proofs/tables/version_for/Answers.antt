@@ -1,16 +1,17 @@
 -- `version_for` makes two tests.
+use mathlib.Core.Logic.{inl, inr}
 use borrow.Author.Tests.{eq-eqb, ne_eqb}
 use Rattle.masks.specs.Hardening.{version_for}
 use Rattle.hardener.proofs.tables.version_for.Goals as goal
 
-pub returns-then-version-eq2 : goal.returns-then-version-eq2
-unfolding version_for
-returns-then-version-eq2 c = rw (eq-eqb _ 2 c.if-version-eq2.true)
-
 pub returns-then-variables-eq33 : goal.returns-then-variables-eq33
 unfolding version_for
-returns-then-variables-eq33 c = rw (ne_eqb _ 2 c.if-version-eq2.false, eq-eqb _ 33 c.if-variables-eq33.true)
+returns-then-variables-eq33 c =
+    elim c.if-variables-eq33.either [
+      | inl e ↦ rw (eq-eqb _ 2 e)
+      | inr e ↦ rw (ne_eqb _ 2 e.0, eq-eqb _ 33 e.1)
+    ]
 
-pub returns : goal.returns
+pub returns-else-variables-eq33 : goal.returns-else-variables-eq33
 unfolding version_for
-returns c = rw (ne_eqb _ 2 c.if-version-eq2.false, ne_eqb _ 33 c.if-variables-eq33.false)
+returns-else-variables-eq33 c = let none = c.if-variables-eq33.false in rw (ne_eqb _ 2 none.0, ne_eqb _ 33 none.1)

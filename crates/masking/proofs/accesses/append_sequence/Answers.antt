@@ -7,7 +7,9 @@ use Rattle.masking.proofs.accesses.append_sequence.Goals as goal
 
 pub append-requires : goal.append-requires
 unfolding size_of form field_size sum
-append-requires c = record { node_in_bounds = omega (arith, c.both-parts.ensures.bytes_add, c.requires.bytes_in_bounds); nodes_bound = omega (arith, c.both-parts.ensures.nodes_add, c.requires.few.0.few_nodes) }
+append-requires c =
+    let size = c.both-parts.ensures in
+    record { fits = omega (arith, size.bytes_add, c.requires.bytes_in_bounds); countable = omega (arith, size.nodes_add, c.requires.few.0.few_nodes) }
 
 pub returns : goal.returns
 returns c = appended_pair c.both-parts.ensures c.append.ensures

@@ -8,9 +8,9 @@ use Rattle.masking.proofs.Masking.{counted_test}
 use Rattle.masking.proofs.masked.put_guard.Goals as goal
 
 pub append-requires : goal.append-requires
-unfolding guard_nodes size_of form field_size sum
-append-requires c = let asked = room_parent 8 c.put_test-test.ensures (counted_test _ _ _) c.requires (omega arith) (omega arith) in record { node_in_bounds = asked.0; nodes_bound = asked.1 }
+unfolding size_of form field_size sum
+append-requires c = room_parent 8 c.put_test-test.ensures (counted_test _ _ _) c.requires (omega arith) (omega arith)
 
 pub returns : goal.returns
-unfolding guard_nodes size_of form field_size sum
+unfolding guard_nodes
 returns c = wrote_parent c.put_test-test.ensures c.append.ensures

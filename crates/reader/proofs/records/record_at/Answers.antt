@@ -1,31 +1,21 @@
 -- `record_at` reads the record that is due.
-use mathlib.Core.Path.{refl}
 use Rattle.awhile.proofs.Accepted.{header_fits}
 use Rattle.awhile.proofs.Versions.{variables_most}
-use Rattle.reader.proofs.Turns.{header_ready, labels_ready, header_turn, labels_turn, never_done}
+use Rattle.reader.proofs.Turns.{header_ready, labels_ready, header_turn, labels_turn}
 use Rattle.reader.proofs.records.record_at.Goals as goal
-
-pub header_due-requires : goal.header_due-requires
-header_due-requires c = let w = c.requires in (header_ready _ _ _ _ _ w.0 c.in-Header.is).here
 
 pub labels_due-requires : goal.labels_due-requires
 labels_due-requires c =
-    let k = labels_ready _ _ _ _ _ c.requires.0 c.in-Labels.is in
+    let k = labels_ready _ _ _ _ _ c.requires.1 c.requires.0 c.in-Labels.is in
     let f = header_fits _ c.args.progress.declared.header k.is_header in
     (k.here, variables_most _ _ f.variables_fit, f.arrays_fit, c.requires.1)
 
 pub returns-in-Header : goal.returns-in-Header
 returns-in-Header c =
     let w = c.requires in
-    header_turn _ _ _ _ _ w.1 (header_ready _ _ _ _ _ w.0 c.in-Header.is) _ refl _ c.header_due.ensures
+    header_turn _ _ _ _ _ w.1 (header_ready _ _ _ _ _ w.1 w.0 c.in-Header.is) _ c.header_due.ensures
 
 pub returns-in-Labels : goal.returns-in-Labels
 returns-in-Labels c =
     let w = c.requires in
-    labels_turn _ _ _ _ _ w.1 (labels_ready _ _ _ _ _ w.0 c.in-Labels.is) _ refl _ c.labels_due.ensures
-
--- an answer is there only where no record is left
-pub returns-in-Done : goal.returns-in-Done
-returns-in-Done c =
-    let w = c.requires in
-    absurd (never_done _ _ _ _ _ _ c.in-Done.is w.1 w.0)
+    labels_turn _ _ _ _ _ w.1 (labels_ready _ _ _ _ _ w.1 w.0 c.in-Labels.is) _ c.labels_due.ensures

@@ -1,40 +1,24 @@
 -- `read_header` tests the frame, then the fields.
-use mathlib.Core.Bool.{Bool, true, false}
-use mathlib.Core.Path.{◌≡◌, sym, ◌∙◌}
-use Rattle.awhile.specs.Refusals.{got, check}
-use Rattle.awhile.specs.Tables.{read_header}
-use Rattle.record.specs.RecordRead.{header_as}
+use mathlib.Core.Bool.{true, false}
+use mathlib.Core.Path.{sym, ◌∙◌}
+use Rattle.std.proofs.lemmas.Result.{err_from_is_err_and}
+use Rattle.awhile.specs.Refusals.{as_result, check}
 use Rattle.record.proofs.Declaring.{header_refused, header_tested}
-use Rattle.awhile.specs.declared.Header.{Header}
-use Rattle.awhile.specs.declared.Refusal.TheVariants.{BeyondLimit}
 use Rattle.record.proofs.declarations.read_header.Goals as goal
 
-pub returns-in-Refused : goal.returns-in-Refused
-unfolding header_as check
-returns-in-Refused c = header_refused _ _ c.requires _ (sym c.frame_of_kind.ensures ∙ c.in-Refused.is)
+pub returns-in_err-frame_of_kind : goal.returns-in_err-frame_of_kind
+returns-in_err-frame_of_kind c =
+    let p = err_from_is_err_and c.from_residual.result c.from_residual.ensures.1 in
+    rw (p.1, p.2) (header_refused _ _ c.requires _ (sym c.frame_of_kind.ensures ∙ c.in_err-frame_of_kind.was))
 
-pub returns-then-within_limits : goal.returns-then-within_limits
-unfolding header_as check
-returns-then-within_limits c =
-    let fields : Header = record {
-      version = c.u16_at-version.result;
-      variables = c.byte_at-variables.result;
-      arrays = c.byte_at-arrays.result;
-      nodes = c.u16_at-nodes.result;
-    } in
-    let tested : (b : Bool) → c.within_limits.result ≡ b → header_as (check b (BeyondLimit c.args.at) (got fields)) ≡ header_as (read_header c.args.table.now) = λ b e. header_tested _ _ c.requires _ _ _ _ b (sym c.frame_of_kind.ensures ∙ c.in_default.is) c.u16_at-version.ensures.0
-    c.byte_at-variables.ensures.0 c.byte_at-arrays.ensures.0 c.u16_at-nodes.ensures.0 (sym e ∙ c.within_limits.ensures) in
-    tested true c.if-within_limits.true
+pub returns-then-not-within_limits : goal.returns-then-not-within_limits
+unfolding as_result check
+returns-then-not-within_limits c =
+    header_tested _ _ c.requires _ _ _ _ false (sym c.frame_of_kind.ensures ∙ c.in_ok-frame_of_kind.was) c.u16_at.ensures.0
+    c.byte_at.ensures.0 c.byte_at-2.ensures.0 c.u16_at-2.ensures.0 (sym c.if-not-within_limits.true ∙ c.within_limits.ensures)
 
 pub returns : goal.returns
-unfolding header_as check
+unfolding as_result check
 returns c =
-    let fields : Header = record {
-      version = c.u16_at-version.result;
-      variables = c.byte_at-variables.result;
-      arrays = c.byte_at-arrays.result;
-      nodes = c.u16_at-nodes.result;
-    } in
-    let tested : (b : Bool) → c.within_limits.result ≡ b → header_as (check b (BeyondLimit c.args.at) (got fields)) ≡ header_as (read_header c.args.table.now) = λ b e. header_tested _ _ c.requires _ _ _ _ b (sym c.frame_of_kind.ensures ∙ c.in_default.is) c.u16_at-version.ensures.0
-    c.byte_at-variables.ensures.0 c.byte_at-arrays.ensures.0 c.u16_at-nodes.ensures.0 (sym e ∙ c.within_limits.ensures) in
-    tested false c.if-within_limits.false
+    header_tested _ _ c.requires _ _ _ _ true (sym c.frame_of_kind.ensures ∙ c.in_ok-frame_of_kind.was) c.u16_at.ensures.0
+    c.byte_at.ensures.0 c.byte_at-2.ensures.0 c.u16_at-2.ensures.0 (sym c.if-not-within_limits.false ∙ c.within_limits.ensures)

@@ -1,8 +1,8 @@
 -- `run_guessing` promises what `guess_entry` defines: the table is read and run under the directives.
 use Rattle.run_entries.proofs.Promises.{guess_promise}
+use mathlib.Core.Path.{refl}
+use borrow.Author.Rules.{rules}
 use Rattle.run_entries.proofs.machines.run_guessing.Goals as goal
 
 pub returns : goal.returns
-returns c =
-    let done = c.run_in-done in
-    guess_promise _ _ _ _ _ _ _ _ _ done.result _ c.answer_done.ensures done.ensures
+returns c = guess_promise c.run_on.ensures.ran (search rules) (search rules) (search rules) (search rules) refl

@@ -1,31 +1,31 @@
 -- `run_in` runs a table in its class where that holds it, and otherwise in a larger one: at each call fewer classes are larger.
-use Prim.Native.Nat.{◌<◌}
-use mathlib.Core.Bool.{true, false, not}
-use mathlib.Core.Path.{◌≡◌, sym, ap, subst, ◌∙◌}
-use borrow.Author.Tests.{not-true, not-false}
+use Prim.Native.Nat.{ℕ}
+use mathlib.Core.List.{List}
+use mathlib.Core.Bool.{true}
+use mathlib.Core.Path.{◌≡◌, sym, subst}
 use native.Mathlib.Omega.{arith}
-use Rattle.reader.specs.Classes.{RoomFor, class_nodes, next_class, larger_classes}
+use Rattle.reader.specs.Classes.{RoomFor, class_nodes, holds_table}
 use Rattle.reader.specs.declared.classes.Class.{Class}
 use Rattle.reader.proofs.Rooms.{held_room, larger_next}
 use Rattle.run_entries.proofs.memory.+run_in.Goals as goal
 
+-- the room of the class that the table's header asks for
+held_as : {class variant : Class} {table : List ℕ} → class ≡ variant → true ≡ holds_table class table → RoomFor table (class_nodes variant)
+held_as {class} {variant} {table} is held = subst (λ x. RoomFor table (class_nodes x)) is (held_room class table (sym held))
+
 pub run_in-requires : goal.run_in-requires
 run_in-requires t c =
-    let fewer-larger : (next : Class) → not c.holds.result ≡ true → next ≡ next_class c.args.class → larger_classes next < t = λ next taken is_next. let less = larger_next c.args.class c.args.table.now (sym c.holds.ensures ∙ not-true _ taken) in
-    omega (arith, less, ap larger_classes is_next, c.decreases) in
-    (fewer-larger _ c.if-not-holds.true-raw c.next.ensures, c.requires)
+    let less = larger_next c.args.class c.args.table.now (sym c.if-not-holds.ensures) in
+    (rw c.next.ensures (omega (arith, less, c.decreases)), c.requires)
 
-pub run_small-requires : goal.run_small-requires
-run_small-requires t c =
-    let room : (variant : Class) → not c.holds.result ≡ false → c.args.class ≡ variant → RoomFor c.args.table.now (class_nodes variant) = λ variant left e. subst (λ x. RoomFor c.args.table.now (class_nodes x)) e (held_room c.args.class c.args.table.now (sym c.holds.ensures ∙ not-false _ left)) in
-    room _ c.if-not-holds.false-raw c.in-Small.is
+pub run_sized-requires : goal.run_sized-requires
+unfolding class_nodes
+run_sized-requires t c = (held_as c.in-Small.is c.if-not-holds.ensures, omega arith)
 
-pub run_medium-requires : goal.run_medium-requires
-run_medium-requires t c =
-    let room : (variant : Class) → not c.holds.result ≡ false → c.args.class ≡ variant → RoomFor c.args.table.now (class_nodes variant) = λ variant left e. subst (λ x. RoomFor c.args.table.now (class_nodes x)) e (held_room c.args.class c.args.table.now (sym c.holds.ensures ∙ not-false _ left)) in
-    room _ c.if-not-holds.false-raw c.in-Medium.is
+pub run_sized-requires-in-Medium : goal.run_sized-requires-in-Medium
+unfolding class_nodes
+run_sized-requires-in-Medium t c = (held_as c.in-Medium.is c.if-not-holds.ensures, omega arith)
 
-pub run_full-requires : goal.run_full-requires
-run_full-requires t c =
-    let room : (variant : Class) → not c.holds.result ≡ false → c.args.class ≡ variant → RoomFor c.args.table.now (class_nodes variant) = λ variant left e. subst (λ x. RoomFor c.args.table.now (class_nodes x)) e (held_room c.args.class c.args.table.now (sym c.holds.ensures ∙ not-false _ left)) in
-    room _ c.if-not-holds.false-raw c.in-Full.is
+pub run_sized-requires-in-Full : goal.run_sized-requires-in-Full
+unfolding class_nodes
+run_sized-requires-in-Full t c = (held_as c.in-Full.is c.if-not-holds.ensures, omega arith)

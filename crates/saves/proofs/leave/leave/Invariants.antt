@@ -1,11 +1,7 @@
 -- `leave`: at every turn the places passed so far are cleared, and the others as they were.
-use Prim.Native.Nat.{◌-◌, ◌≤◌}
 use mathlib.Core.Path.{◌≡◌}
 use Rattle.saves.specs.Leaving.{left_places}
 use Rattle.saves.proofs.leave.leave.Given as goal
 
 abbrev pub invariant-loop-k : goal.invariant-loop-k
-invariant-loop-k l = (l.k ≤ 8) × (l.saves ≡ left_places l.heights l.count l.before l.nodes l.k l.initial.saves)
-
-abbrev pub decreases-loop-k : goal.decreases-loop-k
-decreases-loop-k l = 8 - l.k
+invariant-loop-k l = l.saves ≡ left_places l.heights l.count l.before l.nodes l.k l.initial.saves

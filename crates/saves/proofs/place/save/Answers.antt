@@ -4,6 +4,5 @@ use Rattle.saves.proofs.place.save.Goals as goal
 
 pub returns : goal.returns
 returns c =
-    let d = c.args in
-    saved_parts d.variables.now d.cells.now d.pending.now d.at d.height d.saves.now _ _ _
+    saved_parts c.args.variables.now c.args.cells.now c.args.pending.now c.args.at c.args.height c.args.saves.now _ _ _
     c.copy.ensures c.copy-2.ensures c.copy-3.ensures

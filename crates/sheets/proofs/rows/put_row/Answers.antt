@@ -1,18 +1,6 @@
--- `put_row` stores a record by its shape.
-use Rattle.sheets.proofs.SheetLengths.{nothing_stored}
+-- `put_row` writes nothing for what is no command.
+use Rattle.sheets.proofs.SheetNodes.{found_none, none_put}
 use Rattle.sheets.proofs.rows.put_row.Goals as goal
 
-pub returns-in-Nothing : goal.returns-in-Nothing
-returns-in-Nothing c = rw c.in-Nothing.is (nothing_stored _ _ _ _)
-
-pub returns-in-Masks : goal.returns-in-Masks
-returns-in-Masks c = rw c.in-Masks.is c.put_masked.ensures
-
-pub returns-in-Label : goal.returns-in-Label
-returns-in-Label c = rw c.in-Label.is (c.put_one.ensures _)
-
-pub returns-in-Labels : goal.returns-in-Labels
-returns-in-Labels c = rw c.in-Labels.is (c.put_two.ensures _)
-
-pub returns-in-LabelMasks : goal.returns-in-LabelMasks
-returns-in-LabelMasks c = rw c.in-LabelMasks.is c.put_label_masks.ensures
+pub returns : goal.returns
+returns c = none_put _ _ _ (found_none _ c.args.labelled.now.expressions.admitted c.requires.0 c.is_command.ensures.value c.if-is_command.false)

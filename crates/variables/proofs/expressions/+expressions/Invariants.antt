@@ -2,17 +2,11 @@
 use Rattle.std.proofs.Common.{◌+◌, ◌*◌, max}
 use Rattle.variables.proofs.expressions.+expressions.Given as goal
 
-abbrev pub decreases-and_variables : goal.decreases-and_variables
-decreases-and_variables l = 3 * max l.left l.right + 2
-
 abbrev pub decreases-choice_variables : goal.decreases-choice_variables
 decreases-choice_variables l = 3 * max l.condition (max l.yes l.no) + 3
 
 abbrev pub decreases-both_variables : goal.decreases-both_variables
 decreases-both_variables l = 3 * max l.left l.right + 2
-
-abbrev pub decreases-not_variables : goal.decreases-not_variables
-decreases-not_variables l = 3 * l.truth + 2
 
 abbrev pub decreases-numeric_variables : goal.decreases-numeric_variables
 decreases-numeric_variables l = 3 * l.n + 1

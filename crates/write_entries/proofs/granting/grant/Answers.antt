@@ -4,7 +4,7 @@ use Rattle.write_entries.proofs.Jobs.{sheet_granted}
 use Rattle.write_entries.proofs.granting.grant.Goals as goal
 
 pub returns-in-Sheet : goal.returns-in-Sheet
-returns-in-Sheet c = let args = c.args in rw c.in-Sheet.is (sheet_granted args.list.now (table_of args.table.now) args.declared)
+returns-in-Sheet c = let args = c.args in rw c.in-Sheet.is (sheet_granted args.list.now (table_of args.table.now))
 
 pub returns-in-Answers : goal.returns-in-Answers
 returns-in-Answers c = rw c.in-Answers.is c.grant_answers.ensures

@@ -1,44 +1,35 @@
 -- `put_hardened` decides on the program, and writes what comes out where it fits.
 use native.Mathlib.Omega.{arith}
-use mathlib.Core.Path.{sym, ◌∙◌, subst}
+use mathlib.Core.Path.{sym, ◌∙◌}
 use borrow.Author.Tests.{leb-true, leb-false}
-use Rattle.bytes_le.proofs.Numbers.{slice_bytes}
-use Rattle.reader.proofs.Ready.{ready_nodes, ready_labels}
-use Rattle.analysis.specs.Conditions.{Labelled}
-use Rattle.deciding.proofs.DecidedBytes.{all_decided}
+use Rattle.deciding.proofs.DecidedChoices.{all_decided}
 use Rattle.hardener.specs.Output.{Measurable}
 use Rattle.write_entries.proofs.Doing.{done_written, done_short}
 use Rattle.write_entries.proofs.writing.put_hardened.Goals as goal
+use Rattle.write_entries.proofs.writing.put_hardened.Goals.{After-decide_all}
 
-pub decide_all-requires : goal.decide_all-requires
-decide_all-requires c = let pre = c.requires in (pre.decidable, ready_nodes pre.ready)
+-- what is decided can be measured
+measurable : (c : After-decide_all) → Measurable c.args.labelled.now.expressions.table.now c.decide_all.new.decisions
+measurable c =
+    record {
+      decided = all_decided c.args.labelled.now.expressions.admitted c.decide_all.ensures (omega (arith, c.requires.room, c.decide_all.auto.decisions)) c.requires.labelled;
+      few = c.requires.few;
+    }
 
 pub hardened_fits-requires : goal.hardened_fits-requires
-hardened_fits-requires c =
-    let measurable : Measurable c.args.table.now c.args.index.now c.decide_all.new.decisions c.args.declared = let pre = c.requires in
-    let bytes = slice_bytes c.args.table.now c.shared_slice_known-1.given in
-    record {
-      ready = pre.ready;
-      decided = all_decided bytes pre.ready.indexed c.decide_all.ensures (omega (arith, pre.decidable.room, c.decide_all.auto.decisions)) (subst (Labelled _ _) (ready_labels pre.ready) pre.labelled);
-      few = pre.few;
-    } in
-    measurable
+hardened_fits-requires c = measurable (goal.at.hardened_fits-requires c).After-decide_all
 
-pub write_hardened-size-requires : goal.write_hardened-size-requires
-write_hardened-size-requires c =
-    let measurable : Measurable c.args.table.now c.args.index.now c.decide_all.new.decisions c.args.declared = let pre = c.requires in
-    let bytes = slice_bytes c.args.table.now c.shared_slice_known-1.given in
+pub write_hardened-requires : goal.write_hardened-requires
+write_hardened-requires c =
     record {
-      ready = pre.ready;
-      decided = all_decided bytes pre.ready.indexed c.decide_all.ensures (omega (arith, pre.decidable.room, c.decide_all.auto.decisions)) (subst (Labelled _ _) (ready_labels pre.ready) pre.labelled);
-      few = pre.few;
-    } in
-    record { measurable = measurable; fits = leb-true _ _ (sym c.hardened_fits.ensures ∙ c.if-hardened_fits.true) }
+      measurable = measurable (goal.at.write_hardened-requires c).After-decide_all;
+      fits = leb-true _ _ (sym c.hardened_fits.ensures ∙ c.if-not-hardened_fits.false);
+    }
 
-pub returns-then-hardened_fits : goal.returns-then-hardened_fits
-returns-then-hardened_fits c =
-    let wrote = c.write_hardened-size.ensures in
-    done_written _ c.args.out.now (leb-true _ _ (sym c.hardened_fits.ensures ∙ c.if-hardened_fits.true)) wrote.stored wrote.counted
+pub returns-then-not-hardened_fits : goal.returns-then-not-hardened_fits
+returns-then-not-hardened_fits c = done_short _ c.args.out.now (leb-false _ _ (sym c.hardened_fits.ensures ∙ c.if-not-hardened_fits.true))
 
 pub returns : goal.returns
-returns c = done_short _ c.args.out.now (leb-false _ _ (sym c.hardened_fits.ensures ∙ c.if-hardened_fits.false))
+returns c =
+    let wrote = c.write_hardened.ensures in
+    done_written _ c.args.out.now (leb-true _ _ (sym c.hardened_fits.ensures ∙ c.if-not-hardened_fits.false)) wrote.stored wrote.counted

@@ -1,8 +1,0 @@
--- `answer_two` puts two numbers one after the other.
-use Rattle.answers.proofs.Numbers.{put_first, put_more, put_answered}
-use Rattle.answers.proofs.slice.answer_two.Goals as goal
-
-pub returns : goal.returns
-returns c =
-    put_answered _ _ _
-    (put_more 0 _ _ _ _ _ (put_first _ _ _ c.put_number.ensures) c.put_number-2.ensures)

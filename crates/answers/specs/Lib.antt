@@ -1,2 +1,0 @@
--- What the functions that write the answer slice leave.
-pub mod Numbers

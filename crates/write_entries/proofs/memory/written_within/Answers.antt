@@ -1,0 +1,7 @@
+-- `written_within` has memory for as many nodes as the table has.
+use native.Mathlib.Omega.{arith}
+use Rattle.write_entries.proofs.Labelled.{made_memory}
+use Rattle.write_entries.proofs.memory.written_within.Goals as goal
+
+pub put_labelled-requires : goal.put_labelled-requires
+put_labelled-requires g c = (made_memory _ _ c.requires.room (λ few. omega (arith, few, c.requires.room, c.requires.decisions)), c.requires.granted)
