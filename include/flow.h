@@ -21,7 +21,7 @@
  * below.
  *
  * STACK.  A call recurses as deep as its table nests and allocates nothing.  On the deepest tables flow_sheet and
- * flow_questions take 339 KiB, flow_run, flow_guess and flow_rollback 147 KiB, flow_harden 121 KiB (measured on x86-64
+ * flow_questions take 308 KiB, flow_run, flow_guess and flow_rollback 146 KiB, flow_harden 106 KiB (measured on x86-64
  * by `make -C bench run`): 1 MiB suffices.
  *
  * THREADS.  An entry keeps nothing between calls and shares nothing with other calls: what it answers depends on what
