@@ -19,3 +19,6 @@ returns-then-hardened_start-count c =
     let short = measured_short c.count.ensures.admitted refl c.requires in
     let size = length (table_bytes (hardened_table (table_of c.args.table.now))) in
     le-leb _ _ c.if-hardened_start-count.true ∙ sym (le-leb size c.args.room (omega (arith, short, c.if-hardened_start-count.true, c.hardened_start.ensures.start, c.count.ensures.value)))
+
+pub returns-else-hardened_start-count : goal.returns-else-hardened_start-count
+returns-else-hardened_start-count c = rw c.hardened_length.ensures
