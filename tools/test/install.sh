@@ -44,6 +44,9 @@ expect "the shared library exports the entries alone" \
 expect "the library has no memory of its own to write, so that many threads may call it" "" \
     "$(size -A "$installed/lib/libflow.a" | awk '$1 ~ /^\.(data|bss|tdata|tbss)/ && $2 > 0')"
 
+expect "the library needs one name from outside, so that it links alone" memset \
+    "$(echo $(nm -u "$installed/lib/libflow.a" | awk '$1 == "U" {print $2}'))"
+
 # ---- The release is one number ----
 
 release=$(sed -n 's/^## \([0-9.]*\) .*/\1/p' CHANGELOG.md | head -n 1)

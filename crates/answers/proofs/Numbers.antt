@@ -1,15 +1,14 @@
 -- The answer slice written number by number.
-use Prim.Native.Nat.{ℕ, zero, suc, ◌+◌, ◌*◌, ◌/◌, ◌≤◌, ◌<◌, min}
+use Prim.Native.Nat.{ℕ, zero, suc, ◌+◌, ◌*◌, ◌/◌, ◌≤◌, ◌<◌}
 use native.Mathlib.Nat.{suc-add}
 use native.Mathlib.Omega.{arith}
 use mathlib.Core.Bool.{Bool, true, false}
 use mathlib.Core.List.{List, [], ◌∷◌, ◌++◌}
 use mathlib.Core.Path.{◌≡◌, refl, sym, ap, ◌∙◌}
 use lib.ListN.{length, get_or, take, drop, length-drop}
-use lib.Seq.{sets, sets-eq}
+use lib.Seq.{sets, sets-eq, take-take}
 use lib.Dec.{leb}
 use borrow.Author.Tests.{leb-true, leb-false, le-leb, lt-leb}
-use Rattle.std.proofs.lemmas.List.{take_all}
 use Rattle.bytes_le.specs.Numbers.{le}
 use Rattle.bytes_le.proofs.Numbers.{length_le}
 use Rattle.bytes_le.proofs.Copies.{sets_second}
@@ -60,13 +59,7 @@ answered_whole (suc k) (n ∷ ns) slice few = go (leb 8 (length slice)) refl (an
         let short = leb-false 8 (length slice) e in
         answered_short (n ∷ take k ns) slice short ∙ sym (answered_short (n ∷ ns) slice short)
 
--- those that fit are all that are answered
-pub answered_all : (ns slice : List ℕ) (k i : ℕ) → k ≡ min (length ns) (length slice / 8) → length (take k ns) ≤ i
-    → answered (take i (take k ns)) slice ≡ answered ns slice
-answered_all ns slice k i fit end = rw (take_all i (take k ns) end) (go (leb (length ns) k) refl)
-  where
-    go : (b : Bool) → leb (length ns) k ≡ b → answered (take k ns) slice ≡ answered ns slice
-    go true e = ap (λ l. answered l slice) (take_all k ns (leb-true (length ns) k e))
-    go false e =
-        let fewer = leb-false (length ns) k e in
-        answered_whole k ns slice (omega arith)
+-- so it leaves what stands there as it is
+pub answered_dropped : (ns slice : List ℕ) (i : ℕ) → length slice < 8 * i + 8 → answered (take i ns) slice ≡ answered (take (i + 1) ns) slice
+answered_dropped ns slice i few =
+    rw (← take-take i (i + 1) ns (omega arith)) (answered_whole i (take (i + 1) ns) slice few)

@@ -7,13 +7,15 @@ ghost use Rattle.entries.specs.Answers.{answered, refusal_numbers};
 use awhile::Refusal;
 use bytes_le::put::put64;
 
-// The numbers of an answer.
+// The numbers of an answer. Whether one fits is asked of each, and not how many fit: all that do would be one copy of so many bytes, for which the
+// compiler calls C's `memcpy`, and the library needs nothing of C but `memset`.
 pub fn answer_numbers(answer: &mut [u8], numbers: &[u64])
     ensures { answer.new ≡ answered numbers.now answer.old }
 {
-    let whole = numbers.len().min(answer.len() / 8);
-    for (i, number) in numbers[..whole].iter().enumerate() {
-        put64(answer, 8 * i, *number);
+    for (i, number) in numbers.iter().enumerate() {
+        if 8 * i + 8 <= answer.len() {
+            put64(answer, 8 * i, *number);
+        }
     }
 }
 

@@ -1,12 +1,14 @@
 -- Bytes copied from one list into another, and what stands in a list where bytes were stored.
-use Prim.Native.Nat.{ℕ, zero, suc, ◌+◌, ◌≤◌}
+use Prim.Native.Nat.{ℕ, zero, suc, ◌+◌, ◌≤◌, ◌<◌}
+use native.Mathlib.Numerals.{add-one}
 use native.Mathlib.Nat.{zero-add, suc-add}
 use native.Mathlib.Omega.{arith}
 use mathlib.Core.Path.{◌≡◌, refl, sym, ap, ◌∙◌}
 use mathlib.Core.List.{List, [], ◌∷◌, ◌++◌, append-nil, append_assoc}
 use borrow.Rule.Slice.PartMut.{put_mid}
-use lib.ListN.{length, set, take, drop, length-drop, drop_of_length-le}
-use lib.Seq.{sets, sets-eq, length-take-le, drop_at, drop-drop, take-take, take-set-le, take-nil, drop-set-lt}
+use lib.ListN.{length, get_or, set, take, drop, length-drop, drop_of_length-le}
+use lib.Seq.{sets, sets-eq, length-take-le, take-suc, drop_at, drop-drop, take-take, take-set-le, take-nil, drop-set-lt, get_or-drop}
+use Rattle.bytes_le.proofs.Stores.{sets-append}
 
 -- a part of a list that is written anew: its bytes are stored there
 pub part_stored : (l bs : List ℕ) (at n : ℕ) → length bs ≡ length (take n (drop at l)) → at + n ≤ length l → put_mid at n l bs ≡ sets l at bs
@@ -15,6 +17,20 @@ part_stored l bs at n kept inside =
     let end : at + n ≡ at + length bs = omega arith in
     ap (λ rest. take at l ++ (bs ++ rest)) (drop-drop n at l ∙ ap (λ k. drop k l) end)
     ∙ sym (sets-eq bs l at (omega arith) ∙ append_assoc (take at l) bs (drop (at + length bs) l))
+
+-- one byte more is copied
+pub copied_more : (src l : List ℕ) (from at i : ℕ) → from + i < length src
+    → set (sets l at (take i (drop from src))) (at + i) (get_or src (from + i) 0) ≡ sets l at (take (i + 1) (drop from src))
+copied_more src l from at i inside =
+    let s : List ℕ = drop from src in
+    let less : i < length s = simp length-drop (omega arith) in
+    let size : length (take i s) ≡ i = length-take-le i s (omega arith) in
+    sym
+    (ap (λ n. sets l at (take n s)) (add-one i)
+    ∙ ap (sets l at) (take-suc s i 0 less)
+    ∙ sets-append (take i s) (get_or s i 0 ∷ []) l at
+    ∙ ap (λ k. set (sets l at (take i s)) (at + k) (get_or s i 0)) size
+    ∙ ap (λ b. set (sets l at (take i s)) (at + i) b) (get_or-drop from src i 0))
 
 -- a store below a place changes nothing from there on
 pub drop-sets : (bs l : List ℕ) (at k : ℕ) → at + length bs ≤ k → drop k (sets l at bs) ≡ drop k l

@@ -5,8 +5,6 @@ ghost use Rattle.std.proofs.lemmas.List.Edits.{sets};
 ghost use Rattle.std.proofs.Common.{arith};
 ghost use Rattle.bytes_le.specs.Numbers.{le, le_at};
 
-use crate::copy::copy;
-
 // A number of so many bytes.
 pub trait LittleEndian: Copy {
     ghost WIDTH: { ℕ };
@@ -39,6 +37,14 @@ fn bytes_at<const N: usize>(s: &[u8], at: usize) -> [u8; N]
     bytes
 }
 
+// N bytes stored at an offset.
+fn put_bytes<const N: usize>(bytes: [u8; N], out: &mut [u8], at: usize)
+    requires { at + N ≤ length out.old }
+    ensures { out.new ≡ sets out.old at bytes.entry }
+{
+    out[at..at + N].copy_from_slice(&bytes);
+}
+
 impl LittleEndian for u8 {
     ghost WIDTH = { 1 };
 
@@ -69,7 +75,7 @@ impl LittleEndian for u16 {
     }
 
     fn store(self, out: &mut [u8], at: usize) {
-        copy(&self.to_le_bytes(), 0, out, at, 2);
+        put_bytes(self.to_le_bytes(), out, at);
     }
 
     ghost sizes = { (omega arith, omega arith) };
@@ -87,7 +93,7 @@ impl LittleEndian for u32 {
     }
 
     fn store(self, out: &mut [u8], at: usize) {
-        copy(&self.to_le_bytes(), 0, out, at, 4);
+        put_bytes(self.to_le_bytes(), out, at);
     }
 
     ghost sizes = { (omega arith, omega arith) };
@@ -105,7 +111,7 @@ impl LittleEndian for u64 {
     }
 
     fn store(self, out: &mut [u8], at: usize) {
-        copy(&self.to_le_bytes(), 0, out, at, 8);
+        put_bytes(self.to_le_bytes(), out, at);
     }
 
     ghost sizes = { (omega arith, omega arith) };

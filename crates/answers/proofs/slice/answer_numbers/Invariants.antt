@@ -5,4 +5,4 @@ use Rattle.entries.specs.Answers.{answered}
 use Rattle.answers.proofs.slice.answer_numbers.Given as goal
 
 abbrev pub invariant-loop-i : goal.invariant-loop-i
-invariant-loop-i l = l.answer ≡ answered (take l.i l.number-items) l.initial.answer
+invariant-loop-i l = l.answer ≡ answered (take l.i l.numbers) l.initial.answer
