@@ -2,16 +2,16 @@
 use Prim.Native.Nat.{ℕ, zero, suc, ◌+◌, ◌-◌, ◌≤◌, ◌<◌}
 use native.Mathlib.Omega.{arith}
 use mathlib.Core.Bool.{Bool, true, false, cond}
-use mathlib.Core.Path.{◌≡◌, refl, subst}
+use mathlib.Core.Path.{◌≡◌, refl, sym, ap, subst, ◌∙◌}
 use mathlib.Core.List.{List}
 use lib.ListN.{length}
 use lib.Dec.{eqb}
 use borrow.Author.Tests.{eqb-true}
 use Rattle.bytes_le.specs.Numbers.{le_at}
-use Rattle.awhile.specs.Nodes.{form, size_of, sort_of, node_of, decode_at}
+use Rattle.awhile.specs.Nodes.{Field, Form, row, form, size_of, sort_of, node_of, decode_at}
 use Rattle.awhile.proofs.Cases.{decoded_same}
 use Rattle.awhile.proofs.Records.{NodeAt, size_least}
-use Rattle.record.specs.RecordRead.{SortAt}
+use Rattle.record.specs.RecordRead.{SortAt, SortOfKind, RowOf}
 use Rattle.awhile.specs.declared.Sort.{Sort}
 use Rattle.awhile.specs.declared.Sort.TheVariants.{Numeric, Truth, Command}
 use Rattle.awhile.specs.declared.Node.{Node}
@@ -95,6 +95,26 @@ kind_of (While a b) = (omega arith, omega arith)
 kind_of (Read a b c) = (omega arith, omega arith)
 kind_of (Write a b c) = (omega arith, omega arith)
 
+-- a kind within the span of one sort is of no other
+span_sort : (t u : Sort) (k : ℕ) → Span t k → KindOf u k → t ≡ u
+span_sort Numeric Numeric k p r = refl
+span_sort Numeric Truth k p r = absurd (omega (arith, r.0))
+span_sort Numeric Command k p r = absurd (omega (arith, r.0))
+span_sort Truth Numeric k p r = absurd (omega (arith, p.0, r.1))
+span_sort Truth Truth k p r = refl
+span_sort Truth Command k p r = absurd (omega (arith, p.1, r.0))
+span_sort Command Numeric k p r = absurd (omega (arith, r.1))
+span_sort Command Truth k p r = absurd (omega (arith, r.1))
+span_sort Command Command k p r = refl
+
+-- so a span tells the sort of all nodes of a kind
+pub span_tells : (t : Sort) (k : ℕ) → Span t k → SortOfKind k t
+span_tells t k span = λ n e. span_sort t (sort_of n) k span (rw e (kind_of n))
+
+-- and a row whose sort is that of its kind is the form of a node that has its kind and its fields
+pub row_told : (k : ℕ) (t : Sort) (fs : List Field) → SortOfKind k t → RowOf k fs (row k t fs)
+row_told k t fs told = λ n e. rw (told n (sym (ap (λ (f : Form). f.kind) e))) (sym e)
+
 -- a number is none of so many from a least one up
 abbrev pub Others : (least count k : ℕ) → Type 0
 Others least zero k = Unit
@@ -110,23 +130,16 @@ module _ (s : List ℕ) (at : ℕ) where
   unfolding decode_at
   decoded_kind n d = subst (KindIs (le_at 2 s (at + 2))) d (node_of_kind (le_at 2 s (at + 2)) (le_at 2 s (at + 4)) (le_at 2 s (at + 6)) (le_at 2 s (at + 8)) (le_at 4 s (at + 4)))
 
+  -- the sort of a record's kind is its node's
+  pub kind_read : (t : Sort) (k : ℕ) → k ≡ le_at 2 s (at + 2) → SortOfKind k t → SortAt s at t
+  kind_read t k e told = record { is_sort = λ n d. told n (e ∙ decoded_kind n d) }
+
   decoded_range : (n : Node) → decode_at s at ≡ Some n → KindOf (sort_of n) (le_at 2 s (at + 2))
   decoded_range n d = rw (decoded_kind n d) (kind_of n)
 
   -- a sort is told by where the kinds of the next begin
   pub kind_tells : (t : Sort) (k : ℕ) → k ≡ le_at 2 s (at + 2) → Span t k → SortAt s at t
-  kind_tells t k e span = record { is_sort = λ n d. go t (sort_of n) span (rw e (decoded_range n d)) }
-    where
-      go : (t u : Sort) → Span t k → KindOf u k → t ≡ u
-      go Numeric Numeric p r = refl
-      go Numeric Truth p r = absurd (omega (arith, r.0))
-      go Numeric Command p r = absurd (omega (arith, r.0))
-      go Truth Numeric p r = absurd (omega (arith, p.0, r.1))
-      go Truth Truth p r = refl
-      go Truth Command p r = absurd (omega (arith, p.1, r.0))
-      go Command Numeric p r = absurd (omega (arith, r.1))
-      go Command Truth p r = absurd (omega (arith, r.1))
-      go Command Command p r = refl
+  kind_tells t k e span = kind_read t k e (span_tells t k span)
 
   -- ---- the node of a record, by its kind
   module _ (n : Node) (there : NodeAt s at n) where

@@ -12,7 +12,7 @@ use Rattle.awhile.specs.Lists.{sum, all}
 use Rattle.awhile.specs.Refusals.{as_result, refused, got, check, passed, and_then}
 use Rattle.awhile.specs.Nodes.{Field, child, form, field_size, sort_of, size_of, decode_at, field_in_range, in_range, same_sort, field_sorted, sorted, field_children}
 use Rattle.awhile.specs.Tables.{framed, read_node}
-use Rattle.record.specs.RecordRead.{field_of, fields_of, Leads, Heads, ChildThere, AllThere, SortAt, SortedBy, RecordChecked, NodeChecked}
+use Rattle.record.specs.RecordRead.{field_of, fields_of, Leads, Heads, ChildThere, AllThere, SortAt, SortedBy, SortsAs, RecordChecked, NodeChecked}
 use Rattle.awhile.proofs.Lists.{all_head, all_tail}
 use Rattle.awhile.proofs.Cases.{node_known, node_unknown}
 use Rattle.record.proofs.Passing.{then_refused, then_passed, check_then, framed_then, framed_refused, framed_passed_on}
@@ -83,16 +83,25 @@ module _ (s index : List ℕ) where
   none_sorted f other = record { is_sorted = λ vs arrs ns leads ranged. rw (not_child f other ns) }
 
   -- a child whose record is found by the index passes where it is of the wanted sort
-  pub child_sorted : (wanted found : Sort) (node : ℕ) (r : Bool) → SortAt s (get_or index node 0) found → r ≡ sameb sort.the_type found wanted
-      → SortedBy s index (child wanted node ∷ []) r
+  child_sorted : (wanted found : Sort) (node : ℕ) → SortAt s (get_or index node 0) found → SortedBy s index (child wanted node ∷ []) (same_sort found wanted)
   unfolding all field_sorted field_in_range
-  child_sorted wanted found node r there e =
+  child_sorted wanted found node there =
       record {
         is_sorted = λ vs arrs ns leads ranged.
             let below = ltb-true node (length ns) (all_head (field_in_range vs arrs (length ns)) (child wanted node) [] ranged) in
             let same : found ≡ sort_of (get_or ns node Skip) = there.is_sort (get_or ns node Skip) (leads.decoded node below) in
-            rw (and-true, ← same) (e ∙ sorts_equal found wanted);
+            rw (and-true, ← same) refl;
       }
+
+  -- so the test of one child's sort is that of its field
+  pub child_tested : (at : ℕ) (wanted found : Sort) (node : ℕ) (r : Result (Unit {0}) Refusal) → SortAt s (get_or index node 0) found
+      → r ≡ as_result (check (same_sort found wanted) (WrongSort at) passed) → SortsAs s index at (child wanted node ∷ []) r
+  unfolding as_result check
+  child_tested at wanted found node r there e = go (same_sort found wanted) (child_sorted wanted found node there) e
+    where
+      go : (b : Bool) → SortedBy s index (child wanted node ∷ []) b → r ≡ as_result (check b (WrongSort at) passed) → SortsAs s index at (child wanted node ∷ []) r
+      go true q e = rw e q
+      go false q e = rw e (refl, q)
 
   -- no fields pass
   pub nothing_sorted : SortedBy s index [] true
@@ -137,15 +146,13 @@ module _ (s index : List ℕ) (h : Header) (n at : ℕ) (fs : List Field) where
       sorted_so : (r : Bool) → SortedBy s index fs r → (before : List Node) → length before ≡ n → Leads s index before → r ≡ all (field_sorted before) fs
       sorted_so r q before counted leads = q.is_sorted h.variables h.arrays before leads (rw counted ranged)
 
-      -- a child is of another sort
-      pub sorts_stop : SortedBy s index fs false → RecordChecked s index h n at fs (Err (WrongSort at))
+      -- the sorts decide
+      pub sorts_decide : (r : Result (Unit {0}) Refusal) → SortsAs s index at fs r → RecordChecked s index h n at fs r
       unfolding as_result check
-      sorts_stop q = record { is_checked = λ before counted leads. rw (framed_passed_on _ _ _ _ whole, ranged, ← sorted_so false q before counted leads) }
-
-      -- all is well
-      pub record_passes : SortedBy s index fs true → RecordChecked s index h n at fs (Ok tt)
-      unfolding as_result check
-      record_passes q = record { is_checked = λ before counted leads. rw (framed_passed_on _ _ _ _ whole, ranged, ← sorted_so true q before counted leads) }
+      sorts_decide (Err r) q =
+          record { is_checked = λ before counted leads. rw (framed_passed_on _ _ _ _ whole, ranged, ← sorted_so false q.1 before counted leads, q.0) }
+      sorts_decide (Ok u) q =
+          record { is_checked = λ before counted leads. rw (framed_passed_on _ _ _ _ whole, ranged, ← sorted_so true q before counted leads) }
 
 -- a word asks for no more than its frame
 pub word_checked : (s index : List ℕ) (h : Header) (n at : ℕ) (fs : Fields) {value : ℕ} → fs ≡ Word value → (r : Result (Unit {0}) Refusal)

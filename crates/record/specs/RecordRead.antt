@@ -1,11 +1,12 @@
 -- What the parts of the reader answer, given what the definitions of reading do.
-use Rattle.std.specs.Prelude.{ℕ, ◌+◌, ◌-◌, ◌≤◌, ◌<◌, Bool, true, ◌≡◌, length, get_or, set, take, ltb, List, [], ◌∷◌, map, Option, Some, None, Result, Ok, Err}
+use Rattle.std.specs.Prelude.{ℕ, ◌+◌, ◌-◌, ◌≤◌, ◌<◌, Bool, true, false, ◌≡◌, length, get_or, set, take, ltb, List, [], ◌∷◌, map, Option, Some, None, Result, Ok, Err}
 use Rattle.awhile.specs.Lists.{sum, all}
 use Rattle.awhile.specs.Refusals.{Answer, as_result, refused, got, passed, check}
 use Rattle.awhile.specs.Nodes.{Field, word, constant, variable, array, child, Form, row, form, field_size, size_of, sort_of, decode_at, field_in_range, field_sorted}
 use Rattle.awhile.specs.Tables.{framed, read_node, uses_of, all_in_order, LowestBroken}
 use Rattle.awhile.specs.declared.Header.{Header}
 use Rattle.awhile.specs.declared.Sort.{Sort}
+use Rattle.awhile.specs.declared.Sort.TheVariants.{Numeric, Truth, Command}
 use Rattle.awhile.specs.declared.Node.{Node}
 use Rattle.awhile.specs.declared.Node.TheVariants.{Skip}
 use Rattle.awhile.specs.declared.Refusal.{Refusal}
@@ -35,6 +36,14 @@ fields_of (Three f g h) = field_of f ∷ field_of g ∷ field_of h ∷ []
 -- the form that the code's form is
 abbrev pub form_of : FormRead → Form
 form_of f = row f.kind f.sort (fields_of f.fields)
+
+-- a sort is that of all nodes of a kind
+abbrev pub SortOfKind : (kind : ℕ) → Sort → Type 0
+SortOfKind k t = (n : Node) → k ≡ (form n).kind → t ≡ sort_of n
+
+-- a form with these fields is that of every node whose form has them, and this kind
+abbrev pub RowOf : (kind : ℕ) → List Field → Form → Type 0
+RowOf k fs f = (n : Node) → form n ≡ row k (sort_of n) fs → f ≡ form n
 
 -- ---- the nodes
 -- a node that was read, with what its fields hold
@@ -73,6 +82,11 @@ AllThere s index (f ∷ fs) = ChildThere s index f × AllThere s index fs
 -- whether the children that fields name are of the wanted sorts, by an index of the nodes before
 pub record SortedBy (s index : List ℕ) (fs : List Field) (r : Bool) : Type 0 where
   pub is_sorted : (vs arrs : ℕ) (ns : List Node) → Leads s index ns → all (field_in_range vs arrs (length ns)) fs ≡ true → r ≡ all (field_sorted ns) fs
+
+-- what the test of these sorts answers: it passes where they are, and stops at the record of the fields where one is not
+abbrev pub SortsAs : (s index : List ℕ) (at : ℕ) → List Field → Result (Unit {0}) Refusal → Type 0
+SortsAs s index at fs (Err r) = (r ≡ WrongSort at) × SortedBy s index fs false
+SortsAs s index at fs (Ok u) = SortedBy s index fs true
 
 -- a record with these fields is tested in the order of `read_node`: its frame, all ranges, all sorts
 pub record RecordChecked (s index : List ℕ) (h : Header) (n at : ℕ) (fs : List Field) (r : Result (Unit {0}) Refusal) : Type 0 where

@@ -3,12 +3,17 @@
 ghost use Rattle.std.specs.Prelude.{◌+◌, ◌≡◌, map};
 ghost use Rattle.awhile.specs.Lists.{sum};
 ghost use Rattle.awhile.specs.Nodes.{form, row, field_size, field_in_range};
-ghost use Rattle.record.specs.RecordRead.{field_of, fields_of, form_of};
+ghost use Rattle.record.specs.RecordRead.{field_of, fields_of, form_of, SortOfKind, RowOf};
 ghost use Rattle.awhile.specs.declared.Sort.TheVariants.{Truth};
 ghost use Rattle.record.specs.declared.forms.Field.TheVariants.{Child};
 ghost use Rattle.record.specs.declared.forms.Fields.TheVariants.{Two, Three};
 
 use awhile::{Header, Node, Sort};
+
+// The kinds of a sort stand side by side: those of numbers, then those of truths from their first one on, then those of commands.
+const FIRST_TRUTH: usize = 32;
+
+const FIRST_COMMAND: usize = 48;
 
 // What a 2-byte field holds.
 #[derive(Clone, Copy)]
@@ -19,8 +24,8 @@ pub enum Field {
     Child { sort: Sort, node: usize },
 }
 
-// The fields of a record: none, a 4-byte number, or up to three of 2 bytes. A sum, and no struct of three fields some of which are absent: with that,
-// reading a table took 3 to 16 % longer. Who goes over them (`check_record`, `count_fields`) matches by himself: no function hands out an array whose
+// The fields of a record: none, a 4-byte number, or up to three of 2 bytes. A sum, and no struct of three fields some of which are absent: with
+// that, reading a table took longer. Who goes over them (`check_record`, `count_fields`) matches by himself: no function hands out an array whose
 // length its argument tells.
 #[derive(Clone, Copy)]
 pub enum Fields {
@@ -79,76 +84,77 @@ fn branch(sort: Sort, condition: usize, yes: usize, no: usize) -> Fields
     }
 }
 
-// A row of the list below.
-fn row(kind: usize, sort: Sort, fields: Fields) -> Form
-    ensures { form_of result ≡ row kind sort (fields_of fields) }
+// The sort of the nodes of a kind; of no account where no node is of it. The rows below go by it, and so does `node::sort_at`: two
+// comparisons tell a child's sort, where `decode` would tell 18 kinds apart and read fields that are not asked for.
+pub fn sort_of_kind(kind: usize) -> Sort
+    ensures { SortOfKind kind result }
 {
-    Form { kind, sort, fields }
+    if kind < FIRST_TRUTH {
+        Sort::Numeric
+    } else if kind < FIRST_COMMAND {
+        Sort::Truth
+    } else {
+        Sort::Command
+    }
+}
+
+// A row of the list below: its kind, which tells its sort, and its fields.
+fn row(kind: usize, fields: Fields) -> Form
+    ensures { RowOf kind (fields_of fields) (form_of result) }
+{
+    Form {
+        kind,
+        sort: sort_of_kind(kind),
+        fields,
+    }
 }
 
 // The form of each node, as document 01 lists the kinds.
 // A kind is a number, as in `form` of awhile/specs/Nodes and in `decode::node_of`: an enum of them would be `Node` without its fields, and its one
 // use would be to be made a number again.
-#[tactic(auto, unfolding(awhile::specs::Nodes::form))]
+#[tactic(auto, unfolding(awhile::specs::Nodes::form, awhile::specs::Nodes::sort_of))]
 pub fn form_of(node: Node) -> Form
     ensures { form_of result ≡ form node }
 {
     match node {
-        Node::Number { value } => row(16, Sort::Numeric, Fields::Word { value }),
+        Node::Number { value } => row(16, Fields::Word { value }),
         Node::Variable { variable } => row(
             17,
-            Sort::Numeric,
             Fields::One {
                 first: Field::Variable { variable },
             },
         ),
-        Node::Add { left, right } => row(18, Sort::Numeric, pair(Sort::Numeric, left, right)),
-        Node::Subtract { left, right } => row(19, Sort::Numeric, pair(Sort::Numeric, left, right)),
-        Node::Multiply { left, right } => row(20, Sort::Numeric, pair(Sort::Numeric, left, right)),
-        Node::Choice { condition, yes, no } => row(
-            21,
-            Sort::Numeric,
-            branch(Sort::Numeric, condition, yes, no),
-        ),
+        Node::Add { left, right } => row(18, pair(Sort::Numeric, left, right)),
+        Node::Subtract { left, right } => row(19, pair(Sort::Numeric, left, right)),
+        Node::Multiply { left, right } => row(20, pair(Sort::Numeric, left, right)),
+        Node::Choice { condition, yes, no } => row(21, branch(Sort::Numeric, condition, yes, no)),
         Node::Constant { value } => row(
             32,
-            Sort::Truth,
             Fields::One {
                 first: Field::Constant { value },
             },
         ),
-        Node::Equal { left, right } => row(33, Sort::Truth, pair(Sort::Numeric, left, right)),
-        Node::Less { left, right } => row(34, Sort::Truth, pair(Sort::Numeric, left, right)),
+        Node::Equal { left, right } => row(33, pair(Sort::Numeric, left, right)),
+        Node::Less { left, right } => row(34, pair(Sort::Numeric, left, right)),
         Node::Not { truth } => row(
             35,
-            Sort::Truth,
             Fields::One {
                 first: child(Sort::Truth, truth),
             },
         ),
-        Node::And { left, right } => row(36, Sort::Truth, pair(Sort::Truth, left, right)),
-        Node::Skip => row(48, Sort::Command, Fields::Nothing),
+        Node::And { left, right } => row(36, pair(Sort::Truth, left, right)),
+        Node::Skip => row(48, Fields::Nothing),
         Node::Assign { variable, value } => row(
             49,
-            Sort::Command,
             Fields::Two {
                 first: Field::Variable { variable },
                 second: child(Sort::Numeric, value),
             },
         ),
-        Node::Sequence { first, second } => row(
-            50,
-            Sort::Command,
-            pair(Sort::Command, first, second),
-        ),
-        Node::If { condition, yes, no } => row(
-            51,
-            Sort::Command,
-            branch(Sort::Command, condition, yes, no),
-        ),
+        Node::Sequence { first, second } => row(50, pair(Sort::Command, first, second)),
+        Node::If { condition, yes, no } => row(51, branch(Sort::Command, condition, yes, no)),
         Node::While { condition, body } => row(
             52,
-            Sort::Command,
             Fields::Two {
                 first: child(Sort::Truth, condition),
                 second: child(Sort::Command, body),
@@ -160,7 +166,6 @@ pub fn form_of(node: Node) -> Form
             index,
         } => row(
             53,
-            Sort::Command,
             Fields::Three {
                 first: Field::Variable { variable },
                 second: Field::Array { array },
@@ -173,7 +178,6 @@ pub fn form_of(node: Node) -> Form
             value,
         } => row(
             54,
-            Sort::Command,
             Fields::Three {
                 first: Field::Array { array },
                 second: child(Sort::Numeric, index),

@@ -1,22 +1,17 @@
 // A node's record: its kind and frame, then its fields' ranges, then its children's sorts.
 ghost use Rattle.std.specs.Prelude.{◌+◌, ◌^◌, ◌≤◌, ◌<◌, ◌≡◌, [], ◌∷◌, length, get_or, map};
 ghost use Rattle.std.specs.List.{list_all};
-ghost use Rattle.awhile.specs.Refusals.{refused, got};
-ghost use Rattle.awhile.specs.Nodes.{field_in_range};
+ghost use Rattle.awhile.specs.Refusals.{as_result, refused, got, passed, check};
+ghost use Rattle.awhile.specs.Nodes.{field_in_range, same_sort};
 ghost use Rattle.awhile.specs.Tables.{framed};
-ghost use Rattle.record.specs.RecordRead.{field_of, fields_of, Heads, ChildThere, AllThere, SortAt, SortedBy, RecordChecked, NodeChecked};
+ghost use Rattle.record.specs.RecordRead.{field_of, fields_of, Heads, ChildThere, AllThere, SortAt, SortsAs, RecordChecked, NodeChecked};
 ghost use Rattle.awhile.specs.declared.Node.TheVariants.{Skip};
+ghost use Rattle.awhile.specs.declared.Refusal.TheVariants.{WrongSort};
 
 use crate::forms::{Field, Fields, in_range, record_size};
 use crate::{checks, decode, forms};
 use awhile::{Header, Refusal, Sort};
 use bytes_le::get;
-
-// The kinds of a sort stand side by side, first those of numbers. So two comparisons tell a child's sort, where `decode` would tell 18 kinds apart
-// and read fields that are not asked for.
-const FIRST_TRUTH: usize = 32;
-
-const FIRST_COMMAND: usize = 48;
 
 // The offset that an index has for a number; 0 past its end.
 pub fn offset_at(index: &[u16], n: usize) -> usize
@@ -29,31 +24,48 @@ pub fn offset_at(index: &[u16], n: usize) -> usize
 // no type can hold it together with the table (`Heads` says of so many nodes only that their records are there).
 
 // The sort of the node whose record stands at an offset, by its kind alone; of no account where no node stands.
-#[tactic(auto, using(crate::proofs::RecordKinds::kind_tells))]
 pub fn sort_at(table: &[u8], at: usize) -> Sort
     requires { at + 4 ≤ length table.now }
     ensures { SortAt table.now at result }
 {
-    let kind = get::whole_u16(table, at + 2);
-    if kind < FIRST_TRUTH {
-        Sort::Numeric
-    } else if kind < FIRST_COMMAND {
-        Sort::Truth
-    } else {
-        Sort::Command
-    }
+    forms::sort_of_kind(get::whole_u16(table, at + 2))
 }
 
-// A child that a field names is of the wanted sort; its record is found by an index of the nodes before. A field that names none is:
-// these are one case, told apart by `let .. else`, as document 01 writes it.
-fn is_sorted(table: &[u8], index: &[u16], field: Field) -> bool
+// A child's sort is the wanted one; where it is not, reading stops at the parent's record. The sort is taken apart by `let .. else`, the other way
+// being the refusal, as document 01 has it for this place.
+#[tactic(auto, unfolding(awhile::specs::Refusals::as_result, awhile::specs::Refusals::check, awhile::specs::Nodes::same_sort))]
+fn check_sort(sort: Sort, wanted: Sort, at: usize) -> Result<(), Refusal>
+    ensures { result ≡ as_result (check (same_sort sort wanted) (WrongSort at) passed) }
+{
+    match wanted {
+        Sort::Numeric => {
+            let Sort::Numeric = sort else {
+                return Err(Refusal::WrongSort { at });
+            };
+        }
+        Sort::Truth => {
+            let Sort::Truth = sort else {
+                return Err(Refusal::WrongSort { at });
+            };
+        }
+        Sort::Command => {
+            let Sort::Command = sort else {
+                return Err(Refusal::WrongSort { at });
+            };
+        }
+    }
+    Ok(())
+}
+
+// A child that a field names is of the wanted sort; its record is found by an index of the nodes before. A field that names none passes.
+fn check_child(table: &[u8], index: &[u16], at: usize, field: Field) -> Result<(), Refusal>
     requires { ChildThere table.now index.now (field_of field) }
-    ensures { SortedBy table.now index.now (field_of field ∷ []) result }
+    ensures { SortsAs table.now index.now at (field_of field ∷ []) result }
 {
     let Field::Child { sort, node } = field else {
-        return true;
+        return Ok(());
     };
-    sort_at(table, usize::from(index[node])) == sort
+    check_sort(sort_at(table, usize::from(index[node])), sort, at)
 }
 
 // All that the fields name is there.
@@ -63,18 +75,21 @@ fn all_in_range<const N: usize>(header: Header, n: usize, fields: [Field; N]) ->
     fields.iter().all(|field| in_range(*field, header, n))
 }
 
-// All children that the fields name are of the wanted sorts. `is_sorted` may be asked only of a field whose child is there (`ChildThere`), and
-// `SortedBy` is no equation: a turn of the `for` goes by both for the fields that are left, and a closure that `all` calls has neither.
-fn all_sorted<const N: usize>(table: &[u8], index: &[u16], fields: [Field; N]) -> bool
+// All children that the fields name are of the wanted sorts. `check_child` may be asked only of a field whose child is there (`ChildThere`), and
+// `SortsAs` is no equation: a turn of the `for` goes by both for the fields that are left, and a closure that is called for each field has neither.
+fn check_sorts<const N: usize>(
+    table: &[u8],
+    index: &[u16],
+    at: usize,
+    fields: [Field; N],
+) -> Result<(), Refusal>
     requires { AllThere table.now index.now (map field_of fields) }
-    ensures { SortedBy table.now index.now (map field_of fields.entry) result }
+    ensures { SortsAs table.now index.now at (map field_of fields.entry) result }
 {
     for field in fields {
-        if !is_sorted(table, index, field) {
-            return false;
-        }
+        check_child(table, index, at, field)?;
     }
-    true
+    Ok(())
 }
 
 // A record of so many 2-byte fields, of which none has more than three: its frame, then all ranges, then all sorts.
@@ -93,10 +108,7 @@ fn check_fields<const N: usize>(
     if !all_in_range(header, n, fields) {
         return Err(Refusal::OutOfRange { at });
     }
-    if !all_sorted(table, index, fields) {
-        return Err(Refusal::WrongSort { at });
-    }
-    Ok(())
+    check_sorts(table, index, at, fields)
 }
 
 // A record with these fields passes all tests of its own. Each way knows how many fields it has,

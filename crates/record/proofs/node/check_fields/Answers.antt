@@ -8,7 +8,7 @@ use Rattle.awhile.specs.declared.Header.{Header}
 use Rattle.record.specs.RecordRead.{field_of}
 use Rattle.std.proofs.lemmas.Result.{err_from_is_err_and}
 use Rattle.record.proofs.RecordForms.{all_in_fields, short_fields}
-use Rattle.record.proofs.Sorting.{all_there, frame_stops, ranges_stop, sorts_stop, record_passes}
+use Rattle.record.proofs.Sorting.{all_there, frame_stops, ranges_stop, sorts_decide}
 use Rattle.record.proofs.node.check_fields.Goals as goal
 
 pub returns-in_err-frame : goal.returns-in_err-frame
@@ -21,18 +21,13 @@ returns-then-not-all_in_range g c =
     ranges_stop _ _ _ _ _ _ (rw (short_fields c.args.fields g.row.N (omega arith)) (sym c.frame.ensures ∙ c.in_ok-frame.was))
     (all_in_fields _ _ ∙ sym c.all_in_range.ensures ∙ c.if-not-all_in_range.true)
 
-pub all_sorted-requires : goal.all_sorted-requires
-all_sorted-requires g c =
+pub check_sorts-requires : goal.check_sorts-requires
+check_sorts-requires g c =
     let h : Header = c.args.header in
     let ranged : list_all (λ f. field_in_range h.variables h.arrays c.args.n (field_of f)) c.args.fields ≡ true = cc in
     (omega arith, all_there _ _ _ _ _ c.requires.2 _ (all_in_fields _ _ ∙ ranged))
 
-pub returns-then-not-all_sorted : goal.returns-then-not-all_sorted
-returns-then-not-all_sorted g c =
-    sorts_stop _ _ _ _ _ _ (rw (short_fields c.args.fields g.row.N (omega arith)) (sym c.frame.ensures ∙ c.in_ok-frame.was))
-    (all_in_fields _ _ ∙ sym c.all_in_range.ensures ∙ c.if-not-all_in_range.false) (rw c.if-not-all_sorted.true at c.all_sorted.ensures)
-
 pub returns : goal.returns
 returns g c =
-    record_passes _ _ _ _ _ _ (rw (short_fields c.args.fields g.row.N (omega arith)) (sym c.frame.ensures ∙ c.in_ok-frame.was))
-    (all_in_fields _ _ ∙ sym c.all_in_range.ensures ∙ c.if-not-all_in_range.false) (rw c.if-not-all_sorted.false at c.all_sorted.ensures)
+    sorts_decide _ _ _ _ _ _ (rw (short_fields c.args.fields g.row.N (omega arith)) (sym c.frame.ensures ∙ c.in_ok-frame.was))
+    (all_in_fields _ _ ∙ sym c.all_in_range.ensures ∙ c.if-not-all_in_range.false) _ c.check_sorts.ensures

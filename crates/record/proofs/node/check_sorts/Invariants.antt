@@ -1,7 +1,7 @@
--- `all_sorted`: the fields that are left decide.
+-- `check_sorts`: the fields that are left decide.
 use Rattle.std.proofs.Common.{Bool, map, drop}
 use Rattle.record.specs.RecordRead.{field_of, AllThere, SortedBy}
-use Rattle.record.proofs.node.all_sorted.Given as goal
+use Rattle.record.proofs.node.check_sorts.Given as goal
 
 abbrev pub invariant-loop-field : goal.invariant-loop-field
 invariant-loop-field g l =
