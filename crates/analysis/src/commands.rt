@@ -2,7 +2,7 @@
 // command, and what is noted for a loop's body is where the loop's next analysis starts from.
 // Notes and labelling are changed in place, so they are lent beside the expressions, which are read: in one struct each call would have to say, too,
 // that the memory that it lends is the same after it. Array and cell of an access are two fields of its node, and go on as they stand there.
-ghost use Rattle.std.specs.Prelude.{◌<◌, ◌||◌, ◌≡◌};
+ghost use Rattle.std.specs.Prelude.{◌<◌, ◌||◌, ◌≡◌, length};
 ghost use Rattle.reader.specs.Index.{nodes_in, node_in, truth_in, command_in};
 ghost use Rattle.awhile.specs.declared.Node.TheVariants.{Sequence, If, While};
 ghost use Rattle.labels.specs.Labellings.{array_mark, label_of};
@@ -24,7 +24,7 @@ fn guarded(expressions: &Expressions, e: usize, entering: Note) -> bool
 
 // The label that the read of an array gives to its variable.
 pub fn read_label(expressions: &Expressions, array: usize, cell: usize, entering: Note) -> bool
-    requires { cell < nodes_in expressions.now.table.now }
+    requires { cell < length expressions.now.named.now }
     ensures { result ≡ (label_at expressions.now.named.now (labels_of entering) cell
         || (label_of (labels_of entering) (array_mark array) || entering.context)) }
 {

@@ -1,5 +1,6 @@
 // Where the cells of each array stand: "cells (array after array by number)".
-ghost use Rattle.std.specs.Prelude.{◌≡◌, get_or};
+ghost use Rattle.std.specs.Prelude.{ℕ, ◌+◌, ◌≡◌, List, length, get_or};
+ghost use Rattle.awhile.specs.Tables.{max_arrays};
 ghost use Rattle.machine.specs.Steps.{cell_at};
 ghost use Rattle.reader.specs.Admitted.{Admitted};
 ghost use Rattle.reader.specs.Index.{table_of, HasHeader};
@@ -69,6 +70,23 @@ pub fn find_starts(table: &[u8], header: Header) -> [u16; STARTS]
     starts
 }
 
+// The place of the cell of an array and an index, by where arrays begin: whatever counts these starts are of, with no table.
+pub fn cell_at(starts: &[u16], array: usize, index: u32) -> Option<u32>
+    requires { length starts.now ≡ max_arrays + 1 }
+    ensures { (counts : List ℕ) → Starts counts starts.now → result ≡ found (cell_at counts array index) }
+{
+    if MAX_ARRAYS <= array {
+        return None;
+    }
+    let place = usize::from(starts[array]) + index as usize;
+    // only a place among the cells fits a `u32`, so none is made of another
+    if place < usize::from(starts[array + 1]) {
+        Some(place as u32)
+    } else {
+        None
+    }
+}
+
 impl<'a> Places<'a> {
     pub fn new(table: &'a Accepted<'a>) -> Self
         ensures { result ≡ table.now }
@@ -89,17 +107,6 @@ impl<'a> Places<'a> {
     pub fn cell_at(&self, cell: Cell) -> Option<u32>
         ensures { result ≡ found (cell_at (table_of self.now).counts cell.array cell.index) }
     {
-        let starts = &self.starts;
-        let Cell { array, index } = cell;
-        if MAX_ARRAYS <= array {
-            return None;
-        }
-        let place = usize::from(starts[array]) + index as usize;
-        // only a place among the cells fits a `u32`, so none is made of another
-        if place < usize::from(starts[array + 1]) {
-            Some(place as u32)
-        } else {
-            None
-        }
+        cell_at(&self.starts, cell.array, cell.index)
     }
 }

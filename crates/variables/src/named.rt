@@ -33,7 +33,7 @@ impl<'a> Expressions<'a> {
 
     // The label of the expression at node n.
     pub fn label(&self, labels: Labelling, n: usize) -> bool
-        requires { n < nodes_in self.now.table.now }
+        requires { n < length self.now.named.now }
         ensures { result ≡ meet labels.variables (get_or self.now.named.now n 0) }
     {
         named_label(self.named, labels, n)

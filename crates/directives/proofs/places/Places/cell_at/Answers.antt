@@ -1,16 +1,5 @@
--- `cell_at` finds the place of a cell where the index is below the array's count.
-use Rattle.directives.proofs.CellPlaces.{cell_undeclared, cell_found, cell_missing}
+-- The method `cell_at` asks by the starts that it keeps, which are its table's.
 use Rattle.directives.proofs.places.Places.cell_at.Goals as goal
 
-pub returns-then-array-ge-MAX_ARRAYS : goal.returns-then-array-ge-MAX_ARRAYS
-returns-then-array-ge-MAX_ARRAYS c = rw (← c.self.view_is) (cell_undeclared _ _ c.self.invariant.0 _ _ c.if-array-ge-MAX_ARRAYS.true)
-
-pub returns-then-place-from : goal.returns-then-place-from
-returns-then-place-from c =
-    rw (← c.self.view_is, c.from.ensures)
-    (cell_found _ _ c.self.invariant.0 _ _ c.if-array-ge-MAX_ARRAYS.false (rw (c.from.ensures, c.from-2.ensures) at c.if-place-from.true))
-
-pub returns-else-place-from : goal.returns-else-place-from
-returns-else-place-from c =
-    rw (← c.self.view_is)
-    (cell_missing _ _ c.self.invariant.0 _ _ c.if-array-ge-MAX_ARRAYS.false (rw (c.from.ensures, c.from-2.ensures) at c.if-place-from.false))
+pub returns : goal.returns
+returns c = rw (← c.self.view_is) (c.cell_at.ensures _ c.self.invariant.0)
