@@ -37,7 +37,7 @@ def function_at(crate, path, line):
     with open(f"crates/{crate}/{path}") as file:
         lines = file.read().split("\n")
     last = int(line)
-    while lines[last - 1].startswith("#["):
+    while lines[last - 1].lstrip().startswith("#["):
         last += 1
     head = r"^\s*(?:pub(?:\([^)]*\))? )?(?:const )?(?:unsafe )?(?:extern \"C\" )?fn (\w+)"
     return re.findall(head, "\n".join(lines[:last]), re.M)[-1]

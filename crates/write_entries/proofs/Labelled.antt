@@ -36,10 +36,12 @@ pub room_nodes : {table : List ℕ} {room : ℕ} → Below 256 table → read_ta
 unfolding nodes_in
 room_nodes {table} bytes reads room = room.holds (header_of (table_of table)) (heads_read table bytes (table_of table) (accepted_read table bytes (table_of table) reads)).header
 
--- memory that was just made
-pub made_memory : {table : List ℕ} (room decisions : ℕ) → nodes_in table ≤ room → (nodes_in table ≤ max_hardened → nodes_in table ≤ decisions)
-    → LabelMemory table (replicate room 0) (replicate room blank) (replicate decisions none)
-made_memory room decisions h few = record { labelling = label_ready room room h h; room = rw (length-replicate {A = Decision} decisions none) few }
+-- memory that was just made, with room for names, for notes and for decisions
+pub made_memory : {table : List ℕ} (names notes decisions : ℕ) → nodes_in table ≤ names → nodes_in table ≤ notes
+    → (nodes_in table ≤ max_hardened → nodes_in table ≤ decisions)
+    → LabelMemory table (replicate names 0) (replicate notes blank) (replicate decisions none)
+made_memory names notes decisions named noted few =
+    record { labelling = label_ready names notes named noted; room = rw (length-replicate {A = Decision} decisions none) few }
 
 module _ (table list : List ℕ) where
   -- a hardened form is there where it is granted
