@@ -9,7 +9,7 @@ use Rattle.std.proofs.Common.{add-one, drop-cons}
 use Rattle.std.proofs.lemmas.List.{drop_all}
 use Rattle.std.specs.List.{list_all}
 use Rattle.awhile.specs.Lists.{sum, all}
-use Rattle.awhile.specs.Nodes.{Field as AField, form, field_size, size_of}
+use Rattle.awhile.specs.Nodes.{Field as AField, form, field_size, size_of, sort_of}
 use Rattle.record.specs.RecordRead.{field_of, fields_of, form_of}
 use Rattle.record.specs.declared.forms.Field.{Field}
 use Rattle.record.specs.declared.forms.Field.TheVariants.{Constant, Variable, Array, Child}
@@ -67,10 +67,14 @@ fields_short (Two f g) = simp two_bytes (omega arith)
 fields_short (Three f g h) = simp two_bytes (omega arith)
 
 module _ (m : Node) (f : Form) (e : form_of f ≡ form m) where
-  -- its fields are the node's, so its record is as long as they say
+  -- its fields are the node's, so its record is as long as they say, and its sort is the node's
   pub same_fields : fields_of f.fields ≡ (form m).fields
   same_fields = ap (λ g. g.fields) e
 
   pub same_size : 4 + sum (map field_size (fields_of f.fields)) ≡ size_of m
   unfolding size_of
   same_size = ap (λ fs. 4 + sum (map field_size fs)) same_fields
+
+  pub same_sort_lem : f.sort ≡ sort_of m
+  unfolding sort_of
+  same_sort_lem = ap (λ g. g.sort) e

@@ -2,11 +2,14 @@
 use Prim.Native.Nat.{ℕ, ◌+◌}
 use native.Mathlib.Omega.{arith}
 use mathlib.Core.Bool.{Bool, true, false, ◌&&◌, and-true}
+use mathlib.Core.Logic.{⊎_elim}
 use mathlib.Core.Path.{◌≡◌, refl, sym, ap, ◌∙◌}
 use mathlib.Core.List.{List, [], ◌∷◌, map}
 use lib.ListN.{length, get_or}
 use borrow.Author.Tests.{ltb-true}
 use denote.Enum.Bare.{sameb}
+use denote.Enum.Declared.{tag_of}
+use types.Run.{OneOf}
 use Rattle.std.proofs.Common.{Some, None, Result, Ok, Err}
 use Rattle.awhile.specs.Lists.{sum, all}
 use Rattle.awhile.specs.Refusals.{as_result, refused, got, check, passed, and_then}
@@ -28,6 +31,27 @@ use Rattle.awhile.specs.declared.Node.{Node}
 use Rattle.awhile.specs.declared.Node.TheVariants.{Skip}
 use Rattle.awhile.specs.declared.Refusal.{Refusal}
 use Rattle.awhile.specs.declared.Refusal.TheVariants.{OutOfRange, WrongSort}
+
+-- a sort that is not the wanted one
+pub not_numeric_lem : (s : Sort) → OneOf (1 ∷ 2 ∷ []) (tag_of sort.the_type s) → same_sort s Numeric ≡ false
+unfolding same_sort
+not_numeric_lem Numeric h = absurd (⊎_elim (λ e. omega arith) (λ e. omega arith) h)
+not_numeric_lem Truth h = refl
+not_numeric_lem Command h = refl
+
+-- not a truth
+pub not_truth_lem : (s : Sort) → OneOf (0 ∷ 2 ∷ []) (tag_of sort.the_type s) → same_sort s Truth ≡ false
+unfolding same_sort
+not_truth_lem Numeric h = refl
+not_truth_lem Truth h = absurd (⊎_elim (λ e. omega arith) (λ e. omega arith) h)
+not_truth_lem Command h = refl
+
+-- not a command
+pub not_command_lem : (s : Sort) → OneOf (0 ∷ 1 ∷ []) (tag_of sort.the_type s) → same_sort s Command ≡ false
+unfolding same_sort
+not_command_lem Numeric h = refl
+not_command_lem Truth h = refl
+not_command_lem Command h = absurd (⊎_elim (λ e. omega arith) (λ e. omega arith) h)
 
 -- `==` tells whether two sorts are the same
 pub sorts_equal : (a b : Sort) → sameb sort.the_type a b ≡ same_sort a b
