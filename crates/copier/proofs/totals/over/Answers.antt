@@ -5,7 +5,7 @@ use Rattle.copier.proofs.NodeTotals.{all_inside, sum_small, total_over_each}
 use Rattle.copier.proofs.totals.over.Goals as goal
 
 pub returns : goal.returns
-returns g c = total_over_each c.args.totals.now c.args.parts (4 + 2 * g.row.N) (omega arith) c.sum_of.ensures c.more.ensures
+returns g c = total_over_each c.args.totals.now c.args.parts (4 + 2 * g.row.N) (omega arith) c.sum_of.ensures (omega (arith, c.more.ensures))
 
 pub sum_of-requires : goal.sum_of-requires
 sum_of-requires g c =
